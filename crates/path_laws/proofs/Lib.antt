@@ -1,0 +1,9 @@
+pub mod Pigeonhole
+pub mod States
+pub mod Walks
+pub mod WalkLasso
+pub mod FairLasso
+pub mod Extension
+pub mod HoldsLemmas
+pub mod Invariant
+pub mod Chain

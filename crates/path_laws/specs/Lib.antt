@@ -1,0 +1,6 @@
+pub mod StateSet
+pub mod StateCount
+pub mod Fairness
+pub mod Live
+pub mod Invariant
+pub mod Laws
