@@ -1,12 +1,11 @@
 -- The laws on a small model: x stays at 0, goes from 1 to 2, and stays there. `AG x < 2` is true at 0 and false at 1.
-use Rattle.std.proofs.Common.{◌≡◌, ℕ, zero, suc, ◌+◌, ◌<◌, List, [], ◌∷◌, length, get_or, Bool, true, false, not, pos, refl, sym, ◌∙◌, ap, subst, arith, lit<}
+use Rattle.std.proofs.Common.{◌≡◌, ℕ, zero, suc, ◌+◌, ◌<◌, [], ◌∷◌, length, get_or, true, false, not, refl, sym, ◌∙◌, ap, subst, arith, lit<}
 use Rattle.std.specs.Prelude.{Contains, IsTrue}
 use Rattle.std.proofs.lemmas.Bool.{false≢true}
 use Rattle.std.proofs.lemmas.List.Elements.{All-nil, All-cons}
-use Rattle.kripke_model.specs.declared.expressions.Value.{Value}
 use Rattle.kripke_model.specs.declared.expressions.BinOp.{BinOp}
 use Rattle.kripke_model.specs.declared.models.Part.{Part}
-use Rattle.kripke_model.specs.Term.{Term, Arms, esac, arm}
+use Rattle.kripke_model.specs.Term.{Term, esac, arm}
 use Rattle.kripke_model.specs.System.{System, Variable, Assignment, State, value_in}
 use Rattle.kripke_model.specs.Evaluation.{same, runs, Holds}
 use Rattle.kripke_model.specs.Step.{IsState, Step, Initial, IsValueOf, IsDriven, HasNext, IsCurrent, Assigned}

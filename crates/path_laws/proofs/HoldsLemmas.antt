@@ -1,8 +1,8 @@
 -- Whether an expression holds is decidable.
-use Rattle.std.proofs.Common.{◌≡◌, ◌⊎◌, inl, inr, zero, suc, List, [], ◌∷◌, pos, negsuc, refl}
-use Rattle.std.specs.Prelude.{Ok, Err}
+use Rattle.std.proofs.Common.{◌≡◌, ◌⊎◌, inl, inr, zero, suc, List, [], ◌∷◌, pos, refl}
+use Rattle.std.specs.Prelude.{Ok}
 use Rattle.kripke_model.specs.declared.expressions.Value.{Value}
-use Rattle.kripke_model.specs.declared.expressions.Value.TheVariants.{Number, Symbol}
+use Rattle.kripke_model.specs.declared.expressions.Value.TheVariants.{Number}
 use Rattle.kripke_model.specs.Term.{Term}
 use Rattle.kripke_model.specs.System.{System, State}
 use Rattle.kripke_model.specs.Evaluation.{Checked, eval, Holds}

@@ -1,17 +1,15 @@
 -- The backward reach of the violations of an expression decides the invariant.
-use Rattle.std.proofs.Common.{◌≡◌, inl, inr, ℕ, zero, suc, ◌+◌, ◌-◌, ◌<◌, length, sym, ◌∙◌, ap, subst, arith, add-one}
+use Rattle.std.proofs.Common.{inl, inr, ℕ, zero, suc, ◌-◌, length, sym, ◌∙◌, subst, arith, add-one}
 use Rattle.kripke_model.specs.Term.{Term}
 use Rattle.kripke_model.specs.System.{System, State}
 use Rattle.kripke_model.specs.Evaluation.{Holds}
-use Rattle.kripke_model.specs.Step.{IsState, Step, Initial}
+use Rattle.kripke_model.specs.Step.{IsState, Step}
 use Rattle.kripke_model.specs.Path.{Lasso, at, IsPath}
-use Rattle.kripke_model.specs.Truth.{IsFair, Sat, Initials}
+use Rattle.kripke_model.specs.Truth.{Sat}
 use Rattle.kripke_model.proofs.Lassos.{all_states, all_steps}
 use Rattle.path_laws.specs.StateSet.{StateSet, ◌∈◌}
-use Rattle.path_laws.specs.Live.{IsLive, last_state}
 use Rattle.path_laws.specs.Invariant.{invariant, IsBackwardReach}
 use Rattle.path_laws.specs.Laws.{RunsExtend, InvariantExact, InvariantDecided}
-use Rattle.path_laws.proofs.Extension.{extension}
 use Rattle.path_laws.proofs.HoldsLemmas.{holds_or_not}
 
 module _ (m : System) (e : Term) (B : StateSet) (reach : IsBackwardReach m e B) where
