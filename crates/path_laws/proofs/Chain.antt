@@ -1,5 +1,5 @@
 -- The laws on a small model: x stays at 0, goes from 1 to 2, and stays there. `AG x < 2` is true at 0 and false at 1.
-use Rattle.std.proofs.Common.{◌≡◌, ℕ, zero, suc, ◌+◌, ◌<◌, [], ◌∷◌, length, get_or, true, false, not, refl, sym, ◌∙◌, ap, subst, arith, lit<}
+use Rattle.std.proofs.Common.{◌≡◌, ℕ, zero, suc, ◌<◌, [], ◌∷◌, length, get_or, true, false, not, refl, sym, ◌∙◌, ap, subst, arith, lit<}
 use Rattle.std.specs.Prelude.{Contains, IsTrue}
 use Rattle.std.proofs.lemmas.Bool.{false≢true}
 use Rattle.std.proofs.lemmas.List.Elements.{All-nil, All-cons}
@@ -12,8 +12,9 @@ use Rattle.kripke_model.specs.Step.{IsState, Step, Initial, IsValueOf, IsDriven,
 use Rattle.kripke_model.specs.Truth.{Sat, Initials}
 use Rattle.kripke_model.proofs.Latch.{num, Contains-only}
 use Rattle.path_laws.specs.StateSet.{StateSet, ◌∈◌}
-use Rattle.path_laws.specs.Live.{IsLive, IsRun}
+use Rattle.path_laws.specs.Live.{IsLive}
 use Rattle.path_laws.specs.Invariant.{invariant, ReachesViolation, IsBackwardReach}
+use Rattle.path_laws.proofs.Runs.{violation_at, violation_before}
 use Rattle.path_laws.proofs.Extension.{runs_extend}
 use Rattle.path_laws.proofs.Invariant.{invariant_exact, invariant_decided}
 
@@ -112,30 +113,11 @@ live = by_state (λ s. (t : State) × IsState chain t × Step chain s t)
 abbrev pub not_zero : StateSet
 not_zero s = not (same (value_in s 0) (num 0))
 
-run_of_two : ReachesViolation chain below_two (state 2)
-run_of_two = (state 2 ∷ [], is_run, refl, λ e. absurd cc)
-  where
-    states : (i : ℕ) → i < 1 → IsState chain (get_or (state 2 ∷ []) i [])
-    states zero h = two_state
-    states (suc i) h = absurd (omega arith)
+from_two : ReachesViolation chain below_two (state 2)
+from_two = violation_at chain below_two (state 2) two_state (λ e. absurd cc)
 
-    is_run : IsRun chain (state 2 ∷ [])
-    is_run = record { begins = lit< tt; states = states; steps = λ i h. absurd (omega arith) }
-
-run_of_one : ReachesViolation chain below_two (state 1)
-run_of_one = (state 1 ∷ state 2 ∷ [], is_run, refl, λ e. absurd cc)
-  where
-    states : (i : ℕ) → i < 2 → IsState chain (get_or (state 1 ∷ state 2 ∷ []) i [])
-    states zero h = one_state
-    states (suc zero) h = two_state
-    states (suc (suc i)) h = absurd (omega arith)
-
-    steps : (i : ℕ) → i + 1 < 2 → Step chain (get_or (state 1 ∷ state 2 ∷ []) i []) (get_or (state 1 ∷ state 2 ∷ []) (i + 1) [])
-    steps zero h = step_of (state 1) (state 2) (0, lit< tt, refl)
-    steps (suc i) h = absurd (omega arith)
-
-    is_run : IsRun chain (state 1 ∷ state 2 ∷ [])
-    is_run = record { begins = lit< tt; states = states; steps = steps }
+from_one : ReachesViolation chain below_two (state 1)
+from_one = violation_before chain below_two (state 1) (state 2) one_state (step_of (state 1) (state 2) (0, lit< tt, refl)) from_two
 
 stays_at_zero : (t : State) → Step chain (state 0) t → t ∈ not_zero → ⊥
 stays_at_zero t step inside =
@@ -147,7 +129,7 @@ pub reach : IsBackwardReach chain below_two not_zero
 reach = record {
   violations = by_state (λ s. (Holds chain below_two s s → ⊥) → s ∈ not_zero) (λ fails. absurd (fails refl)) (λ fails. refl) (λ fails. refl);
   before = λ s t is_state _. by_state (λ s. Step chain s t → t ∈ not_zero → s ∈ not_zero) (λ step inside. absurd (stays_at_zero t step inside)) (λ step inside. refl) (λ step inside. refl) s is_state;
-  reaches = by_state (λ s. s ∈ not_zero → ReachesViolation chain below_two s) (λ inside. absurd (false≢true inside)) (λ inside. run_of_one) (λ inside. run_of_two);
+  reaches = by_state (λ s. s ∈ not_zero → ReachesViolation chain below_two s) (λ inside. absurd (false≢true inside)) (λ inside. from_one) (λ inside. from_two);
 }
 
 -- ---- what the laws say of it

@@ -6,4 +6,5 @@ pub mod FairLasso
 pub mod Extension
 pub mod HoldsLemmas
 pub mod Invariant
+pub mod Runs
 pub mod Chain
