@@ -141,12 +141,11 @@ moved s t p input h f move =
 
 -- a step moves each output so, and nothing else is asked of it
 pub moves : (s t : State) → Step ring s t → IsMove s t 1 3 × IsMove s t 2 1 × IsMove s t 3 2
-moves s t move =
-    (
-      moved s t 1 3 (1, next_output 1 3, lit< tt, refl, (refl, refl)) (λ r. move.assigned 1 (next_output 1 3) (lit< tt) refl r) move,
-      moved s t 2 1 (3, next_output 2 1, lit< tt, refl, (refl, refl)) (λ r. move.assigned 3 (next_output 2 1) (lit< tt) refl r) move,
-      moved s t 3 2 (5, next_output 3 2, lit< tt, refl, (refl, refl)) (λ r. move.assigned 5 (next_output 3 2) (lit< tt) refl r) move,
-    )
+moves s t move = (
+  moved s t 1 3 (1, next_output 1 3, lit< tt, refl, (refl, refl)) (λ r. move.assigned 1 (next_output 1 3) (lit< tt) refl r) move,
+  moved s t 2 1 (3, next_output 2 1, lit< tt, refl, (refl, refl)) (λ r. move.assigned 3 (next_output 2 1) (lit< tt) refl r) move,
+  moved s t 3 2 (5, next_output 3 2, lit< tt, refl, (refl, refl)) (λ r. move.assigned 5 (next_output 3 2) (lit< tt) refl r) move,
+)
 
 -- after a step any process may be selected
 pub selector_is_free : (s : State) (p q a b c : Value) → Step ring s (p ∷ a ∷ b ∷ c ∷ []) → Step ring s (q ∷ a ∷ b ∷ c ∷ [])

@@ -36,11 +36,11 @@ either v w = Term.Braces (more (Term.Const v) (more (Term.Const w) none))
 abbrev pub next_state : ℕ → Term
 next_state x =
     Term.Case (
-      arm (is_at x idle) (either idle entering) (
-        arm (Term.Binary BinOp.And (is_at x entering) (Term.Not (Term.Var 1))) (Term.Const critical) (
-          arm (is_at x critical) (either critical exiting) (arm (is_at x exiting) (Term.Const idle) (arm (constant 1) (Term.Var x) esac))
-        )
-      )
+    arm (is_at x idle) (either idle entering) (
+    arm (Term.Binary BinOp.And (is_at x entering) (Term.Not (Term.Var 1))) (Term.Const critical) (
+    arm (is_at x critical) (either critical exiting) (arm (is_at x exiting) (Term.Const idle) (arm (constant 1) (Term.Var x) esac))
+    )
+    )
     )
 
 abbrev pub next_semaphore : ℕ → Term
@@ -112,11 +112,10 @@ left_alone r s q t = refl
 
 -- the first user at idle stays there or enters, and leaves the semaphore
 pub first_moves : (s q : Value) (t : State) → Step users (state (num 1) s idle q) t → Contains (idle ∷ entering ∷ []) (value_in t 2) × (s ≡ value_in t 1)
-first_moves s q t move =
-    (
-      move.assigned 2 (state_assigned 1) (lit< tt) refl refl,
-      Contains-only s (value_in t 1) (move.assigned 3 (semaphore_assigned 1) (lit< tt) refl refl),
-    )
+first_moves s q t move = (
+  move.assigned 2 (state_assigned 1) (lit< tt) refl refl,
+  Contains-only s (value_in t 1) (move.assigned 3 (semaphore_assigned 1) (lit< tt) refl refl),
+)
 
 -- the state of the second user is kept in a step of the first one
 pub second_keeps : (s p q : Value) (t : State) → Step users (state (num 1) s p q) t → value_in t 3 ≡ q

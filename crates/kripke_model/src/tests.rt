@@ -168,7 +168,11 @@ fn initial_states_and_steps(rt: HostRuntime) -> Result<(), Fail> {
         let t = state(rt.alloc(), then, after)?;
         assert!(rt; is_state(&model, &s));
         assert_eq!(rt; is_initial(&model, &s), initial, "at {x} {go}");
-        assert_eq!(rt; is_step(&model, &s, &t), step, "from {x} {go} to {then} {after}");
+        assert_eq!(rt;
+            is_step(&model, &s, &t),
+            step,
+            "from {x} {go} to {then} {after}"
+        );
     }
     let beyond = state(rt.alloc(), 2, 0)?;
     assert!(rt; !is_state(&model, &beyond));
