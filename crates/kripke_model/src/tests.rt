@@ -25,7 +25,7 @@ use crate::expressions::{Arm, Expr, Formula, PathOp, Value};
 use crate::models::{Assign, FlatModel, FlatVar, Item, Part, Ruled};
 use crate::states::{Lasso, State};
 use crate::steps::{holds, is_fair_path, is_initial, is_step, item_holds};
-use crate::walks::lasso_law;
+use crate::walks::{LassoWalk, Walk, lasso_law};
 use std::alloc::{AllocError, Global};
 use std::test::Fail;
 
@@ -200,12 +200,16 @@ fn looping_paths(rt: HostRuntime) -> Result<(), Fail> {
     for still in unfair.cycle() {
         assert!(rt; is_step(&model, still, still));
     }
+    let Some(walk) = LassoWalk::new(rt.alloc(), fair) else {
+        return Err(Fail::new("the cycle has a state"));
+    };
+    assert_eq!(rt; walk.state_at(9)?.value(0), Value::Number(1));
     Ok(())
 }
 
 #[test]
 fn readers_of_a_model(rt: HostRuntime) -> Result<(), Fail> {
-    let model = model(rt.alloc())?;
+    let model = model(rt.alloc())?.copy(rt.alloc())?;
     assert!(rt; !model.has_selector());
     assert_eq!(rt; model.inits().len(), 0);
     assert_eq!(rt; model.trans().len(), 0);
