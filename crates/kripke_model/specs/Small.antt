@@ -1,10 +1,10 @@
 -- The small models: at most twelve Boolean variables, their initial and next values alone, and one invariant.
-use Rattle.std.specs.Prelude.{◌≡◌, ◌≢◌, ℕ, ◌≤◌, Bool, true, false, ◌&&◌, ◌||◌, List, [], ◌∷◌, length, All, AllPairs, IsTrue, pos}
+use Rattle.std.specs.Prelude.{◌≡◌, ◌≢◌, ℕ, ◌≤◌, Bool, true, false, ◌&&◌, ◌||◌, [], ◌∷◌, length, All, AllPairs, IsTrue, pos}
 use Rattle.kripke_model.specs.declared.expressions.Value.TheVariants.{Number}
 use Rattle.kripke_model.specs.declared.expressions.PathOp.{PathOp}
 use Rattle.kripke_model.specs.declared.models.Part.{Part}
 use Rattle.kripke_model.specs.Term.{Term}
-use Rattle.kripke_model.specs.System.{System, Variable, Assignment, Condition}
+use Rattle.kripke_model.specs.System.{System, Variable}
 use Rattle.kripke_model.specs.Evaluation.{same}
 use Rattle.kripke_model.specs.Evaluable.{IsEvaluable}
 use Rattle.kripke_model.specs.Static.{is_connective}
