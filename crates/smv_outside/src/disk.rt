@@ -1,6 +1,6 @@
 //! A disk that files are opened on: the seam between the loop that reads a file and the runtime.
 
-ghost use Rattle.std.specs.Prelude.{◌≡◌, Option, Some, None, IfOk, IfSome, IsErrOf, IsSomeAnd};
+ghost use Rattle.std.specs.Prelude.{◌≡◌, ◌↔◌, Option, Some, None, IfOk, IfSome, IsErrOf, IsSomeAnd};
 ghost use Rattle.smv_outside.specs.Contents.{Contents, bytes_under};
 
 use std::fs;
@@ -9,7 +9,9 @@ use std::io::{ErrorKind, Read};
 /// Why a file was not opened.
 #[derive(Clone, Copy, Debug, PartialEq, Eq)]
 pub enum OpenFault {
+    /// The name could not be looked up, or the file not be opened.
     Failed,
+    /// No file has the name.
     NotThere,
 }
 
@@ -39,9 +41,16 @@ impl<R: std::rt::Files> Disk for R {
     ghost contents = { λ _. None };
 
     fn open(&self, name: &str) -> Result<R::File, OpenFault> {
-        fs::open(self, name).map_err(|error| match error.kind() {
-            ErrorKind::NotFound => OpenFault::NotThere,
-            _ => OpenFault::Failed,
-        })
+        fs::open(self, name).map_err(|error| fault_of(error.kind()))
+    }
+}
+
+// No file has a name exactly where the system says so.
+fn fault_of(kind: ErrorKind) -> OpenFault
+    ensures { (result ≡ OpenFault.NotThere) ↔ (kind ≡ ErrorKind.NotFound) }
+{
+    match kind {
+        ErrorKind::NotFound => OpenFault::NotThere,
+        _ => OpenFault::Failed,
     }
 }
