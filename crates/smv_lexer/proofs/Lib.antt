@@ -1,0 +1,10 @@
+pub mod Atoms
+pub mod Fronts
+pub mod KeywordTable
+pub mod Once
+pub mod Only
+pub mod Pieces
+pub mod Progress
+pub mod Runs
+pub mod SignTable
+pub mod Tables
