@@ -5,7 +5,7 @@ use Rattle.std.proofs.lemmas.Bool.Decides.{nat_tests}
 use Rattle.std.proofs.lemmas.Str.{IsUtf8-from_ascii}
 use Rattle.std.proofs.lemmas.Str.Ascii.{IsAscii-nil, IsAscii-cons}
 use Rattle.smv_lexer.specs.Bytes.{is_letter, is_name_byte, begins_name, is_atom_tail, is_atom}
-use Rattle.smv_lexer.proofs.Pieces.{and_both}
+use Rattle.smv_lexer.proofs.Tables.{and_both}
 
 letter_below : (b : ℕ) → is_letter b ≡ true → b < 128
 letter_below b h = grind (arith, nat_tests)
