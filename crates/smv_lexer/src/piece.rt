@@ -1,7 +1,8 @@
 //! The longest piece of a text: white space, a comment or a token.
 
 ghost use Rattle.std.specs.Prelude.{◌≡◌, ◌<◌, ◌≤◌, length, MatchOption, IfOk, IfErr, pos, true};
-ghost use Rattle.smv_lexer.specs.Bytes.{decimal, is_atom};
+ghost use Rattle.kripke_model.specs.Names.{has_shape};
+ghost use Rattle.smv_lexer.specs.Bytes.{decimal};
 ghost use Rattle.smv_lexer.specs.Scan.{IsFront};
 ghost use Rattle.smv_lexer.specs.Text.{IsSmall, Kind, Spells, greatest_number};
 ghost use Rattle.smv_lexer.specs.View.{kind, kind_of, IsFaultOf};
@@ -55,7 +56,7 @@ pub fn number(digits: &[u8]) -> Option<i32>
 
 // A word is reserved, or an atom.
 fn word_kind(alloc: Global, word: &[u8]) -> Result<TokenKind, AllocError>
-    requires { is_atom word.now ≡ true }
+    requires { has_shape word.now ≡ true }
     ensures spells { IfOk result (λ k. Spells word.now (Some (kind k))) }
     ensures small { IfOk result (λ k. IsSmall (Some (kind k))) }
 {
