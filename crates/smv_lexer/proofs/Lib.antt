@@ -4,6 +4,7 @@ pub mod KeywordTable
 pub mod Once
 pub mod Only
 pub mod Pieces
+pub mod Places
 pub mod Progress
 pub mod Runs
 pub mod SignTable
