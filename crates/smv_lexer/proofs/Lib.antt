@@ -1,8 +1,7 @@
 pub mod Atoms
 pub mod Fronts
 pub mod KeywordTable
-pub mod Once
-pub mod Only
+pub mod OneAnswer
 pub mod Pieces
 pub mod Places
 pub mod Progress

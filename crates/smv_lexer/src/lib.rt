@@ -1,4 +1,6 @@
-//! Bytes to tokens.
+//! The tokens of a text of the SMV language: its words, numbers, reserved words and signs, with their places and lines.
+//!
+//! The language is that of McMillan's SMV manual, in a profile of its own where the manual is silent: see `specs/Text.antt`.
 #![tactic(auto)]
 
 mod bytes;

@@ -1,4 +1,4 @@
-//! The longest piece of a text: white space, a comment or a token.
+//! The longest piece at the front of a text: white space, a comment or a token.
 
 ghost use Rattle.std.specs.Prelude.{◌≡◌, ◌<◌, ◌≤◌, length, MatchOption, IfOk, IfErr, pos, true};
 ghost use Rattle.kripke_model.specs.Names.{has_shape};
@@ -14,7 +14,7 @@ use crate::token::TokenKind;
 use kripke_model::Name;
 use std::alloc::{AllocError, Global};
 
-/// A token, or none for what is skipped, and how many bytes it takes.
+/// A token, or none where the piece is skipped, and how many bytes it takes.
 #[derive(Drop)]
 pub struct Piece {
     pub kind: Option<TokenKind>,
@@ -74,7 +74,7 @@ fn number_kind(digits: &[u8]) -> Option<TokenKind>
     Some(TokenKind::Number(value))
 }
 
-/// The longest piece at the front.
+/// The longest piece at the front. Its first byte, or its first two, tell its sort.
 pub fn next_piece(alloc: Global, bytes: &[u8]) -> Result<Piece, PieceFault>
     requires { 0 < length bytes.now }
     ensures piece { IfOk result (λ p. IsFront bytes.now p.len (kind_of p.kind)) }
