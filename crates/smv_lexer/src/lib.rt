@@ -12,6 +12,6 @@ mod sign;
 mod token;
 
 pub use keyword::Keyword;
-pub use lexing::lex;
+pub use lexing::{MOST_BYTES, lex};
 pub use sign::Sign;
 pub use token::{LexRefusal, Token, TokenKind};

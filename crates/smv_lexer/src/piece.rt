@@ -14,6 +14,9 @@ use crate::token::TokenKind;
 use kripke_model::Name;
 use std::alloc::{AllocError, Global};
 
+// The greatest number that a text may write.
+const GREATEST_NUMBER: u32 = 2_147_483_647;
+
 /// A token, or none where the piece is skipped, and how many bytes it takes.
 #[derive(Drop)]
 pub struct Piece {
@@ -46,7 +49,7 @@ pub fn number(digits: &[u8]) -> Option<i32>
     let mut value: u32 = 0;
     for byte in digits {
         let digit = u32::from(byte.saturating_sub(b'0'));
-        if value > (2_147_483_647 - digit) / 10 {
+        if value > (GREATEST_NUMBER - digit) / 10 {
             return None;
         }
         value = value * 10 + digit;
