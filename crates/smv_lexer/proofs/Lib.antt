@@ -1,0 +1,10 @@
+pub mod Atoms
+pub mod Fronts
+pub mod KeywordTable
+pub mod OneAnswer
+pub mod Pieces
+pub mod Places
+pub mod Progress
+pub mod Runs
+pub mod SignTable
+pub mod Tables
