@@ -13,8 +13,9 @@ use Rattle.kripke_model.specs.Truth.{Sat, Initials}
 use Rattle.kripke_model.proofs.Latch.{num, Contains-only}
 use Rattle.path_laws.specs.StateSet.{StateSet, ◌∈◌}
 use Rattle.path_laws.specs.Live.{IsLive}
-use Rattle.path_laws.specs.Invariant.{invariant, ReachesViolation, IsBackwardReach}
-use Rattle.path_laws.proofs.Runs.{violation_at, violation_before}
+use Rattle.path_laws.specs.Reach.{Reaches, IsBackwardReach}
+use Rattle.path_laws.specs.Invariant.{invariant, Violates}
+use Rattle.path_laws.proofs.Runs.{reaches_at, reaches_before}
 use Rattle.path_laws.proofs.Extension.{runs_extend}
 use Rattle.path_laws.proofs.Invariant.{invariant_exact, invariant_decided}
 
@@ -113,11 +114,11 @@ live = by_state (λ s. (t : State) × IsState chain t × Step chain s t)
 abbrev pub not_zero : StateSet
 not_zero s = not (same (value_in s 0) (num 0))
 
-from_two : ReachesViolation chain below_two (state 2)
-from_two = violation_at chain below_two (state 2) two_state (λ e. absurd cc)
+from_two : Reaches chain (Violates chain below_two) (state 2)
+from_two = reaches_at chain (Violates chain below_two) (state 2) two_state (λ e. absurd cc)
 
-from_one : ReachesViolation chain below_two (state 1)
-from_one = violation_before chain below_two (state 1) (state 2) one_state (step_of (state 1) (state 2) (0, lit< tt, refl)) from_two
+from_one : Reaches chain (Violates chain below_two) (state 1)
+from_one = reaches_before chain (Violates chain below_two) (state 1) (state 2) one_state (step_of (state 1) (state 2) (0, lit< tt, refl)) from_two
 
 stays_at_zero : (t : State) → Step chain (state 0) t → t ∈ not_zero → ⊥
 stays_at_zero t step inside =
@@ -125,11 +126,11 @@ stays_at_zero t step inside =
     let e : true ≡ false = sym inside ∙ ap (λ v. not (same v (num 0))) (sym (Contains-only _ _ c)) in
     false≢true (sym e)
 
-pub reach : IsBackwardReach chain below_two not_zero
+pub reach : IsBackwardReach chain (Violates chain below_two) not_zero
 reach = record {
-  violations = by_state (λ s. (Holds chain below_two s s → ⊥) → s ∈ not_zero) (λ fails. absurd (fails refl)) (λ fails. refl) (λ fails. refl);
+  goal = by_state (λ s. (Holds chain below_two s s → ⊥) → s ∈ not_zero) (λ fails. absurd (fails refl)) (λ fails. refl) (λ fails. refl);
   before = λ s t is_state _. by_state (λ s. Step chain s t → t ∈ not_zero → s ∈ not_zero) (λ step inside. absurd (stays_at_zero t step inside)) (λ step inside. refl) (λ step inside. refl) s is_state;
-  reaches = by_state (λ s. s ∈ not_zero → ReachesViolation chain below_two s) (λ inside. absurd (false≢true inside)) (λ inside. from_one) (λ inside. from_two);
+  reaches = by_state (λ s. s ∈ not_zero → Reaches chain (Violates chain below_two) s) (λ inside. absurd (false≢true inside)) (λ inside. from_one) (λ inside. from_two);
 }
 
 -- ---- what the laws say of it

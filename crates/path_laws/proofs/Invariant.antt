@@ -8,11 +8,12 @@ use Rattle.kripke_model.specs.Path.{Lasso, at, IsPath}
 use Rattle.kripke_model.specs.Truth.{Sat}
 use Rattle.kripke_model.proofs.Lassos.{all_states, all_steps}
 use Rattle.path_laws.specs.StateSet.{StateSet, ◌∈◌}
-use Rattle.path_laws.specs.Invariant.{invariant, IsBackwardReach}
+use Rattle.path_laws.specs.Reach.{IsBackwardReach}
+use Rattle.path_laws.specs.Invariant.{invariant, Violates}
 use Rattle.path_laws.specs.Laws.{RunsExtend, InvariantExact, InvariantDecided}
 use Rattle.path_laws.proofs.HoldsLemmas.{holds_or_not}
 
-module _ (m : System) (e : Term) (B : StateSet) (reach : IsBackwardReach m e B) where
+module _ (m : System) (e : Term) (B : StateSet) (reach : IsBackwardReach m (Violates m e) B) where
   -- a path that begins outside of the set stays outside
   stays_outside : (p : Lasso) → IsPath m p → (at p 0 ∈ B → ⊥) → (n : ℕ) → at p n ∈ B → ⊥
   stays_outside p path out zero = out
@@ -23,7 +24,7 @@ module _ (m : System) (e : Term) (B : StateSet) (reach : IsBackwardReach m e B) 
   pub true_outside : (s : State) → (s ∈ B → ⊥) → Sat m (invariant e) s
   true_outside s out p fair starts n = elim (holds_or_not m e (at p n) (at p n)) [
     | inl holds ↦ holds
-    | inr fails ↦ absurd (stays_outside p fair.path (subst (λ t. t ∈ B → ⊥) (sym starts) out) n (reach.violations (at p n) (all_states fair.path n) fails))
+    | inr fails ↦ absurd (stays_outside p fair.path (subst (λ t. t ∈ B → ⊥) (sym starts) out) n (reach.goal (at p n) (all_states fair.path n) fails))
   ]
 
   pub false_inside : RunsExtend m → (s : State) → IsState m s → s ∈ B → Sat m (invariant e) s → ⊥

@@ -9,7 +9,8 @@ use Rattle.kripke_model.specs.Truth.{IsFair, Sat, Initials}
 use Rattle.path_laws.specs.StateSet.{StateSet, ◌∈◌}
 use Rattle.path_laws.specs.StateCount.{Collision, state_count}
 use Rattle.path_laws.specs.Live.{IsRun}
-use Rattle.path_laws.specs.Invariant.{invariant, IsBackwardReach}
+use Rattle.path_laws.specs.Reach.{IsBackwardReach}
+use Rattle.path_laws.specs.Invariant.{invariant, Violates}
 
 -- among more places of a sequence of states than the model has states, two show one state
 abbrev pub StatesRepeat : System → Type 0
@@ -21,11 +22,11 @@ RunsExtend m = (run : List State) → IsRun m run → (p : Lasso) × IsFair m p 
 
 -- an invariant is false at the states of the backward reach, and true at all others
 abbrev pub InvariantExact : System → Type 0
-InvariantExact m = (e : Term) (B : StateSet) → IsBackwardReach m e B → (s : State) → IsState m s
+InvariantExact m = (e : Term) (B : StateSet) → IsBackwardReach m (Violates m e) B → (s : State) → IsState m s
     → (s ∈ B → Sat m (invariant e) s → ⊥) × ((s ∈ B → ⊥) → Sat m (invariant e) s)
 
 -- an invariant is a true specification where no initial state is in the backward reach, and a false one where some is
 abbrev pub InvariantDecided : System → Type 0
-InvariantDecided m = (e : Term) (B : StateSet) → IsBackwardReach m e B
+InvariantDecided m = (e : Term) (B : StateSet) → IsBackwardReach m (Violates m e) B
     → (((s : State) → IsState m s → Initial m s → s ∈ B → ⊥) → Initials m (invariant e))
     × ((s : State) → IsState m s → Initial m s → s ∈ B → Initials m (invariant e) → ⊥)
