@@ -1,16 +1,16 @@
 -- The definitions on a counter of three bits: each step counts one up, and from 7 it goes to 0.
-use Rattle.std.proofs.Common.{◌≡◌, ℕ, zero, suc, ◌+◌, ◌/◌, ◌%◌, ◌<◌, List, [], ◌∷◌, refl, Bool, true, false, arith, sym, lit<, subst}
-use Rattle.std.specs.Prelude.{Contains, All, Any, IsTrue}
+use Rattle.std.proofs.Common.{◌≡◌, ℕ, zero, suc, ◌+◌, ◌/◌, ◌%◌, ◌<◌, [], ◌∷◌, refl, false, arith, sym, lit<, subst}
+use Rattle.std.specs.Prelude.{Contains, IsTrue}
 use Rattle.std.proofs.lemmas.List.Elements.{All-nil, All-from_recursion}
 use Rattle.kripke_model.specs.declared.expressions.Value.{Value}
 use Rattle.kripke_model.specs.declared.expressions.BinOp.{BinOp}
 use Rattle.kripke_model.specs.declared.expressions.PathOp.{PathOp}
 use Rattle.kripke_model.specs.declared.models.Part.{Part}
 use Rattle.kripke_model.specs.Term.{Term}
-use Rattle.kripke_model.specs.System.{System, Variable, Assignment, Condition, State, value_in}
+use Rattle.kripke_model.specs.System.{System, Variable, Assignment, State, value_in}
 use Rattle.kripke_model.specs.Evaluation.{values, runs, Holds}
 use Rattle.kripke_model.specs.Size.{node_count}
-use Rattle.kripke_model.specs.Step.{Step, IsValueOf, IsDriven, HasNext, IsCurrent, Assigned}
+use Rattle.kripke_model.specs.Step.{Step, IsValueOf, IsDriven, HasNext, IsCurrent}
 use Rattle.kripke_model.proofs.Latch.{num, bit, Contains-only}
 use Rattle.kripke_model.proofs.Examples.{constant, main_name, is_only}
 

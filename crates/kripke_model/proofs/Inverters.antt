@@ -1,6 +1,6 @@
 -- The definitions on a ring of three inverter processes: the selected one turns its input round, and the selector is free.
-use Rattle.std.proofs.Common.{◌≡◌, ◌⊎◌, inl, inr, ⊎_elim, ℕ, zero, suc, ◌+◌, ◌<◌, List, [], ◌∷◌, refl, Bool, true, false, arith, sym, ◌∙◌, ap, lit<, subst, pos, get_or, cond}
-use Rattle.std.specs.Prelude.{Contains, All, Any, IsTrue, Ok}
+use Rattle.std.proofs.Common.{◌≡◌, ◌⊎◌, inl, inr, ⊎_elim, ℕ, zero, suc, ◌+◌, ◌<◌, [], ◌∷◌, refl, true, false, arith, sym, ◌∙◌, ap, lit<, subst, get_or}
+use Rattle.std.specs.Prelude.{Contains, Any, IsTrue, Ok}
 use Rattle.std.proofs.lemmas.List.Elements.{All-nil, All-from_recursion}
 use Rattle.kripke_model.specs.declared.expressions.Value.{Value}
 use Rattle.kripke_model.specs.declared.expressions.BinOp.{BinOp}
@@ -9,8 +9,8 @@ use Rattle.kripke_model.specs.declared.models.Part.{Part}
 use Rattle.kripke_model.specs.Term.{Term}
 use Rattle.kripke_model.specs.Ctl.{Ctl, formula_of}
 use Rattle.kripke_model.specs.System.{System, Variable, Assignment, Condition, State, value_in}
-use Rattle.kripke_model.specs.Evaluation.{eval, runs, values, Holds}
-use Rattle.kripke_model.specs.Step.{IsState, Step, IsValueOf, IsDriven, HasNext, IsCurrent, Assigned}
+use Rattle.kripke_model.specs.Evaluation.{eval, runs, Holds}
+use Rattle.kripke_model.specs.Step.{IsState, Step, IsValueOf, IsDriven, HasNext, IsCurrent}
 use Rattle.kripke_model.specs.Path.{Lasso, at, IsPath}
 use Rattle.kripke_model.specs.Truth.{FreeSat, IsFair}
 use Rattle.kripke_model.proofs.Latch.{num, bit, Any-only, zero_bit, one_bit}

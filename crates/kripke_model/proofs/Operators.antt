@@ -1,12 +1,11 @@
 -- The values and faults of operators, braces and `case`, each on a small expression.
-use Rattle.std.proofs.Common.{◌≡◌, ℕ, List, [], ◌∷◌, refl, pos, negsuc}
+use Rattle.std.proofs.Common.{◌≡◌, ℕ, List, [], ◌∷◌, refl, negsuc}
 use Rattle.std.specs.Prelude.{Ok, Err, Some, None}
 use Rattle.kripke_model.specs.declared.expressions.Value.{Value}
-use Rattle.kripke_model.specs.declared.expressions.Value.TheVariants.{Number, Symbol}
+use Rattle.kripke_model.specs.declared.expressions.Value.TheVariants.{Number}
 use Rattle.kripke_model.specs.declared.expressions.BinOp.{BinOp}
 use Rattle.kripke_model.specs.declared.expressions.FaultKind.{FaultKind}
-use Rattle.kripke_model.specs.Term.{Term, Terms, Arms, none, more, esac, arm}
-use Rattle.kripke_model.specs.System.{State}
+use Rattle.kripke_model.specs.Term.{Term, none, more, esac, arm}
 use Rattle.kripke_model.specs.Evaluation.{Checked, eval, condition_fault, right_side_fault}
 use Rattle.kripke_model.proofs.Latch.{num, bit, latch, state, x_term}
 use Rattle.kripke_model.proofs.Examples.{constant, symbol}

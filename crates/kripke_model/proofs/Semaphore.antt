@@ -1,17 +1,17 @@
 -- The definitions on two processes that share a semaphore: the right sides' values, and what a process that is not selected keeps.
-use Rattle.std.proofs.Common.{◌≡◌, ℕ, zero, suc, ◌+◌, ◌<◌, List, [], ◌∷◌, refl, Bool, true, false, arith, sym, ◌∙◌, ap, lit<, subst, get_or}
-use Rattle.std.specs.Prelude.{Contains, All, Any, IsTrue, Ok}
+use Rattle.std.proofs.Common.{◌≡◌, ℕ, ◌+◌, [], ◌∷◌, refl, true, arith, lit<}
+use Rattle.std.specs.Prelude.{Contains, IsTrue, Ok}
 use Rattle.kripke_model.specs.declared.expressions.Value.{Value}
 use Rattle.kripke_model.specs.declared.expressions.Value.TheVariants.{Symbol}
 use Rattle.kripke_model.specs.declared.expressions.BinOp.{BinOp}
 use Rattle.kripke_model.specs.declared.expressions.PathOp.{PathOp}
 use Rattle.kripke_model.specs.declared.models.Part.{Part}
 use Rattle.kripke_model.specs.Term.{Term, none, more, esac, arm}
-use Rattle.kripke_model.specs.System.{System, Variable, Assignment, Condition, State, value_in}
-use Rattle.kripke_model.specs.Evaluation.{eval, runs, values}
-use Rattle.kripke_model.specs.Step.{Step, IsValueOf, IsDriven, HasNext}
+use Rattle.kripke_model.specs.System.{System, Variable, Assignment, State, value_in}
+use Rattle.kripke_model.specs.Evaluation.{eval, runs}
+use Rattle.kripke_model.specs.Step.{Step, IsDriven}
 use Rattle.kripke_model.proofs.Latch.{num, bit, Contains-only}
-use Rattle.kripke_model.proofs.Examples.{constant, symbol, main_name, running_name, none_meets, not_true}
+use Rattle.kripke_model.proofs.Examples.{constant, main_name, running_name, none_meets, not_true}
 
 abbrev pub idle : Value
 idle = Symbol 0

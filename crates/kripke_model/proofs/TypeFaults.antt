@@ -1,16 +1,16 @@
 -- Right sides with a value that the variable's type lacks.
-use Rattle.std.proofs.Common.{◌≡◌, ℕ, zero, suc, ◌<◌, List, [], ◌∷◌, refl, Bool, true, false, arith, pos, ap, lit<, get_or}
+use Rattle.std.proofs.Common.{◌≡◌, ℕ, zero, suc, ◌<◌, List, [], ◌∷◌, refl, Bool, true, false, arith, ap, lit<, get_or}
 use Rattle.std.specs.Prelude.{Contains, Some, None, Option}
 use Rattle.kripke_model.specs.declared.expressions.Value.{Value}
-use Rattle.kripke_model.specs.declared.expressions.Value.TheVariants.{Number, Symbol}
+use Rattle.kripke_model.specs.declared.expressions.Value.TheVariants.{Symbol}
 use Rattle.kripke_model.specs.declared.expressions.BinOp.{BinOp}
 use Rattle.kripke_model.specs.declared.expressions.PathOp.{PathOp}
 use Rattle.kripke_model.specs.declared.expressions.FaultKind.{FaultKind}
 use Rattle.kripke_model.specs.declared.models.Part.{Part}
-use Rattle.kripke_model.specs.Term.{Term, Arms, esac, arm}
-use Rattle.kripke_model.specs.System.{System, Variable, Assignment, Condition, State, value_in}
+use Rattle.kripke_model.specs.Term.{Term, esac, arm}
+use Rattle.kripke_model.specs.System.{System, Variable, Assignment, State, value_in}
 use Rattle.kripke_model.specs.Step.{IsState}
-use Rattle.kripke_model.specs.Faults.{IsFaultless, item_fault, items, RightSide}
+use Rattle.kripke_model.specs.Faults.{IsFaultless, item_fault, RightSide}
 use Rattle.kripke_model.proofs.Latch.{num, bit}
 use Rattle.kripke_model.proofs.Examples.{constant, symbol, main_name, not_true}
 

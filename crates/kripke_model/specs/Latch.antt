@@ -5,7 +5,7 @@ use Rattle.kripke_model.specs.declared.expressions.Value.TheVariants.{Number}
 use Rattle.kripke_model.specs.declared.expressions.PathOp.{PathOp}
 use Rattle.kripke_model.specs.declared.models.Part.{Part}
 use Rattle.kripke_model.specs.Term.{Term, esac, arm}
-use Rattle.kripke_model.specs.System.{System, Variable, Assignment, Condition}
+use Rattle.kripke_model.specs.System.{System, Assignment, Condition}
 
 abbrev pub num : ℕ → Value
 num n = Number (pos n)

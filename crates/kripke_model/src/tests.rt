@@ -153,81 +153,139 @@ fn state(alloc: Global, x: i32, go: i32) -> Result<State, AllocError> {
     Ok(s)
 }
 
+/// Whether s is a state, whether it is initial, and whether it steps to t.
+fn answers(
+    alloc: Global,
+    model: &Ruled,
+    (x, go): (i32, i32),
+    (then, after): (i32, i32),
+) -> Result<[bool; 3], AllocError> {
+    let s = state(alloc, x, go)?;
+    let t = state(alloc, then, after)?;
+    Ok([
+        is_state(model, &s),
+        is_initial(model, &s),
+        is_step(model, &s, &t),
+    ])
+}
+
 #[test]
 fn initial_states_and_steps(rt: HostRuntime) -> Result<(), Fail> {
     let model = model(rt.alloc())?;
-    for ((x, go), (then, after), initial, step) in [
-        ((0, 1), (1, 0), true, true),
-        ((0, 1), (0, 0), true, false),
-        ((0, 0), (1, 0), true, false),
-        ((0, 0), (0, 1), true, true),
-        ((1, 0), (1, 1), false, true),
-        ((1, 1), (0, 0), false, false),
+    for (s, t, want) in [
+        ((0, 1), (1, 0), [true, true, true]),
+        ((0, 1), (0, 0), [true, true, false]),
+        ((0, 0), (1, 0), [true, true, false]),
+        ((0, 0), (0, 1), [true, true, true]),
+        ((1, 0), (1, 1), [true, false, true]),
+        ((1, 1), (0, 0), [true, false, false]),
+        ((2, 0), (2, 0), [false, false, true]),
     ] {
-        let s = state(rt.alloc(), x, go)?;
-        let t = state(rt.alloc(), then, after)?;
-        assert!(rt; is_state(&model, &s));
-        assert_eq!(rt; is_initial(&model, &s), initial, "at {x} {go}");
-        assert_eq!(rt;
-            is_step(&model, &s, &t),
-            step,
-            "from {x} {go} to {then} {after}"
-        );
+        let got = answers(rt.alloc(), &model, s, t)?;
+        assert_eq!(rt; got, want, "at {} {}", s.0, s.1);
     }
-    let beyond = state(rt.alloc(), 2, 0)?;
-    assert!(rt; !is_state(&model, &beyond));
     Ok(())
+}
+
+/// The lasso of one state of the cycle, after those of the stem.
+fn lasso(alloc: Global, stem: Vec<State>, x: i32, go: i32) -> Result<Lasso, AllocError> {
+    let s = state(alloc, x, go)?;
+    Ok(Lasso {
+        stem,
+        cycle: vec![in alloc; s]?,
+    })
+}
+
+/// The values of x in the states 0 and 9 of the path.
+fn two_places(lasso: &Lasso) -> [Value; 2] {
+    if lasso.has_cycle() {
+        [lasso.at(0).value(0), lasso.at(9).value(0)]
+    } else {
+        [Value::Number(2); 2]
+    }
 }
 
 #[test]
 fn looping_paths(rt: HostRuntime) -> Result<(), Fail> {
     let model = model(rt.alloc())?;
-    let fair = Lasso {
-        stem: vec![in rt.alloc(); state(rt.alloc(), 0, 1)?]?,
-        cycle: vec![in rt.alloc(); state(rt.alloc(), 1, 1)?]?,
-    };
-    assert!(rt; fair.has_cycle());
+    let start = state(rt.alloc(), 0, 1)?;
+    let fair = lasso(rt.alloc(), vec![in rt.alloc(); start]?, 1, 1)?;
+    let unfair = lasso(rt.alloc(), Vec::new(rt.alloc()), 0, 0)?;
+    assert_eq!(rt; two_places(&fair), [Value::Number(0), Value::Number(1)]);
+    assert_eq!(rt; [fair.member_count(), unfair.member_count()], [2, 1]);
+    assert!(rt; !is_fair_path(&model, &unfair));
     assert!(rt; is_fair_path(&model, &fair));
     lasso_law(&model, &fair);
-    assert_eq!(rt; fair.member_count(), 2);
-    assert_eq!(rt; fair.at(0).value(0), Value::Number(0));
-    assert_eq!(rt; fair.at(9).value(0), Value::Number(1));
-    let unfair = Lasso {
-        stem: Vec::new(rt.alloc()),
-        cycle: vec![in rt.alloc(); state(rt.alloc(), 0, 0)?]?,
-    };
-    assert!(rt; !is_fair_path(&model, &unfair));
-    for still in unfair.cycle() {
-        assert!(rt; is_step(&model, still, still));
+    Ok(())
+}
+
+/// The value of x in state 9 of the path's walk.
+fn walked(alloc: Global, lasso: Lasso) -> Result<Option<Value>, AllocError> {
+    match LassoWalk::new(alloc, lasso) {
+        Some(walk) => Ok(Some(walk.state_at(9)?.value(0))),
+        None => Ok(None),
     }
-    let Some(walk) = LassoWalk::new(rt.alloc(), fair) else {
-        return Err(Fail::new("the cycle has a state"));
-    };
-    assert_eq!(rt; walk.state_at(9)?.value(0), Value::Number(1));
+}
+
+#[test]
+fn walks(rt: HostRuntime) -> Result<(), Fail> {
+    let path = lasso(rt.alloc(), Vec::new(rt.alloc()), 1, 1)?;
+    assert_eq!(rt; walked(rt.alloc(), path)?, Some(Value::Number(1)));
+    Ok(())
+}
+
+/// How many variables, assignments, `INIT`, `TRANS` and constraints there are.
+fn counts(model: &Ruled) -> [usize; 5] {
+    [
+        model.vars().len(),
+        model.assigns().len(),
+        model.inits().len(),
+        model.trans().len(),
+        model.constraints().len(),
+    ]
+}
+
+/// Whether each constraint holds at s, as an item and as an expression.
+fn constraints_hold(model: &Ruled, s: &State) -> bool {
+    for item in model.constraints() {
+        if !item_holds(model, item, s, s) || !holds(model, &item.expr, s, s) {
+            return false;
+        }
+    }
+    true
+}
+
+/// Whether 1 is a value of each variable, as the list of its values says too.
+fn all_admit_one(model: &Ruled) -> bool {
+    for var in model.vars() {
+        if !var.admits(Value::Number(1)) || !var.values().contains(&Value::Number(1)) {
+            return false;
+        }
+    }
+    true
+}
+
+#[test]
+fn copies_and_readers(rt: HostRuntime) -> Result<(), Fail> {
+    let model = model(rt.alloc())?.copy(rt.alloc())?;
+    let mut s = state(rt.alloc(), 0, 1)?;
+    assert_eq!(rt; counts(&model), [2, 2, 0, 0, 2]);
+    assert_eq!(rt;
+        [
+            model.has_selector(),
+            runs(&model, &s, 0),
+            constraints_hold(&model, &s),
+            all_admit_one(&model)
+        ],
+        [false, true, true, true]
+    );
+    s.pop();
+    assert_eq!(rt; s.values().len(), 1);
     Ok(())
 }
 
 #[test]
-fn readers_of_a_model(rt: HostRuntime) -> Result<(), Fail> {
-    let model = model(rt.alloc())?.copy(rt.alloc())?;
-    assert!(rt; !model.has_selector());
-    assert_eq!(rt; model.inits().len(), 0);
-    assert_eq!(rt; model.trans().len(), 0);
-    for var in model.vars() {
-        assert!(rt; var.admits(Value::Number(1)));
-        assert_eq!(rt; var.values().len(), 2);
-    }
-    let mut s = state(rt.alloc(), 0, 1)?;
-    assert!(rt; runs(&model, &s, 0));
-    for item in model.constraints() {
-        assert!(rt; item_holds(&model, item, &s, &s));
-        assert!(rt; holds(&model, &item.expr, &s, &s));
-    }
-    for a in model.assigns() {
-        assert!(rt; !holds(&model, &a.right, &s, &s) || a.line == 5);
-    }
-    s.pop();
-    assert_eq!(rt; s.values().len(), 1);
+fn names(rt: HostRuntime) -> Result<(), Fail> {
     let name = Name::from_bytes(rt.alloc(), b"go")?;
     let same = name.copy(rt.alloc())?;
     assert_eq!(rt; same.as_str(), "go");
