@@ -1,5 +1,5 @@
 -- What an insert into the set of triples leaves.
-use Rattle.std.proofs.Common.{◌≡◌, ◌≢◌, ℕ, zero, suc, ◌+◌, ◌<◌, Bool, true, false, cond, ◌==◌, ◌&&◌, ◌||◌, if◌then◌else◌, List, [], ◌∷◌, ◌++◌, length, Option, None, Some, Result, Ok, Err, IfOk, OnErr, slice_get, position, refl, sym, ap, subst, ◌∙◌, true≢false, arith}
+use Rattle.std.proofs.Common.{◌≡◌, ◌≢◌, ℕ, zero, suc, ◌+◌, ◌<◌, Bool, true, false, ◌==◌, ◌&&◌, ◌||◌, if◌then◌else◌, List, [], ◌∷◌, ◌++◌, Some, Result, Ok, Err, IfOk, OnErr, slice_get, position, refl, sym, ap, subst, ◌∙◌, true≢false, arith}
 use Rattle.std.specs.List.{list_any}
 use Rattle.std.proofs.lemmas.Bool.{eqb-true}
 use Rattle.std.proofs.lemmas.Bool.Decides.{nat_tests}
@@ -10,7 +10,7 @@ use Rattle.bdd_nodes.specs.declared.triple.Triple.{Triple}
 use Rattle.bdd_nodes.specs.declared.store.Store.{Store}
 use Rattle.bdd_nodes.specs.Store.{IsNodeOf}
 use Rattle.bdd_nodes.specs.Table.{node_of, level_of, Has, IsGood, IsGrowth}
-use Rattle.bdd_nodes.proofs.Tables.{node_of-at, node_of-has, IsGood-push, IsGrowth-same, IsGrowth-push}
+use Rattle.bdd_nodes.proofs.Tables.{node_of-at, IsGood-push, IsGrowth-same, IsGrowth-push}
 
 -- the derived test of two triples
 abbrev pub same_triple : Triple → Triple → Bool

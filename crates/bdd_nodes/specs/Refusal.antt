@@ -1,5 +1,7 @@
 -- What contracts see of a refusal.
-use Rattle.std.specs.Prelude.{◌≡◌, ℕ, Result, Ok, Err}
+use Rattle.std.specs.Prelude.{◌≡◌, ℕ, length, Result, Ok, Err}
+use Rattle.bdd_nodes.specs.declared.store.Store.{Store}
+use Rattle.bdd_nodes.specs.Store.{levels_of, limit_of, triples}
 use Rattle.bdd_nodes.specs.declared.refusal.Held.{Held}
 use Rattle.bdd_nodes.specs.declared.refusal.StoreRefusal.{StoreRefusal}
 use Rattle.bdd_nodes.specs.declared.refusal.StoreRefusal.TheVariants.{Full, Memory}
@@ -17,7 +19,7 @@ IsFull (Ok r) = ⊥
 IsFull (Err (Full held)) = Unit {0}
 IsFull (Err Memory) = ⊥
 
--- a full store shows its levels and its limit
-abbrev pub RefusesWith : ℕ → ℕ → StoreRefusal → Type 0
-RefusesWith levels limit (Full held) = (levels_shown held ≡ levels) × (number_shown held ≡ limit)
-RefusesWith levels limit Memory = Unit {0}
+-- a refusal of this store: a full one is shown by its levels and its limit, and it holds as many triples as the limit says
+abbrev pub IsRefusalOf : Store → StoreRefusal → Type 0
+IsRefusalOf s (Full held) = (levels_shown held ≡ levels_of s) × (number_shown held ≡ limit_of s) × (length (triples s) ≡ limit_of s)
+IsRefusalOf s Memory = Unit {0}

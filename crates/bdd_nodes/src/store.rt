@@ -23,7 +23,7 @@ pub struct Store {
 
 impl Store {
     ghost use Rattle.bdd_nodes.specs.Store.{levels_of, limit_of, triples, Has, level_of, node_of, value_of, triple, IsAbsent, Grows, IsNodeOf, IsFullFor};
-    ghost use Rattle.bdd_nodes.specs.Refusal.{IsFull, RefusesWith};
+    ghost use Rattle.bdd_nodes.specs.Refusal.{IsFull, IsRefusalOf};
     ghost use Rattle.std.specs.Prelude.{[]};
 
     /// An empty store for diagrams over `levels` bits, at most 256, that holds at most `limit`
@@ -125,7 +125,7 @@ impl Store {
         ensures node { IfOk result (IsNodeOf self.new level low high) }
         ensures has { IfOk result (Has self.new) }
         ensures full { IsFull result ↔ IsFullFor self.old level low high }
-        ensures held { IfErr result (RefusesWith (levels_of self.old) (limit_of self.old)) }
+        ensures held { IfErr result (IsRefusalOf self.new) }
         ensures err { OnErr result (triples self.new ≡ triples self.old) }
         ensures one_more { length (triples self.new) ≤ length (triples self.old) + 1 }
         ensures grows { Grows self.old self.new }

@@ -1,4 +1,3 @@
-use Rattle.std.proofs.Common.{sym}
 use Rattle.bdd_nodes.proofs.Tables.{IsGood-empty}
 use Rattle.bdd_nodes.proofs.store.Store.new.Goals as goal
 

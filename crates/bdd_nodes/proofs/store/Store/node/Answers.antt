@@ -1,5 +1,4 @@
-use Rattle.std.proofs.Common.{rules, sym, arith, ◌≡◌, ◌<◌, ◌+◌, ◌-◌, ◌∙◌}
-use Rattle.bdd_nodes.specs.Table.{node_of}
+use Rattle.std.proofs.Common.{sym, arith, ◌≡◌, ◌+◌, ◌-◌}
 use Rattle.bdd_nodes.proofs.Tables.{node_of-at, node_of-constant}
 use Rattle.bdd_nodes.proofs.store.Store.node.Goals as goal
 

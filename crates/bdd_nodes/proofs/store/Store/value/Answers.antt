@@ -1,7 +1,7 @@
-use Rattle.std.proofs.Common.{arith, rules, sym, ◌∙◌, ap, ◌≡◌, List, Bool}
+use Rattle.std.proofs.Common.{arith, sym, ◌∙◌, ap, ◌≡◌, List, Bool}
 use Rattle.bdd_nodes.specs.declared.triple.Triple.{Triple}
 use Rattle.bdd_nodes.specs.Table.{value_of, child_of}
-use Rattle.bdd_nodes.proofs.Tables.{node_of-has, child_of-earlier, value_of-node, value_of-false, value_of-true, value_of-end}
+use Rattle.bdd_nodes.proofs.Tables.{node_of-has, child_of-earlier, value_of-node, value_of-end}
 use Rattle.bdd_nodes.proofs.store.Store.value.Goals as goal
 
 pub bounds-bits-triple : goal.bounds-bits-triple
