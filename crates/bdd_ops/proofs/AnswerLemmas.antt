@@ -1,10 +1,10 @@
 -- Lemmas on the answers of keys.
-use Rattle.std.proofs.Common.{◌≡◌, ℕ, zero, suc, ◌+◌, ◌-◌, ◌<◌, ◌≤◌, min, max, Bool, true, false, not, ◌&&◌, ◌||◌, cond, List, [], ◌∷◌, ◌++◌, length, slice_get, unwrap_or, refl, sym, ap, ◌∙◌, arith, length-append}
+use Rattle.std.proofs.Common.{◌≡◌, ℕ, ◌+◌, ◌-◌, ◌≤◌, min, Bool, true, false, not, ◌&&◌, ◌||◌, cond, List, [], ◌∷◌, ◌++◌, length, unwrap_or, refl, sym, ap, ◌∙◌, arith, length-append}
 use Rattle.bdd_nodes.specs.declared.triple.Triple.{Triple}
 use Rattle.bdd_nodes.specs.declared.store.Store.{Store}
-use Rattle.bdd_nodes.specs.Table.{level_of, value_of, Has, IsGood, IsGrowth}
+use Rattle.bdd_nodes.specs.Table.{value_of, Has, IsGrowth}
 use Rattle.bdd_nodes.specs.Store.{levels_of, triples, Grows}
-use Rattle.bdd_nodes.proofs.Tables.{Has-grows, level_of-grows, value_of-grows, slice_get-append}
+use Rattle.bdd_nodes.proofs.Tables.{level_of-grows, slice_get-append}
 use Rattle.bdd_ops.specs.declared.key.Key.{Key}
 use Rattle.bdd_ops.specs.declared.key.Key.TheVariants.{Not, And, Or, Iff, Ite, Exists, AndExists, Rename}
 use Rattle.bdd_ops.specs.declared.operation.Operation.{Operation}

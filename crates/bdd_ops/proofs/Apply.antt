@@ -1,20 +1,20 @@
 -- Lemmas on the recursion of an operation.
-use Rattle.std.proofs.Common.{◌≡◌, ◌≢◌, ℕ, zero, suc, ◌+◌, ◌-◌, ◌*◌, ◌^◌, ◌<◌, ◌≤◌, ◌⊎◌, inl, inr, Bool, true, false, List, length, Option, None, Some, Result, Ok, Err, IfOk, refl, sym, ap, subst, ◌∙◌, arith}
+use Rattle.std.proofs.Common.{◌≡◌, ℕ, suc, ◌+◌, ◌-◌, ◌*◌, ◌^◌, ◌<◌, ◌≤◌, ◌⊎◌, inl, inr, Bool, true, false, List, Result, Ok, Err, IfOk, sym, ap, subst, ◌∙◌, arith}
 use Rattle.std.proofs.Math.Pow.{pow_mono}
 use Rattle.std.proofs.Math.Nat.{pow-suc}
-use Rattle.std.proofs.lemmas.Bool.{cases_lt, cases_eq}
+use Rattle.std.proofs.lemmas.Bool.{cases_eq}
 use Rattle.bdd_nodes.specs.declared.triple.Triple.{Triple}
 use Rattle.bdd_nodes.specs.declared.store.Store.{Store}
-use Rattle.bdd_nodes.specs.Table.{node_of, level_of, value_of, Has, IsGood, IsGrowth}
-use Rattle.bdd_nodes.specs.Store.{triples, Grows, IsNodeOf}
+use Rattle.bdd_nodes.specs.Table.{level_of, value_of, Has}
+use Rattle.bdd_nodes.specs.Store.{Grows, IsNodeOf}
 use Rattle.bdd_nodes.proofs.Tables.{node_of-has, node_of-some, value_of-false, value_of-true, Has-grows}
 use Rattle.bdd_nodes.proofs.Canonical.{level_of-node, level_of-constant, level_of-bound}
 use Rattle.bdd_ops.specs.declared.operation.Operation.{Operation}
 use Rattle.bdd_ops.specs.declared.operation.Operation.TheVariants.{Not, And, Or, Iff, Ite}
-use Rattle.bdd_ops.specs.Operation.{combine, operation_of, highest_of, weight_of, top_of, with_operands, part_of, SomeOperand, HasOperands, IsResult}
+use Rattle.bdd_ops.specs.Operation.{combine, operation_of, highest_of, weight_of, top_of, with_operands, part_of, SomeOperand}
 use Rattle.bdd_ops.specs.Result as store
 use Rattle.bdd_ops.proofs.Parts.{part_of-le, part_of-less, part_of-deeper, highest_of-with, top_of-with, weight_of-with, top_of-bound, top_of-inside, top_of-grows, operation_of-grows}
-use Rattle.bdd_ops.proofs.Results.{IsResult-made, IsResult-store_grows}
+use Rattle.bdd_ops.proofs.Results.{IsResult-made}
 
 -- an operand is at most the highest one, and lies at the top level or deeper
 operand-le : (k : Operation) (r : ℕ) → SomeOperand (λ f. f ≡ r) k → r ≤ highest_of k

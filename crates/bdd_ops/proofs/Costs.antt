@@ -1,21 +1,19 @@
 -- Lemmas on what an operation costs.
-use Rattle.std.proofs.Common.{◌≡◌, ◌≢◌, ℕ, zero, suc, ◌+◌, ◌-◌, ◌*◌, ◌<◌, ◌≤◌, ◌⊎◌, inl, inr, max, Bool, true, false, cond, ◌||◌, List, [], ◌∷◌, ◌++◌, length, take, Option, None, Some, refl, sym, ap, subst, ◌∙◌, true≢false, arith}
-use Rattle.std.specs.List.{list_any}
+use Rattle.std.proofs.Common.{◌≡◌, ℕ, zero, suc, ◌+◌, ◌-◌, ◌*◌, ◌<◌, ◌≤◌, ◌⊎◌, inl, inr, max, Bool, true, false, cond, ◌||◌, List, [], ◌∷◌, ◌++◌, length, take, Option, None, Some, refl, sym, ap, subst, ◌∙◌, true≢false, arith}
 use Rattle.std.specs.Option.{option_map_or}
 use Rattle.std.specs.Map.{lookup, lookup_entry, remove_entry}
 use Rattle.std.proofs.lemmas.Option.{none-some, same_Some}
 use Rattle.std.proofs.lemmas.Bool.{eq-eqb}
 use Rattle.std.specs.Cmp.Derive.{both_true}
-use Rattle.std.proofs.lemmas.List.{append_assoc}
 use Rattle.lru.specs.LruCache.{LruCache, promoted, put_entries}
 use Rattle.bdd_nodes.specs.declared.triple.Triple.{Triple}
-use Rattle.bdd_nodes.specs.Table.{Has, IsGrowth}
+use Rattle.bdd_nodes.specs.Table.{IsGrowth}
 use Rattle.bdd_nodes.proofs.Tables.{Has-grows}
 use Rattle.bdd_ops.specs.declared.key.Key.{Key}
 use Rattle.bdd_ops.specs.declared.key.Key.TheVariants.{Not, And, Or, Iff, Ite, Exists, AndExists, Rename}
 use Rattle.bdd_ops.specs.declared.operation.Operation.{Operation}
 use Rattle.bdd_ops.specs.Answer.{key_weight}
-use Rattle.bdd_ops.specs.Operation.{highest_of, weight_of, key_of, IsOpen, HasOperands, top_of, with_operands, part_of}
+use Rattle.bdd_ops.specs.Operation.{highest_of, weight_of, key_of, IsOpen, top_of, with_operands, part_of}
 use Rattle.bdd_ops.specs.Cost as cost
 use Rattle.bdd_ops.proofs.Parts.{part_of-grows, with_operands-same, top_of-grows}
 use Rattle.bdd_ops.proofs.Memo.{same_key, same_key-true}

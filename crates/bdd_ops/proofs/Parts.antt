@@ -1,10 +1,10 @@
 -- Lemmas on the parts of operands for a bit, and on the operands of a key.
-use Rattle.std.proofs.Common.{◌≡◌, ◌≢◌, ℕ, zero, suc, ◌+◌, ◌<◌, ◌≤◌, ◌⊎◌, inl, inr, min, max, Bool, true, false, not, ◌&&◌, ◌||◌, ◌==◌, cond, if◌then◌else◌, List, length, Option, None, Some, slice_index_or, refl, sym, ap, subst, ◌∙◌, arith}
+use Rattle.std.proofs.Common.{◌≡◌, ◌≢◌, ℕ, ◌+◌, ◌<◌, ◌≤◌, ◌⊎◌, inl, inr, min, max, Bool, true, false, not, ◌&&◌, ◌||◌, ◌==◌, cond, if◌then◌else◌, List, None, Some, slice_index_or, refl, sym, ap, ◌∙◌, arith}
 use Rattle.std.specs.Option.{option_map_or}
 use Rattle.std.proofs.lemmas.Bool.{cases_lt, cases_eq, eq-eqb, eqb-true}
 use Rattle.bdd_nodes.specs.declared.triple.Triple.{Triple}
-use Rattle.bdd_nodes.specs.Table.{node_of, level_of, value_of, child_of, Has, IsGood, IsGrowth}
-use Rattle.bdd_nodes.proofs.Tables.{node_of-has, node_of-some, node_of-constant, node_of-grows, level_of-grows, value_of-node, value_of-grows}
+use Rattle.bdd_nodes.specs.Table.{node_of, level_of, value_of, Has, IsGood, IsGrowth}
+use Rattle.bdd_nodes.proofs.Tables.{node_of-some, node_of-constant, node_of-grows, value_of-node, value_of-grows}
 use Rattle.bdd_nodes.proofs.Canonical.{level_of-node, level_of-constant}
 use Rattle.bdd_ops.specs.declared.operation.Operation.{Operation}
 use Rattle.bdd_ops.specs.declared.operation.Operation.TheVariants.{Not, And, Or, Iff, Ite}

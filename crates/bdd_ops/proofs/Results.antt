@@ -1,15 +1,15 @@
 -- Lemmas on results.
-use Rattle.std.proofs.Common.{◌≡◌, ◌≢◌, ℕ, ◌+◌, ◌<◌, ◌≤◌, ◌⊎◌, inl, inr, Bool, true, false, cond, List, length, Some, slice_index_or, refl, sym, ap, subst, ◌∙◌, arith}
+use Rattle.std.proofs.Common.{◌≡◌, ◌≢◌, ℕ, ◌<◌, ◌≤◌, ◌⊎◌, inl, inr, Bool, true, false, cond, List, Some, slice_index_or, refl, sym, ap, subst, ◌∙◌, arith}
 use Rattle.std.proofs.lemmas.Bool.{cases_eq}
 use Rattle.bdd_nodes.specs.declared.triple.Triple.{Triple}
-use Rattle.bdd_nodes.specs.Table.{node_of, level_of, value_of, child_of, Has, IsGood, IsGrowth}
+use Rattle.bdd_nodes.specs.Table.{node_of, level_of, value_of, Has, IsGood, IsGrowth}
 use Rattle.bdd_nodes.proofs.Tables.{Has-grows, level_of-grows, value_of-node, value_of-grows}
 use Rattle.bdd_nodes.proofs.Canonical.{level_of-node}
 use Rattle.bdd_nodes.specs.declared.store.Store.{Store}
 use Rattle.bdd_nodes.specs.Store.{Grows}
 use Rattle.bdd_ops.specs.Result as store
 use Rattle.bdd_ops.specs.declared.operation.Operation.{Operation}
-use Rattle.bdd_ops.specs.Operation.{combine, operation_of, highest_of, top_of, with_operands, HasOperands, part_of, IsResult}
+use Rattle.bdd_ops.specs.Operation.{operation_of, highest_of, top_of, with_operands, HasOperands, part_of, IsResult}
 use Rattle.bdd_ops.proofs.Parts.{part_of-grows, part_of-value, combine-with, combine-same, top_of-grows, operation_of-grows}
 
 -- growth keeps a result

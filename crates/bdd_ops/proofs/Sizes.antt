@@ -1,20 +1,20 @@
 -- The pairs of triples that a conjunction comes to.
-use Rattle.std.proofs.Common.{◌≡◌, ◌≢◌, ℕ, zero, suc, ◌+◌, ◌-◌, ◌*◌, ◌<◌, ◌≤◌, ◌⊎◌, inl, inr, max, Bool, true, false, cond, ◌||◌, ◌&&◌, ◌==◌, List, [], ◌∷◌, ◌++◌, map, filter, length, Option, None, Some, Result, Ok, Err, OnOk, refl, sym, ap, subst, ◌∙◌, true≢false, arith, length-append}
+use Rattle.std.proofs.Common.{◌≡◌, ℕ, zero, suc, ◌+◌, ◌*◌, ◌<◌, ◌≤◌, ◌⊎◌, inl, inr, Bool, true, false, cond, ◌||◌, ◌==◌, List, [], ◌∷◌, ◌++◌, map, filter, length, Option, None, Some, refl, sym, ap, subst, ◌∙◌, true≢false, arith, length-append}
 use Rattle.std.specs.List.{list_any, range_with_len}
 use Rattle.std.specs.Option.{option_map_or}
-use Rattle.std.proofs.lemmas.Bool.{eq-eqb, eqb-true, cases_lt, cases_eq}
+use Rattle.std.proofs.lemmas.Bool.{eq-eqb, eqb-true, cases_eq}
 use Rattle.std.specs.Cmp.Derive.{both_true}
 use Rattle.bdd_nodes.specs.declared.triple.Triple.{Triple}
-use Rattle.bdd_nodes.specs.Table.{node_of, level_of, Has, IsGood, IsGoodNode}
+use Rattle.bdd_nodes.specs.Table.{node_of, Has, IsGood, IsGoodNode}
 use Rattle.bdd_nodes.proofs.Tables.{node_of-some}
 use Rattle.bdd_ops.specs.declared.key.Key.{Key}
-use Rattle.bdd_ops.specs.declared.key.Key.TheVariants.{Not, And, Or, Iff, Ite}
+use Rattle.bdd_ops.specs.declared.key.Key.TheVariants.{And}
 use Rattle.bdd_ops.specs.declared.operation.Operation.{Operation}
 use Rattle.bdd_ops.specs.declared.operation.Operation.TheVariants as operation
 use Rattle.bdd_ops.specs.Operation.{key_of, IsOpen, top_of, with_operands, part_of, HasOperands}
 use Rattle.bdd_nodes.specs.Size.{reaches_in, reached, size_of}
 use Rattle.bdd_ops.specs.Cost as cost
-use Rattle.bdd_ops.proofs.Parts.{part_of-at, part_of-off, part_of-constant}
+use Rattle.bdd_ops.proofs.Parts.{part_of-at, part_of-off}
 use Rattle.bdd_ops.proofs.Memo.{same_key, same_key-true}
 use Rattle.bdd_ops.proofs.Costs.{among, cases, or-cases, or-right, IsFront-length}
 

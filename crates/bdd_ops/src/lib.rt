@@ -6,6 +6,8 @@ mod engine;
 mod key;
 mod operand;
 mod operation;
+#[cfg(test)]
+mod tests;
 
 pub use engine::Engine;
 pub use key::Key;

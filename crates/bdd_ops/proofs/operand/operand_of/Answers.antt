@@ -1,5 +1,4 @@
 use Rattle.std.proofs.Common.{◌≡◌, ℕ, Bool, true, false, ◌==◌, if◌then◌else◌, sym, ◌∙◌, refl}
-use Rattle.bdd_nodes.specs.declared.triple.Triple.{Triple}
 use Rattle.bdd_ops.proofs.Parts.{part_of-node, part_of-none}
 use Rattle.bdd_ops.proofs.operand.operand_of.Goals as goal
 

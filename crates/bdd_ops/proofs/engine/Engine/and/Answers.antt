@@ -1,4 +1,4 @@
-use Rattle.std.proofs.Common.{arith, ◌≡◌, ◌≤◌, ◌+◌, ◌*◌, ℕ, Result, Ok, Err, OnOk, OnErr}
+use Rattle.std.proofs.Common.{arith, Result, Ok, Err, OnOk, OnErr}
 use Rattle.bdd_ops.proofs.Sizes.{steps-and, steps-and_refused}
 use Rattle.bdd_ops.specs.declared.operation.Operation.TheVariants.{And}
 use Rattle.bdd_ops.proofs.Apply.{value-before, count-whole}

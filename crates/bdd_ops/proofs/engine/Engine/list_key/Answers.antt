@@ -1,5 +1,4 @@
-use Rattle.std.proofs.Common.{◌≡◌, ◌≢◌, ℕ, List, Some, None, slice_get, position, refl, sym, ap, ◌∙◌}
-use Rattle.bdd_ops.specs.Engine.{lists_of}
+use Rattle.std.proofs.Common.{Some, position, refl, sym, ap, ◌∙◌}
 use Rattle.bdd_ops.proofs.Lists.{is_list, place-some, place-none}
 use Rattle.bdd_ops.proofs.engine.Engine.list_key.Goals as goal
 

@@ -1,4 +1,3 @@
-use Rattle.std.proofs.Common.{arith}
 use Rattle.bdd_ops.specs.declared.operation.Operation.TheVariants.{Not}
 use Rattle.bdd_ops.proofs.Apply.{value-before, count-whole}
 use Rattle.bdd_ops.proofs.engine.Engine.not.Goals as goal

@@ -1,6 +1,5 @@
-use Rattle.std.proofs.Common.{◌≡◌, ℕ, ◌+◌, ◌<◌, ◌≤◌, ◌⊎◌, inl, inr, min, List, arith, sym, ap, subst, ◌∙◌}
+use Rattle.std.proofs.Common.{inl, inr, arith, sym, ap, subst, ◌∙◌}
 use Rattle.lru.specs.LruCache.{put_entries}
-use Rattle.bdd_ops.specs.Operation.{key_of}
 use Rattle.bdd_ops.specs.Answer.{IsAnswer}
 use Rattle.bdd_ops.specs.Engine.{lists_of}
 use Rattle.bdd_ops.proofs.AnswerLemmas.{result-answer}

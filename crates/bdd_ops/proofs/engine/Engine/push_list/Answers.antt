@@ -1,6 +1,5 @@
-use Rattle.std.proofs.Common.{◌≡◌, ◌≢◌, ◌⊎◌, inl, inr, ℕ, List, [], ◌∷◌, ◌++◌, Some, slice_get, is_ok, sym, subst}
-use Rattle.bdd_ops.specs.declared.key.Key.{Key}
-use Rattle.bdd_ops.specs.Answer.{IsAnswer, lists_in}
+use Rattle.std.proofs.Common.{◌≡◌, inl, inr, ℕ, List, [], ◌∷◌, Some, slice_get, is_ok, sym, subst}
+use Rattle.bdd_ops.specs.Answer.{IsAnswer}
 use Rattle.bdd_ops.specs.Engine.{lists_of}
 use Rattle.bdd_ops.proofs.AnswerLemmas.{IsAnswer-more_lists}
 use Rattle.bdd_ops.proofs.Lists.{lists_in-pushed, once-push}

@@ -2,7 +2,7 @@ use Rattle.std.proofs.Common.{sym, ◌∙◌, ◌≤◌, length, arith, Contains
 use Rattle.bdd_ops.proofs.Costs.{promoted-length}
 use Rattle.bdd_ops.specs.Answer.{IsAnswer}
 use Rattle.bdd_ops.specs.Engine.{lists_of}
-use Rattle.bdd_ops.proofs.Memo.{entries-promoted, entry-found, same_key}
+use Rattle.bdd_ops.proofs.Memo.{entries-promoted, entry-found}
 use Rattle.bdd_ops.proofs.engine.Engine.recall.Goals as goal
 
 pub invariant_of-self-clause-true_entries : goal.invariant_of-self-clause-true_entries
