@@ -1,0 +1,4 @@
+pub mod Table
+pub mod Size
+pub mod Store
+pub mod Refusal

@@ -1,0 +1,10 @@
+use Rattle.std.proofs.Common.{arith}
+use Rattle.bdd_ops.specs.declared.operation.Operation.TheVariants.{Ite}
+use Rattle.bdd_ops.proofs.Apply.{value-before, count-whole}
+use Rattle.bdd_ops.proofs.engine.Engine.ite.Goals as goal
+
+pub returns-clause-value : goal.returns-clause-value
+returns-clause-value g c = value-before c.args.self.now.store c.apply.new.self.store c.apply.ensures.grows (Ite c.args.f c.args.g c.args.h) (omega arith) c.apply.result c.apply.ensures.answer
+
+pub returns-clause-count : goal.returns-clause-count
+returns-clause-count g c = count-whole _ _ _ _ c.apply.ensures.count

@@ -1,0 +1,9 @@
+use Rattle.bdd_ops.specs.declared.operation.Operation.TheVariants.{Not}
+use Rattle.bdd_ops.proofs.Apply.{value-before, count-whole}
+use Rattle.bdd_ops.proofs.engine.Engine.not.Goals as goal
+
+pub returns-clause-value : goal.returns-clause-value
+returns-clause-value g c = value-before c.args.self.now.store c.apply.new.self.store c.apply.ensures.grows (Not c.args.f) c.requires c.apply.result c.apply.ensures.answer
+
+pub returns-clause-count : goal.returns-clause-count
+returns-clause-count g c = count-whole _ _ _ _ c.apply.ensures.count

@@ -1,0 +1,6 @@
+pub mod Operation
+pub mod Operand
+pub mod Result
+pub mod Answer
+pub mod Cost
+pub mod Engine

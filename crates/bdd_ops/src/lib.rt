@@ -1,0 +1,13 @@
+//! Operations on reduced ordered binary decision diagrams (Bryant), which remember earlier answers
+//! in a cache of bounded size.
+#![tactic(auto)]
+
+mod engine;
+mod key;
+mod operand;
+mod operation;
+#[cfg(test)]
+mod tests;
+
+pub use engine::Engine;
+pub use key::Key;
