@@ -1,0 +1,7 @@
+//! Tokens to the models of programs.
+#![tactic(auto)]
+
+mod refusals;
+mod tokens;
+
+pub use refusals::FirstRefusal;

@@ -1,0 +1,57 @@
+//! What stands at the front of a list of tokens.
+
+ghost use Rattle.std.specs.Prelude.{◌≡◌, ◌<◌, ◌∷◌, List, [], ℕ, length, IfSome, IfNone};
+ghost use Rattle.smv_lexer.specs.Text.{Kind, Placed};
+ghost use Rattle.smv_lexer.specs.View.{views};
+ghost use Rattle.smv_parser.specs.Words.{BeginsOn, Then};
+
+use kripke_model::Name;
+use smv_lexer::{Keyword, Sign, Token, TokenKind};
+
+/// The tokens after a reserved word.
+pub fn after_key(tokens: &[Token], key: Keyword) -> Option<&[Token]>
+    ensures some { IfSome result (λ rest. Then (Kind.key key) (views tokens.now) (views rest.now)) }
+    ensures none { IfNone result ((rest : List Placed) → Then (Kind.key key) (views tokens.now) rest → ⊥) }
+    ensures shorter { IfSome result (λ rest. length rest.now < length tokens.now) }
+{
+    let (token, rest) = tokens.split_first()?;
+    match &token.kind {
+        TokenKind::Key(other) => { if *other == key { Some(rest) } else { None } }
+        TokenKind::Word(_) | TokenKind::Number(_) | TokenKind::Sign(_) => None,
+    }
+}
+
+/// The tokens after a sign.
+pub fn after_sign(tokens: &[Token], sign: Sign) -> Option<&[Token]>
+    ensures some { IfSome result (λ rest. Then (Kind.mark sign) (views tokens.now) (views rest.now)) }
+    ensures none { IfNone result ((rest : List Placed) → Then (Kind.mark sign) (views tokens.now) rest → ⊥) }
+    ensures shorter { IfSome result (λ rest. length rest.now < length tokens.now) }
+{
+    let (token, rest) = tokens.split_first()?;
+    match &token.kind {
+        TokenKind::Sign(other) => { if *other == sign { Some(rest) } else { None } }
+        TokenKind::Word(_) | TokenKind::Number(_) | TokenKind::Key(_) => None,
+    }
+}
+
+/// A name and the tokens after it.
+pub fn after_word(tokens: &[Token]) -> Option<(&Name, &[Token])>
+    ensures some { IfSome result (λ x. Then (Kind.word x.0.now) (views tokens.now) (views x.1.now)) }
+    ensures none { IfNone result ((name : List ℕ) (rest : List Placed) → Then (Kind.word name) (views tokens.now) rest → ⊥) }
+    ensures shorter { IfSome result (λ x. length x.1.now < length tokens.now) }
+{
+    let (token, rest) = tokens.split_first()?;
+    match &token.kind {
+        TokenKind::Word(name) => Some((name, rest)),
+        TokenKind::Number(_) | TokenKind::Key(_) | TokenKind::Sign(_) => None,
+    }
+}
+
+/// The line of the first token.
+pub fn first_line(tokens: &[Token]) -> Option<u32>
+    ensures some { IfSome result (λ line. BeginsOn line (views tokens.now)) }
+    ensures none { IfNone result (views tokens.now ≡ []) }
+{
+    let (token, _) = tokens.split_first()?;
+    Some(token.line)
+}
