@@ -50,3 +50,12 @@ truth_once true true e = refl
 truth_once false false e = refl
 truth_once true false e = cc
 truth_once false true e = cc
+
+pub no_connective : (ts : List Placed) → ((a : List Placed) → Then (mark Sign.And) ts a → ⊥) → ((a : List Placed) → Then (mark Sign.Or) ts a → ⊥)
+    → ((a : List Placed) → Then (mark Sign.Implies) ts a → ⊥) → ((a : List Placed) → Then (mark Sign.Iff) ts a → ⊥)
+    → (op : BinOp) (a : List Placed) → ThenConnective op ts a → ⊥
+no_connective ts p q r s BinOp.And a h = p a h
+no_connective ts p q r s BinOp.Or a h = q a h
+no_connective ts p q r s BinOp.Implies a h = r a h
+no_connective ts p q r s BinOp.Iff a h = s a h
+no_connective ts p q r s op a h = h

@@ -13,7 +13,7 @@ use Rattle.smv_parser.specs.FirstForm.{IsDistinct}
 use Rattle.smv_parser.proofs.Fronts.{then_kind, then_rest, connective_once, connective_or_close, truth_once}
 
 -- how an expression begins, as a number
-lead : Kind → ℕ
+unfoldable pub lead : Kind → ℕ
 lead (Kind.number n) = 1
 lead (word x) = 2
 lead (key k) = 3
@@ -21,7 +21,7 @@ lead (mark Sign.Not) = 4
 lead (mark Sign.OpenParen) = 5
 lead (mark s) = 6
 
-lead_of : Written → ℕ
+unfoldable pub lead_of : Written → ℕ
 lead_of (Written.number n) = 1
 lead_of (Written.name x) = 2
 lead_of (Written.truth b) = 3
@@ -34,7 +34,7 @@ unfolding lead
 truth_lead true = refl
 truth_lead false = refl
 
-leads : (e : Written) (ts rest : List Placed) → Writes ts e rest → (k : Kind) × (a : List Placed) × Then k ts a × (lead k ≡ lead_of e)
+pub leads : (e : Written) (ts rest : List Placed) → Writes ts e rest → (k : Kind) × (a : List Placed) × Then k ts a × (lead k ≡ lead_of e)
 unfolding lead lead_of
 leads (Written.number n) ts rest p = (Kind.number n, rest, p.0, refl)
 leads (Written.name x) ts rest p = (word x, rest, p, refl)
@@ -49,7 +49,7 @@ same_lead e f ts a b p q =
     let y = leads f ts b q in
     sym x.3 ∙ ap lead (then_kind x.0 y.0 ts x.1 y.1 x.2 y.2) ∙ y.3
 
-moved : (e : Written) (ts us rest : List Placed) → ts ≡ us → Writes ts e rest → Writes us e rest
+pub moved : (e : Written) (ts us rest : List Placed) → ts ≡ us → Writes ts e rest → Writes us e rest
 moved e ts us rest h p = subst (λ (z : List Placed). Writes z e rest) h p
 
 pub writes_once : (e f : Written) (ts a b : List Placed) → Writes ts e a → Writes ts f b → (e ≡ f) × (a ≡ b)

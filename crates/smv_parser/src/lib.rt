@@ -1,6 +1,7 @@
 //! Tokens to the models of programs.
 #![tactic(auto)]
 
+mod expression;
 mod refusals;
 mod tokens;
 
