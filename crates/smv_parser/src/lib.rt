@@ -1,6 +1,7 @@
 //! Tokens to the models of programs.
 #![tactic(auto)]
 
+mod declarations;
 mod expression;
 mod refusals;
 mod tokens;

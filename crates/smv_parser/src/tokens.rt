@@ -90,10 +90,9 @@ pub fn after_connective(tokens: &[Token]) -> Option<(BinOp, &[Token])>
 }
 
 /// The line of the first token.
-pub fn first_line(tokens: &[Token]) -> Option<u32>
-    ensures some { IfSome result (λ line. BeginsOn line (views tokens.now)) }
-    ensures none { IfNone result (views tokens.now ≡ []) }
+pub fn first_line(tokens: &[Token]) -> u32
+    requires { 0 < length tokens.now }
+    ensures { BeginsOn result (views tokens.now) }
 {
-    let (token, _) = tokens.split_first()?;
-    Some(token.line)
+    tokens[0].line
 }
