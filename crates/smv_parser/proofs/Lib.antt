@@ -4,3 +4,4 @@ pub mod Readings
 pub mod Loops
 pub mod Pairs
 pub mod Declared
+pub mod Assigned

@@ -1,5 +1,5 @@
 -- One after the other, up to a token that begins none of them.
-use Rattle.std.proofs.Common.{◌≡◌, ℕ, List, [], ◌∷◌, ◌++◌, refl, sym, ◌∙◌, ap, subst}
+use Rattle.std.proofs.Common.{◌≡◌, ℕ, true, false, Option, Some, None, is_some, IfNone, List, [], ◌∷◌, ◌++◌, refl, sym, ◌∙◌, ap, subst}
 use Rattle.smv_lexer.specs.Text.{Kind, Placed}
 use Rattle.smv_parser.specs.Words.{Then, Each}
 use Rattle.smv_parser.proofs.Fronts.{then_kind, then_rest}
@@ -62,3 +62,7 @@ each_once D k ends once out (x ∷ xs) (y ∷ ys) ts a b c d p q r s =
     let f = once ts x y p.0 r.0 p.1 r.1 in
     let g = each_once D k ends once out xs ys p.0 a b c d p.2 q (subst (λ (z : List Placed). Each D z ys c) (sym e) r.2) s in
     (λ i. f i ∷ g.0 i, g.1)
+
+pub at_none : {X : Type 0} (o : Option X) (P : Type 0) → is_some o ≡ false → IfNone o P → P
+at_none None P e h = h
+at_none (Some x) P e h = absurd cc

@@ -274,3 +274,6 @@ no_close vars most ts a b c d op left right p x none q z open_end = parens_refus
       let moved_y = moved f g c k (behind vars most a b c op left x q other e v g w r) y in
       let same = (writes_once f z.expression c k d moved_y z.written).1 in
       open_end rest (subst (λ (l : List Placed). Then (mark Sign.CloseParen) l rest) same s))
+
+pub expressed : (vars : List Variable) (most : ℕ) (ts rest : List Placed) (part : Measured) → Reads vars most ts part rest → Expresses vars most ts (term_of part.expr) rest
+expressed vars most ts rest part x = record { expression = x.expression; written = x.written; shallow = x.shallow; means = x.means }

@@ -1,6 +1,7 @@
 //! Tokens to the models of programs.
 #![tactic(auto)]
 
+mod assignments;
 mod declarations;
 mod expression;
 mod refusals;
