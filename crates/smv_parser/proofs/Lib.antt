@@ -5,3 +5,5 @@ pub mod Loops
 pub mod Pairs
 pub mod Declared
 pub mod Assigned
+pub mod Specified
+pub mod Whole
