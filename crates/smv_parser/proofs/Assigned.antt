@@ -159,8 +159,8 @@ pub assigned_new : (assigns : List Assignment) (i : ℕ) (a : Assignment) → a 
     → PairsBelow (λ x y. x.part ≡ y.part → x.var ≢ y.var) assigns i → PairsBelow (λ x y. x.part ≡ y.part → x.var ≢ y.var) assigns (i + 1)
 assigned_new assigns i a at below none p = pairs_more (λ x y. x.part ≡ y.part → x.var ≢ y.var) assigns i below p
     (λ j d less part var.
-      let len : length (take i assigns) ≡ i = length-take-le i assigns (omega arith) in
-      let same : get_or (take i assigns) j d ≡ get_or assigns j d = get_or-take i assigns j d less in
-      let here : get_or assigns i d ≡ a = get_or_default assigns i d a below ∙ sym at in
-      none j d (omega arith) (ap (λ (x : Assignment). x.part) same ∙ part ∙ ap (λ (x : Assignment). x.part) here)
-      (ap (λ (x : Assignment). x.var) same ∙ var ∙ ap (λ (x : Assignment). x.var) here))
+    let len : length (take i assigns) ≡ i = length-take-le i assigns (omega arith) in
+    let same : get_or (take i assigns) j d ≡ get_or assigns j d = get_or-take i assigns j d less in
+    let here : get_or assigns i d ≡ a = get_or_default assigns i d a below ∙ sym at in
+    none j d (omega arith) (ap (λ (x : Assignment). x.part) same ∙ part ∙ ap (λ (x : Assignment). x.part) here)
+    (ap (λ (x : Assignment). x.var) same ∙ var ∙ ap (λ (x : Assignment). x.var) here))

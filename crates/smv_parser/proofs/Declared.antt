@@ -72,6 +72,9 @@ pub name_new : (vars : List Variable) (i : ℕ) (x : List ℕ) (v : Variable) (f
 name_new vars i x v (Some j) e at below none h p = absurd cc
 name_new vars i x v None e at below none h p = pairs_more (λ a b. a.name ≢ b.name) vars i below p
     (λ j d less same.
-      let len : length (take i vars) ≡ i = length-take-le i vars (omega arith) in
-      h j (omega arith, λ c. ap (λ (w : Variable). w.name) (get_or-take i vars j c less ∙ get_or_default vars j c d (omega arith)) ∙ same
-          ∙ ap (λ (w : Variable). w.name) (get_or_default vars i d v below ∙ sym at) ∙ sym e))
+    let len : length (take i vars) ≡ i = length-take-le i vars (omega arith) in
+    h j (
+      omega arith,
+      λ c. ap (λ (w : Variable). w.name) (get_or-take i vars j c less ∙ get_or_default vars j c d (omega arith)) ∙ same
+          ∙ ap (λ (w : Variable). w.name) (get_or_default vars i d v below ∙ sym at) ∙ sym e,
+    ))

@@ -239,17 +239,17 @@ pub no_operator : (vars : List Variable) (most : ℕ) (ts a b : List Placed) (le
 unfolding NoBinary
 no_operator vars most ts a b left p x none other = parens_refused vars most ts a p (unclosed vars most a b left x none)
     (λ op e f t u c d g rest w q y r h m n.
-      let k = (writes_once e x.expression a c b w x.written).1 in
-      other op d (subst (λ (z : List Placed). ThenConnective op z d) k q))
+    let k = (writes_once e x.expression a c b w x.written).1 in
+    other op d (subst (λ (z : List Placed). ThenConnective op z d) k q))
 
 pub left_too_deep : (vars : List Variable) (most : ℕ) (ts a b : List Placed) (left : Measured) → Then (mark Sign.OpenParen) ts a → Reads vars (most - 1) a left b
     → ((r : List Placed) → Then (mark Sign.CloseParen) b r → ⊥) → most < left.depth + 2 → NoExpression vars most ts
 unfolding NoBinary
 left_too_deep vars most ts a b left p x none deep = parens_refused vars most ts a p (unclosed vars most a b left x none)
     (λ op e f t u c d g rest w q y r h m n.
-      let k = ap depth (writes_once e x.expression a c b w x.written).0 in
-      let s : left.depth ≡ depth x.expression = x.depth_is in
-      omega (arith, k))
+    let k = ap depth (writes_once e x.expression a c b w x.written).0 in
+    let s : left.depth ≡ depth x.expression = x.depth_is in
+    omega (arith, k))
 
 -- where c is what stands behind the connective
 behind : (vars : List Variable) (most : ℕ) (a b c : List Placed) (op : BinOp) (left : Measured) → Reads vars (most - 1) a left b → ThenConnective op b c
@@ -263,7 +263,7 @@ pub no_right : (vars : List Variable) (most : ℕ) (ts a b c : List Placed) (op 
 unfolding NoBinary
 no_right vars most ts a b c op left p x none q missing = parens_refused vars most ts a p (unclosed vars most a b left x none)
     (λ other e f t u d g k rest w r y s h m n.
-      missing u k record { expression = f; written = moved f g c k (behind vars most a b c op left x q other e d g w r) y; shallow = omega arith; means = n })
+    missing u k record { expression = f; written = moved f g c k (behind vars most a b c op left x q other e d g w r) y; shallow = omega arith; means = n })
 
 pub no_close : (vars : List Variable) (most : ℕ) (ts a b c d : List Placed) (op : BinOp) (left right : Measured) → Then (mark Sign.OpenParen) ts a → Reads vars (most - 1) a left b
     → ((r : List Placed) → Then (mark Sign.CloseParen) b r → ⊥) → ThenConnective op b c → Reads vars (most - 2) c right d
@@ -271,9 +271,9 @@ pub no_close : (vars : List Variable) (most : ℕ) (ts a b c d : List Placed) (o
 unfolding NoBinary
 no_close vars most ts a b c d op left right p x none q z open_end = parens_refused vars most ts a p (unclosed vars most a b left x none)
     (λ other e f t u v g k rest w r y s h m n.
-      let moved_y = moved f g c k (behind vars most a b c op left x q other e v g w r) y in
-      let same = (writes_once f z.expression c k d moved_y z.written).1 in
-      open_end rest (subst (λ (l : List Placed). Then (mark Sign.CloseParen) l rest) same s))
+    let moved_y = moved f g c k (behind vars most a b c op left x q other e v g w r) y in
+    let same = (writes_once f z.expression c k d moved_y z.written).1 in
+    open_end rest (subst (λ (l : List Placed). Then (mark Sign.CloseParen) l rest) same s))
 
 pub expressed : (vars : List Variable) (most : ℕ) (ts rest : List Placed) (part : Measured) → Reads vars most ts part rest → Expresses vars most ts (term_of part.expr) rest
 expressed vars most ts rest part x = record { expression = x.expression; written = x.written; shallow = x.shallow; means = x.means }

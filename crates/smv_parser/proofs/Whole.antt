@@ -120,9 +120,9 @@ rights_total [] t = omega arith
 rights_total (a ∷ assigns) t =
     let h = rights_total assigns t in
     let e : sum_by node_count (map (λ (x : Assignment). x.right) (a ∷ assigns) ++ t ∷ []) ≡ node_count a.right + sum_by node_count (map (λ (x : Assignment). x.right) assigns ++ t ∷ []) =
-      sum_by-cons node_count a.right (map (λ (x : Assignment). x.right) assigns ++ t ∷ []) in
+    sum_by-cons node_count a.right (map (λ (x : Assignment). x.right) assigns ++ t ∷ []) in
     let f : sum_by (λ (x : Assignment). node_count x.right) (a ∷ assigns) ≡ node_count a.right + sum_by (λ (x : Assignment). node_count x.right) assigns =
-      sum_by-cons (λ (x : Assignment). node_count x.right) a assigns in
+    sum_by-cons (λ (x : Assignment). node_count x.right) a assigns in
     omega (arith, h, e, f)
 
 pub nodes_of : (vars : List Variable) (assigns : List Assignment) (t : Term) (line : ℕ) → node_total (model_of vars assigns t line) ≡ sum_by (λ a. node_count a.right) assigns + (1 + node_count t)
@@ -168,7 +168,7 @@ too_many_nodes ts vars assigns t line rest spec o read once s many m p w =
     let c = specification_once vars spec p.condition (always t line) o.distinct b s in
     let d : m.specs ≡ always t line ∷ [] = p.specs ∙ ap (λ (x : Condition). x ∷ []) c in
     let same : node_total m ≡ node_total (model_of vars assigns t line) =
-      λ i. sum_by node_count (map (λ (x : Assignment). x.right) (e.1 i) ++ map (λ (x : Condition). x.expr) (p.inits i ++ p.trans i ++ p.constraints i ++ d i)) in
+    λ i. sum_by node_count (map (λ (x : Assignment). x.right) (e.1 i) ++ map (λ (x : Condition). x.expr) (p.inits i ++ p.trans i ++ p.constraints i ++ d i)) in
     let few : node_total m ≤ most_nodes = w.nodes in
     omega (arith, same, nodes_of vars assigns t line)
 

@@ -41,10 +41,7 @@ fn booleans(alloc: Global) -> Result<Vec<Value>, AllocError>
 }
 
 /// One declaration, and the tokens after it.
-fn read_declaration(
-    alloc: Global,
-    tokens: &[Token],
-) -> Result<(FlatVar, &[Token]), FirstRefusal>
+fn read_declaration(alloc: Global, tokens: &[Token]) -> Result<(FlatVar, &[Token]), FirstRefusal>
     ensures read { IfOk result (λ x. Declares (views tokens.now) x.0 (views x.1.now)) }
     ensures shorter { IfOk result (λ x. length x.1.now < length tokens.now) }
     ensures refused { IfErr result (λ r. r ≡ FirstRefusal.NotBuilt → (v : Variable) (rest : List Placed) → Declares (views tokens.now) v rest → ⊥) }

@@ -47,10 +47,7 @@ fn is_end(tokens: &[Token]) -> bool
 }
 
 /// The variables, and the tokens after `ASSIGN`.
-fn read_variables(
-    alloc: Global,
-    tokens: &[Token],
-) -> Result<(Vec<FlatVar>, &[Token]), FirstRefusal>
+fn read_variables(alloc: Global, tokens: &[Token]) -> Result<(Vec<FlatVar>, &[Token]), FirstRefusal>
     ensures read { IfOk result (λ x. Opens (views tokens.now) x.0.items (views x.1.now)) }
     ensures refused { IfErr result (λ r. r ≡ FirstRefusal.NotBuilt → (vars : List Variable) (rest : List Placed) → Opens (views tokens.now) vars rest → ⊥) }
 {
@@ -156,4 +153,77 @@ pub fn one_model()
     ensures { (bytes : List ℕ) (m n : System) → IsFirstForm bytes m → IsFirstForm bytes n → m ≡ n }
 {
     one_answer();
+}
+
+#[cfg(test)]
+mod tests {
+    use super::read_first;
+    use crate::refusals::FirstRefusal;
+    use std::alloc::Global;
+    use std::test::Fail;
+
+    const SWAP: &[u8] =
+        b"MODULE main\nVAR\n  a : boolean;\n  b : boolean;\nASSIGN\n  init(a) := 0;\n  init(b) := 1;\n  next(a) := b;\n  next(b) := a;\nSPEC AG (a | b)\n";
+
+    #[test]
+    fn swap(rt: HostRuntime) {
+        let Ok(model) = read_first(rt.alloc(), SWAP) else {
+            panic!(rt; "refused")
+        };
+        assert_eq!(rt; model.flat.vars.len(), 2);
+        assert_eq!(rt; model.flat.assigns.len(), 4);
+        assert_eq!(rt; model.flat.specs.len(), 1);
+        if let Some(spec) = model.flat.specs.get(0) {
+            assert_eq!(rt; spec.line, 10);
+        }
+    }
+
+    #[test]
+    fn table(rt: HostRuntime) {
+        let rows: [(&[u8], bool); 9] = [
+            (b"", false),
+            (b"MODULE main VAR ASSIGN SPEC AG 1", true),
+            (b"MODULE main VAR a : boolean; ASSIGN SPEC AG a;", true),
+            (b"MODULE main VAR a : boolean; ASSIGN SPEC AF a", false),
+            (b"MODULE main VAR a : boolean; ASSIGN SPEC AG b", false),
+            (
+                b"MODULE main VAR a : boolean; ASSIGN init(a) := 0; init(a) := 0; SPEC AG a",
+                false,
+            ),
+            (b"MODULE main VAR a : boolean; ASSIGN SPEC AG 2", false),
+            (
+                b"MODULE main VAR a : boolean; b : boolean; c : boolean; d : boolean; e : boolean; f : boolean; g : boolean; h : boolean; i : boolean; j : boolean; k : boolean; l : boolean; ASSIGN SPEC AG l",
+                true,
+            ),
+            (
+                b"MODULE main VAR a : boolean; b : boolean; c : boolean; d : boolean; e : boolean; f : boolean; g : boolean; h : boolean; i : boolean; j : boolean; k : boolean; l : boolean; m : boolean; ASSIGN SPEC AG l",
+                false,
+            ),
+        ];
+        for (text, accepted) in rows {
+            let read = read_first(rt.alloc(), text);
+            assert!(rt; !matches!(&read, Err(FirstRefusal::Memory)));
+            assert!(rt; read.is_ok() == accepted);
+        }
+    }
+
+    // A specification with so many signs `!` before its variable, one less than its depth without `AG`.
+    fn is_read(alloc: Global, negations: usize) -> Result<bool, Fail> {
+        let mut text = Vec::from_slice(
+            alloc,
+            b"MODULE main VAR a : boolean; ASSIGN SPEC AG ".as_slice(),
+        )?;
+        for _ in 0..negations {
+            text.push(b'!')?;
+        }
+        text.push(b'a')?;
+        Ok(read_first(alloc, &text).is_ok())
+    }
+
+    #[test]
+    fn depth(rt: HostRuntime) -> Result<(), Fail> {
+        assert!(rt; is_read(rt.alloc(), 254)?);
+        assert!(rt; !is_read(rt.alloc(), 255)?);
+        Ok(())
+    }
 }

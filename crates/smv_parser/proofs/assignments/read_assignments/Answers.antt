@@ -22,9 +22,9 @@ pub loop-alloc-preserved : goal.loop-alloc-preserved
 loop-alloc-preserved c =
     let more : c.push.new.self.items ≡ c.loop-alloc.assigns.items ++ c.in_ok-assign.assign ∷ [] = search rules in
     let none : (r : List Placed) → Then (Kind.key Keyword.Spec) (views c.loop-alloc.rest.now) r → ⊥ =
-      at_none c.after_key.result _ (sym c.is_some.ensures ∙ c.if-is_some.false) c.after_key.ensures.none in
+    at_none c.after_key.result _ (sym c.is_some.ensures ∙ c.if-is_some.false) c.after_key.ensures.none in
     let count : sum_by (λ (a : Assignment). node_count a.right) c.push.new.self.items ≡ sum_by (λ (a : Assignment). node_count a.right) c.loop-alloc.assigns.items + node_count c.in_ok-assign.assign.right =
-      ap (sum_by (λ (a : Assignment). node_count a.right)) more ∙ sum_by-append (λ (a : Assignment). node_count a.right) c.loop-alloc.assigns.items (c.in_ok-assign.assign ∷ []) ∙ omega arith in
+    ap (sum_by (λ (a : Assignment). node_count a.right)) more ∙ sum_by-append (λ (a : Assignment). node_count a.right) c.loop-alloc.assigns.items (c.in_ok-assign.assign ∷ []) ∙ omega arith in
     record {
       reached = subst (λ (xs : List Assignment). Reached (Assigns c.args.vars.now) (Kind.key Keyword.Spec) (views c.args.tokens.now) xs (views c.in_ok-assign.after.now)) (sym more)
           (each_step (Assigns c.args.vars.now) (Kind.key Keyword.Spec) (views c.args.tokens.now) c.loop-alloc.assigns.items (views c.loop-alloc.rest.now) (views c.in_ok-assign.after.now) c.in_ok-assign.assign

@@ -9,6 +9,6 @@ no_views (t ∷ ts) e = absurd cc
 
 pub returns-in-None-clause-no : goal.returns-in-None-clause-no
 returns-in-None-clause-no c = λ e ends. elim ends [
-  inl p ↦ let q = ap (λ (n : ℕ). nat_eq n 0) (no_views c.args.tokens.now p) in absurd (cc (e, q, c.is_empty-in-None.ensures))
+  | inl p ↦ let q = ap (λ (n : ℕ). nat_eq n 0) (no_views c.args.tokens.now p) in absurd (cc (e, q, c.is_empty-in-None.ensures))
   | inr p ↦ c.in-None.ensures.none [] p
 ]

@@ -15,8 +15,8 @@ pub returns-in_err-program-clause-refused : goal.returns-in_err-program-clause-r
 returns-in_err-program-clause-refused c =
     let p = err_from_is_err_and c.from_residual.result c.from_residual.ensures.1 in
     rw (p.1, p.2) (λ e m f.
-      let same = sym (c.in-Ok.ensures.only f.tokens f.lexes f.size) ∙ ap views (sym c.deref.ensures.value) in
-      c.in_err-program.ensures.refused e m (subst (λ (ts : List Placed). Models ts m) same f.models) f.within)
+    let same = sym (c.in-Ok.ensures.only f.tokens f.lexes f.size) ∙ ap views (sym c.deref.ensures.value) in
+    c.in_err-program.ensures.refused e m (subst (λ (ts : List Placed). Models ts m) same f.models) f.within)
 
 pub ruled-requires-clause-flat : goal.ruled-requires-clause-flat
 ruled-requires-clause-flat c = well_formed (views c.deref.result.now) _ c.in_ok-program.ensures.models

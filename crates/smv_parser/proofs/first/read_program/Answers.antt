@@ -21,7 +21,7 @@ returns-in_err-assigns-clause-refused c =
     let p = err_from_is_err_and c.from_residual-in_err-assigns.result c.from_residual-in_err-assigns.ensures.1 in
     rw (p.1, p.2) (λ e. no_assignments (views c.args.tokens.now) c.in_ok-vars.vars.items (views c.in_ok-vars.rest.now) c.in_ok-vars.ensures.read
     (subst (λ (v : List Variable). (assigns : List Assignment) (spec r : List Placed) → Each (Assigns v) (views c.in_ok-vars.rest.now) assigns spec → Then (Kind.key Keyword.Spec) spec r → ⊥)
-      c.deref.ensures.value (c.in_err-assigns.ensures.refused e)))
+    c.deref.ensures.value (c.in_err-assigns.ensures.refused e)))
 
 pub returns-then-not-are_once-clause-refused : goal.returns-then-not-are_once-clause-refused
 returns-then-not-are_once-clause-refused c = λ e.

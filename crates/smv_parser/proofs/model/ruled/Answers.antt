@@ -16,7 +16,7 @@ invariant_of-result c =
     let formulas : c.push.new.self.items ≡ c.in_ok-always_formula.field-0 ∷ [] = search rules in
     let none : c.new-5.result.items ≡ [] = search rules in
     let formula : ctl_of c.in_ok-always_formula.field-0 ≡ formula_of (Term.Quant PathOp.AG (term_of c.args.program.body)) =
-      c.in_ok-always_formula.ensures ∙ sym (invariant_formula (term_of c.args.program.body) c.requires.body) in
+    c.in_ok-always_formula.ensures ∙ sym (invariant_formula (term_of c.args.program.body) c.requires.body) in
     let good : IsRuled m c.push.new.self.items c.new-5.result.items = record {
       flat = c.requires.flat;
       formulas_are = ap (map ctl_of) formulas ∙ ap (λ (f : Ctl). f ∷ []) formula;
