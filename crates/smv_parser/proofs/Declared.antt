@@ -1,12 +1,12 @@
 -- A declaration is read in one way.
-use Rattle.std.proofs.Common.{◌≡◌, ◌≢◌, ℕ, suc, ◌+◌, ◌<◌, true, false, List, [], ◌∷◌, length, get_or, take, Option, Some, None, is_some, IfSome, IfNone, refl, sym, ◌∙◌, ap, subst, arith}
+use Rattle.std.proofs.Common.{◌≡◌, ◌≢◌, ℕ, ◌+◌, ◌<◌, true, false, List, length, get_or, take, Option, Some, None, is_some, IfSome, IfNone, sym, ◌∙◌, ap, subst, arith}
 use Rattle.std.proofs.lemmas.List.{get_or-take, length-take-le, get_or_default}
 use Rattle.smv_lexer.specs.declared.keyword.Keyword.{Keyword}
 use Rattle.smv_lexer.specs.declared.sign.Sign.{Sign}
 use Rattle.smv_lexer.specs.Text.{Kind, Placed}
 use Rattle.smv_lexer.specs.Text.Kind.{word, key, mark}
 use Rattle.kripke_model.specs.System.{Variable}
-use Rattle.smv_parser.specs.Words.{Then, BeginsOn}
+use Rattle.smv_parser.specs.Words.{Then}
 use Rattle.smv_parser.specs.FirstForm.{Declares, ThenDeclaration, IsDistinct}
 use Rattle.smv_parser.specs.Written.{IsNamed}
 use Rattle.smv_parser.proofs.Fronts.{then_kind, then_rest, line_once}

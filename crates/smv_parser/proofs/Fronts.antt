@@ -1,9 +1,8 @@
 -- What stands at the front of a list of tokens stands there once.
-use Rattle.std.proofs.Common.{◌≡◌, ◌≢◌, ℕ, Bool, true, false, List, [], ◌∷◌, refl, sym, ◌∙◌, ap, subst}
-use Rattle.smv_lexer.specs.declared.keyword.Keyword.{Keyword}
+use Rattle.std.proofs.Common.{◌≡◌, ◌≢◌, ℕ, Bool, true, false, List, [], ◌∷◌, refl, sym, ◌∙◌, ap}
 use Rattle.smv_lexer.specs.declared.sign.Sign.{Sign}
 use Rattle.smv_lexer.specs.Text.{Kind, Placed}
-use Rattle.smv_lexer.specs.Text.Kind.{word, number, key, mark}
+use Rattle.smv_lexer.specs.Text.Kind.{mark}
 use Rattle.kripke_model.specs.declared.expressions.BinOp.{BinOp}
 use Rattle.smv_parser.specs.Words.{Then, BeginsOn}
 use Rattle.smv_parser.specs.Written.{ThenConnective, truth_word}

@@ -1,8 +1,7 @@
 -- One after the other, up to a token that begins none of them.
-use Rattle.std.proofs.Common.{◌≡◌, ℕ, true, false, Option, Some, None, is_some, IfNone, List, [], ◌∷◌, ◌++◌, refl, sym, ◌∙◌, ap, subst}
+use Rattle.std.proofs.Common.{◌≡◌, false, Option, Some, None, is_some, IfNone, List, [], ◌∷◌, ◌++◌, refl, sym, ◌∙◌, subst}
 use Rattle.smv_lexer.specs.Text.{Kind, Placed}
 use Rattle.smv_parser.specs.Words.{Then, Each}
-use Rattle.smv_parser.proofs.Fronts.{then_kind, then_rest}
 
 -- the tokens say where one of these ends
 abbrev pub EndsOnce : {A : Type 0} → (List Placed → A → List Placed → Type 0) → Type 0

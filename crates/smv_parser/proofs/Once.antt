@@ -1,13 +1,11 @@
 -- A list of tokens is one expression at most, up to one rest, and an expression stands for one term.
-use Rattle.std.proofs.Common.{◌≡◌, ◌≢◌, ◌⊎◌, inl, inr, ℕ, ◌<◌, Bool, true, false, List, [], ◌∷◌, length, refl, sym, ◌∙◌, ap, subst, arith}
-use Rattle.std.specs.List.{slice_index_or}
-use Rattle.smv_lexer.specs.declared.keyword.Keyword.{Keyword}
+use Rattle.std.proofs.Common.{◌≡◌, ℕ, ◌<◌, Bool, true, false, List, [], refl, sym, ◌∙◌, ap, subst, arith}
 use Rattle.smv_lexer.specs.declared.sign.Sign.{Sign}
 use Rattle.smv_lexer.specs.Text.{Kind, Placed}
 use Rattle.smv_lexer.specs.Text.Kind.{word, key, mark}
 use Rattle.kripke_model.specs.Term.{Term}
 use Rattle.kripke_model.specs.System.{Variable}
-use Rattle.smv_parser.specs.Words.{Then, Each}
+use Rattle.smv_parser.specs.Words.{Then}
 use Rattle.smv_parser.specs.Written.{Written, Writes, ThenConnective, Means, IsNamed, Expresses, truth_word}
 use Rattle.smv_parser.specs.FirstForm.{IsDistinct}
 use Rattle.smv_parser.proofs.Fronts.{then_kind, then_rest, connective_once, connective_or_close, truth_once}

@@ -1,5 +1,5 @@
 -- What holds of each member and each later one, as far as a loop has come.
-use Rattle.std.proofs.Common.{◌≡◌, ℕ, ◌+◌, ◌<◌, ◌≤◌, ◌⊎◌, inl, inr, List, length, get_or, subst, sym, ap, arith}
+use Rattle.std.proofs.Common.{◌≡◌, ℕ, ◌+◌, ◌<◌, inl, inr, List, length, get_or, subst, arith}
 use Rattle.std.proofs.lemmas.Bool.{cases_lt}
 
 abbrev pub PairsBelow : {A : Type 0} → (A → A → Type 0) → List A → ℕ → Type 0

@@ -1,5 +1,5 @@
 -- The steps of the reader of expressions.
-use Rattle.std.proofs.Common.{◌≡◌, ◌≢◌, ℕ, ◌+◌, ◌-◌, ◌<◌, ◌≤◌, max, Bool, true, false, List, [], ◌∷◌, length, refl, sym, ◌∙◌, ap, subst, arith, pos}
+use Rattle.std.proofs.Common.{◌≡◌, ℕ, ◌+◌, ◌-◌, ◌<◌, ◌≤◌, max, true, false, List, sym, ◌∙◌, ap, subst, arith, pos}
 use Rattle.smv_lexer.specs.declared.keyword.Keyword.{Keyword}
 use Rattle.smv_lexer.specs.declared.sign.Sign.{Sign}
 use Rattle.smv_lexer.specs.Text.{Kind, Placed}
@@ -12,9 +12,9 @@ use Rattle.kripke_model.specs.Reading.{term_of}
 use Rattle.kripke_model.specs.System.{Variable}
 use Rattle.smv_parser.specs.declared.expression.Measured.{Measured}
 use Rattle.smv_parser.specs.Words.{Then}
-use Rattle.smv_parser.specs.Written.{Written, Writes, ThenConnective, Means, IsNamed, Expresses, truth_word, depth}
-use Rattle.smv_parser.specs.Reading.{Reads, NoExpression, IsLeaf, NoLeaf}
-use Rattle.smv_parser.proofs.Fronts.{then_kind, then_rest, connective_once, connective_or_close}
+use Rattle.smv_parser.specs.Written.{Written, Writes, ThenConnective, Means, IsNamed, Expresses, depth}
+use Rattle.smv_parser.specs.Reading.{Reads, NoExpression, NoLeaf}
+use Rattle.smv_parser.proofs.Fronts.{then_kind, then_rest, connective_once}
 use Rattle.smv_parser.proofs.Once.{lead, lead_of, leads, moved, writes_once}
 
 pub some_depth : (e : Written) → 1 ≤ depth e

@@ -1,23 +1,20 @@
 -- What the expressions of the first form are as terms, and that a specification is read in one way.
-use Rattle.std.proofs.Common.{◌≡◌, ◌≢◌, ◌⊎◌, inl, inr, ℕ, zero, suc, ◌+◌, ◌-◌, ◌<◌, ◌≤◌, Bool, true, false, ◌&&◌, ◌||◌, List, [], ◌∷◌, length, get_or, pos, refl, sym, ◌∙◌, ap, subst, arith}
-use Rattle.std.specs.Prelude.{All, IsTrue}
+use Rattle.std.proofs.Common.{◌≡◌, ℕ, zero, suc, ◌-◌, ◌≤◌, Bool, true, false, ◌&&◌, ◌||◌, List, refl, sym, ◌∙◌, ap, subst, arith}
 use Rattle.smv_lexer.specs.declared.keyword.Keyword.{Keyword}
-use Rattle.smv_lexer.specs.declared.sign.Sign.{Sign}
-use Rattle.smv_lexer.specs.Text.{Kind, Placed}
-use Rattle.smv_lexer.specs.Text.Kind.{word, key, mark}
+use Rattle.smv_lexer.specs.Text.{Placed}
+use Rattle.smv_lexer.specs.Text.Kind.{key}
 use Rattle.kripke_model.specs.declared.expressions.BinOp.{BinOp}
 use Rattle.kripke_model.specs.declared.expressions.PathOp.{PathOp}
-use Rattle.kripke_model.specs.declared.expressions.Value.TheVariants.{Number}
 use Rattle.kripke_model.specs.Term.{Term, has_path_operator}
 use Rattle.kripke_model.specs.Ctl.{Ctl, formula_of}
 use Rattle.kripke_model.specs.Small.{is_propositional}
 use Rattle.kripke_model.specs.Evaluable.{IsEvaluable}
 use Rattle.kripke_model.specs.Static.{is_connective}
-use Rattle.kripke_model.specs.System.{Variable, Assignment, Condition, System}
-use Rattle.smv_parser.specs.Words.{Then, BeginsOn, Each, IsEnd}
-use Rattle.smv_parser.specs.Written.{Written, Writes, ThenConnective, Means, IsNamed, Expresses, greatest_depth}
+use Rattle.kripke_model.specs.System.{Variable, Condition, System}
+use Rattle.smv_parser.specs.Words.{Then, IsEnd}
+use Rattle.smv_parser.specs.Written.{Written, Writes, ThenConnective, Means, Expresses, greatest_depth}
 use Rattle.smv_parser.specs.FirstForm.{Specifies, IsDistinct}
-use Rattle.smv_parser.specs.Reading.{NoExpression, always}
+use Rattle.smv_parser.specs.Reading.{NoExpression}
 use Rattle.smv_parser.proofs.Fronts.{then_rest, line_once}
 use Rattle.smv_parser.proofs.Once.{expression_rest, expression_once}
 use Rattle.smv_parser.proofs.Declared.{shifted}

@@ -1,12 +1,11 @@
 -- A text is the program of one model, and that model is small.
-use Rattle.std.proofs.Common.{◌≡◌, ◌≢◌, ◌⊎◌, inl, inr, ℕ, ◌+◌, ◌-◌, ◌<◌, ◌≤◌, Bool, true, false, List, [], ◌∷◌, ◌++◌, length, get_or, map, pos, refl, sym, ◌∙◌, ap, subst, arith}
+use Rattle.std.proofs.Common.{◌≡◌, ◌≢◌, ℕ, ◌+◌, ◌-◌, ◌<◌, ◌≤◌, true, List, [], ◌∷◌, ◌++◌, length, map, refl, sym, ◌∙◌, ap, subst, arith}
 use Rattle.std.specs.Prelude.{All, IsTrue, sum_by, Option, Some, None, IfNone}
 use Rattle.std.proofs.lemmas.List.Elements.{All-nil, All-cons}
 use Rattle.std.proofs.lemmas.List.Sums.{sum_by-cons}
 use Rattle.smv_lexer.specs.declared.keyword.Keyword.{Keyword}
-use Rattle.smv_lexer.specs.declared.sign.Sign.{Sign}
-use Rattle.smv_lexer.specs.Text.{Kind, Placed}
-use Rattle.smv_lexer.specs.Text.Kind.{word, key, mark}
+use Rattle.smv_lexer.specs.Text.{Placed}
+use Rattle.smv_lexer.specs.Text.Kind.{word, key}
 use Rattle.kripke_model.specs.declared.models.Part.{Part}
 use Rattle.kripke_model.specs.declared.expressions.PathOp.{PathOp}
 use Rattle.kripke_model.specs.Term.{Term}
@@ -17,11 +16,11 @@ use Rattle.kripke_model.specs.Evaluable.{IsEvaluable}
 use Rattle.kripke_model.specs.WellFormed.{IsWellFormed}
 use Rattle.kripke_model.specs.System.{Variable, Assignment, Condition, System}
 use Rattle.smv_parser.specs.Words.{Then, Each}
-use Rattle.smv_parser.specs.Written.{Expresses, greatest_depth}
+use Rattle.smv_parser.specs.Written.{greatest_depth}
 use Rattle.smv_parser.specs.FirstForm as form
 use Rattle.smv_parser.specs.FirstForm.{ThenHeader, Declares, Assigns, ThenPart, Specifies, Models, IsWithin, IsFirstForm, IsDistinct, most_variables, most_nodes}
 use Rattle.smv_parser.specs.Reading.{Opens, always, model_of}
-use Rattle.smv_parser.proofs.Fronts.{then_kind, then_rest}
+use Rattle.smv_parser.proofs.Fronts.{then_rest}
 use Rattle.smv_parser.proofs.Loops.{each_once}
 use Rattle.smv_parser.proofs.Declared.{shifted, declaration_ends, declaration_once, no_declaration_at_assign}
 use Rattle.smv_parser.proofs.Assigned.{assignment_ends, assignment_once, no_assignment_at_spec}

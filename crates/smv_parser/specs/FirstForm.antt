@@ -1,5 +1,5 @@
 -- The first form of a program: one module of Boolean variables, their initial and next values, and one invariant.
-use Rattle.std.specs.Prelude.{◌≡◌, ◌≢◌, ℕ, ◌-◌, ◌≤◌, Bool, false, List, [], ◌∷◌, length, AllPairs, pos}
+use Rattle.std.specs.Prelude.{◌≡◌, ◌≢◌, ℕ, ◌-◌, ◌≤◌, false, List, [], ◌∷◌, length, AllPairs, pos}
 use Rattle.smv_lexer.specs.declared.keyword.Keyword.{Keyword}
 use Rattle.smv_lexer.specs.declared.sign.Sign.{Sign}
 use Rattle.smv_lexer.specs.Text.{Placed, Lexes, most_bytes}

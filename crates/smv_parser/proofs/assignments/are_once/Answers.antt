@@ -1,4 +1,4 @@
-use Rattle.std.proofs.Common.{arith, refl}
+use Rattle.std.proofs.Common.{arith}
 use Rattle.smv_parser.proofs.Assigned.{assigned_again, assigned_new}
 use Rattle.smv_parser.proofs.assignments.are_once.Goals as goal
 

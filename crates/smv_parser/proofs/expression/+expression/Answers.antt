@@ -1,8 +1,6 @@
-use Rattle.std.proofs.Common.{◌≡◌, ◌∙◌, ap, arith, rules, refl}
+use Rattle.std.proofs.Common.{arith, refl}
 use Rattle.std.proofs.lemmas.Result.{err_from_is_err_and, IfErr-weaker}
 use Rattle.smv_lexer.specs.View.{views}
-use Rattle.smv_parser.specs.declared.refusals.FirstRefusal.TheVariants.{NotBuilt}
-use Rattle.smv_parser.specs.Reading.{NoExpression}
 use Rattle.smv_parser.proofs.Readings.{too_shallow, no_expression, negation_read, negation_refused, parens_read, binary_read, no_left, no_operator, left_too_deep, no_right, no_close}
 use Rattle.smv_parser.proofs.expression.+expression.Goals as goal
 

@@ -1,10 +1,10 @@
-use Rattle.std.proofs.Common.{◌≡◌, ◌∙◌, ap, arith, ℤ, w32}
+use Rattle.std.proofs.Common.{◌∙◌, ap, arith, ℤ, w32}
 use Rattle.std.proofs.lemmas.Int.{to_z_pos}
 use Rattle.kripke_model.specs.Term.{Term}
 use Rattle.kripke_model.specs.declared.expressions.Value.TheVariants.{Number}
 use Rattle.kripke_model.specs.Reading.{term_of}
 use Rattle.smv_lexer.specs.View.{views}
-use Rattle.smv_parser.proofs.Readings.{name_read, number_read, true_read, false_read, undeclared, too_large, no_leaf}
+use Rattle.smv_parser.proofs.Readings.{name_read, number_read, true_read, false_read, undeclared, no_leaf}
 use Rattle.smv_parser.proofs.expression.read_leaf.Goals as goal
 
 pub returns-in_err-place-clause-none : goal.returns-in_err-place-clause-none

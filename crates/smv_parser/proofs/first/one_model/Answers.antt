@@ -1,4 +1,4 @@
-use Rattle.std.proofs.Common.{List, ◌≡◌, subst, sym}
+use Rattle.std.proofs.Common.{List, subst}
 use Rattle.smv_lexer.specs.Text.{Placed}
 use Rattle.smv_parser.specs.FirstForm.{Models}
 use Rattle.smv_parser.proofs.Whole.{models_once}

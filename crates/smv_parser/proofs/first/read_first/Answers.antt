@@ -1,7 +1,6 @@
-use Rattle.std.proofs.Common.{◌≡◌, ◌∙◌, List, subst, sym, ap}
+use Rattle.std.proofs.Common.{◌∙◌, List, subst, sym, ap}
 use Rattle.std.proofs.lemmas.Result.{err_from_is_err_and}
 use Rattle.kripke_model.specs.Small.{IsSmall}
-use Rattle.kripke_model.specs.System.{System}
 use Rattle.smv_lexer.specs.Text.{Placed}
 use Rattle.smv_lexer.specs.View.{views}
 use Rattle.smv_parser.specs.FirstForm.{Models}

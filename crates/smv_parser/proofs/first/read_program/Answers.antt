@@ -1,4 +1,4 @@
-use Rattle.std.proofs.Common.{◌≡◌, List, rules, arith, subst, sym, ap}
+use Rattle.std.proofs.Common.{List, rules, arith, subst}
 use Rattle.std.proofs.lemmas.Result.{err_from_is_err_and}
 use Rattle.kripke_model.specs.Reading.{term_of}
 use Rattle.kripke_model.specs.System.{Variable, Assignment, Condition}

@@ -1,4 +1,4 @@
-use Rattle.std.proofs.Common.{rules, List, arith, subst}
+use Rattle.std.proofs.Common.{rules, List, subst}
 use Rattle.std.proofs.lemmas.Result.{err_from_is_err_and}
 use Rattle.kripke_model.specs.System.{Variable}
 use Rattle.smv_lexer.specs.View.{views}

@@ -1,6 +1,5 @@
-use Rattle.std.proofs.Common.{◌≡◌, ◌∙◌, List, [], ◌∷◌, map, refl, rules, subst, sym, ap}
+use Rattle.std.proofs.Common.{◌≡◌, ◌∙◌, [], ◌∷◌, map, rules, subst, sym, ap}
 use Rattle.kripke_model.specs.declared.expressions.PathOp.{PathOp}
-use Rattle.kripke_model.specs.declared.expressions.Formula.{Formula}
 use Rattle.kripke_model.specs.Ctl.{Ctl, formula_of}
 use Rattle.kripke_model.specs.Reading.{term_of}
 use Rattle.kripke_model.specs.Term.{Term}
