@@ -19,7 +19,8 @@ use crate::refusals::FirstRefusal;
 use crate::tokens::{after_key, after_sign, after_word, first_line};
 use kripke_model::expressions::Expr;
 use kripke_model::models::{Assign, FlatVar, Ruled};
-use smv_lexer::{Keyword, LexRefusal, Sign, Token, lex, one_answer};
+use smv_lexer::laws::one_answer;
+use smv_lexer::{Keyword, LexRefusal, Sign, Token, lex};
 use std::alloc::Global;
 
 // The tokens after `MODULE main VAR`.

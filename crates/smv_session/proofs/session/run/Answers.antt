@@ -1,0 +1,57 @@
+use Rattle.std.proofs.Common.{refl}
+use Rattle.smv_session.proofs.Kept.{whole, fault_lines, fault_lines_none, cut_off, usage, refused, fault_has_cause, memory, verdicts, states, report_status}
+use Rattle.smv_session.proofs.session.run.Goals as goal
+
+pub returns-in-Ok-put-clause-words : goal.returns-in-Ok-put-clause-words
+returns-in-Ok-put-clause-words g c =
+    let puts = rw c.deref.ensures.value at c.in-Ok-put.ensures.ok in
+    usage _ c.in-Ok.answer.text.items c.in-Ok.answer.status c.in-Ok.ensures.answer puts refl
+
+pub returns-in-Ok-put-clause-refused_model : goal.returns-in-Ok-put-clause-refused_model
+returns-in-Ok-put-clause-refused_model g c =
+    let puts = rw c.deref.ensures.value at c.in-Ok-put.ensures.ok in
+    refused _ c.in-Ok.answer.text.items c.in-Ok.answer.status c.in-Ok.ensures.answer puts refl
+
+pub returns-in-Ok-put-clause-fault_has_cause : goal.returns-in-Ok-put-clause-fault_has_cause
+returns-in-Ok-put-clause-fault_has_cause g c =
+    let puts = rw c.deref.ensures.value at c.in-Ok-put.ensures.ok in
+    fault_has_cause _ c.in-Ok.answer.text.items c.in-Ok.answer.status c.in-Ok.ensures.answer puts refl
+
+pub returns-in-Ok-put-clause-fault_lines_have_cause :
+    goal.returns-in-Ok-put-clause-fault_lines_have_cause
+returns-in-Ok-put-clause-fault_lines_have_cause g c =
+    let puts = rw c.deref.ensures.value at c.in-Ok-put.ensures.ok in
+    fault_lines _ c.in-Ok.answer.text.items c.in-Ok.answer.status c.in-Ok.ensures.answer c.in-Ok.ensures.contents (whole _ _ _ puts)
+
+pub returns-in-Ok-put-clause-cut_off : goal.returns-in-Ok-put-clause-cut_off
+returns-in-Ok-put-clause-cut_off g c =
+    let puts = rw c.deref.ensures.value at c.in-Ok-put.ensures.ok in
+    cut_off _ c.in-Ok.answer.text.items c.in-Ok.answer.status c.in-Ok.ensures.answer (whole _ _ _ puts)
+
+pub returns-in-Ok-put-clause-memory : goal.returns-in-Ok-put-clause-memory
+returns-in-Ok-put-clause-memory g c =
+    let puts = rw c.deref.ensures.value at c.in-Ok-put.ensures.ok in
+    memory _ c.in-Ok.answer.text.items c.in-Ok.answer.status c.in-Ok.ensures.answer puts refl
+
+pub returns-in-Ok-clause-fault_lines_have_cause : goal.returns-in-Ok-clause-fault_lines_have_cause
+returns-in-Ok-clause-fault_lines_have_cause g c =
+    let puts = rw c.deref.ensures.value at c.in-Err-put.ensures.err in
+    fault_lines _ c.in-Ok.answer.text.items c.in-Ok.answer.status c.in-Ok.ensures.answer c.in-Ok.ensures.contents puts
+
+pub returns-clause-fault_lines_have_cause : goal.returns-clause-fault_lines_have_cause
+returns-clause-fault_lines_have_cause g c = fault_lines_none _ refl
+
+pub returns-in-Ok-put-clause-verdicts : goal.returns-in-Ok-put-clause-verdicts
+returns-in-Ok-put-clause-verdicts g c =
+    let puts = rw c.deref.ensures.value at c.in-Ok-put.ensures.ok in
+    verdicts _ c.in-Ok.answer.text.items c.in-Ok.answer.status c.in-Ok.ensures.answer puts refl
+
+pub returns-in-Ok-put-clause-states_and_traces : goal.returns-in-Ok-put-clause-states_and_traces
+returns-in-Ok-put-clause-states_and_traces g c =
+    let puts = rw c.deref.ensures.value at c.in-Ok-put.ensures.ok in
+    states _ c.in-Ok.answer.text.items c.in-Ok.answer.status c.in-Ok.ensures.answer puts refl
+
+pub returns-in-Ok-put-clause-status : goal.returns-in-Ok-put-clause-status
+returns-in-Ok-put-clause-status g c =
+    let puts = rw c.deref.ensures.value at c.in-Ok-put.ensures.ok in
+    report_status _ c.in-Ok.answer.text.items c.in-Ok.answer.status c.in-Ok.ensures.answer puts refl

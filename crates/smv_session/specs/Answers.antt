@@ -1,0 +1,64 @@
+-- What the program answers where nothing fails.
+use Rattle.std.specs.Prelude.{◌≡◌, ◌⊎◌, ℕ, List, [], ◌∷◌, if◌then◌else◌, Option, Some, IfSome}
+use Rattle.std.specs.List.{list_any}
+use Rattle.smv_outside.specs.Contents.{Contents, bytes_under}
+use Rattle.kripke_model.specs.System.{System}
+use Rattle.smv_parser.specs.FirstForm.{IsFirstForm}
+use Rattle.smv_session.specs.Words as words
+use Rattle.smv_session.specs.Words.{Command, Check}
+use Rattle.smv_session.specs.Texts.{usage_text, Refusal, NotBuilt, refusal_line}
+use Rattle.smv_session.specs.Report.{Finding, is_false, report}
+use Rattle.smv_session.specs.Verdicts.{AreVerdicts, ShowStates}
+use Rattle.smv_session.specs.declared.status.Status.{Status}
+use Rattle.smv_session.specs.declared.status.Status.TheVariants.{Clear, Failed, ModelRefused, Usage}
+
+-- the bytes are the text of this model
+abbrev pub IsAccepted : List ℕ → System → Type 0
+IsAccepted bytes m = IsFirstForm bytes m
+
+-- the refusal applies to the model's text
+abbrev pub Refuses : List ℕ → Refusal → Type 0
+-- it isn't of the form that is built
+Refuses bytes NotBuilt = (m : System) → IsAccepted bytes m → ⊥
+
+-- the greatest status that applies
+abbrev pub status_of : List Finding → Status
+status_of fs = if list_any is_false fs then Failed else Clear
+
+-- the model's text is refused: its line is put
+pub record IsRefused (bytes text : List ℕ) (status : Status) : Type 0 where
+  pub refusal : Refusal
+  pub applies : Refuses bytes refusal
+  pub text_is : text ≡ refusal_line refusal
+  pub status_is : status ≡ ModelRefused
+
+-- the report of what is found of the model's specifications, and its status
+pub record Reports (m : System) (text : List ℕ) (status : Status) : Type 0 where
+  pub findings : List Finding
+  pub verdicts : AreVerdicts m findings
+  pub states : ShowStates m findings
+  pub text_is : text ≡ report m findings
+  pub status_is : status ≡ status_of findings
+
+-- the model's text is taken: its report is put
+pub record IsReported (bytes text : List ℕ) (status : Status) : Type 0 where
+  pub model : System
+  pub accepted : IsAccepted bytes model
+  -- the text is of no other model
+  pub only : (other : System) → IsAccepted bytes other → model ≡ other
+  pub reports : Reports model text status
+
+-- The text that is put for a model's text, and the status.
+abbrev pub IsModelAnswer : List ℕ → List ℕ → Status → Type 0
+IsModelAnswer bytes text status = IsRefused bytes text status ⊎ IsReported bytes text status
+
+-- The text that a command puts over these contents, and its status.
+abbrev pub Answers : Command → Option Contents → List ℕ → Status → Type 0
+Answers words.Usage contents text status = (text ≡ usage_text) × (status ≡ Usage)
+Answers (Check model) contents text status =
+    (bytes : List ℕ) × IfSome contents (λ files. bytes_under files model ≡ Some bytes) × IsModelAnswer bytes text status
+
+-- the command loads a file of this name
+abbrev pub Loads : Command → List ℕ → Type 0
+Loads words.Usage name = ⊥
+Loads (Check model) name = name ≡ model

@@ -1,0 +1,10 @@
+pub mod Foreseen
+pub mod Asked
+pub mod Code
+pub mod Words
+pub mod Texts
+pub mod Report
+pub mod Found
+pub mod Verdicts
+pub mod Answers
+pub mod Session

@@ -1,0 +1,167 @@
+-- One call of the program: what it was given, what it left, and what is promised of these.
+use Rattle.std.specs.Prelude.{◌≡◌, ◌≢◌, ◌⊎◌, ◌<◌, ℕ, List, [], ◌++◌, map, Option, Some, None, IfSome, string_bytes, String}
+use Rattle.std.specs.declared.alloc.Global.{Global}
+use Rattle.std.specs.Io.KnownBytes.{Appends}
+use Rattle.smv_outside.specs.declared.faults.FileFaults.{FileFaults}
+use Rattle.smv_outside.specs.Contents.{Contents, bytes_under}
+use Rattle.smv_outside.specs.Faults.{Rose, last_count}
+use Rattle.smv_outside.specs.Written.{AppendsPrefix}
+use Rattle.smv_session.specs.Words as words
+use Rattle.smv_session.specs.Words.{Command, Check, command_of}
+use Rattle.smv_session.specs.Texts.{usage_text, Refusal, refusal_line, Fault, LoadFailed, LoadMissing, fault_line}
+use Rattle.kripke_model.specs.System.{System}
+use Rattle.smv_session.specs.Report.{Finding, report}
+use Rattle.smv_session.specs.Verdicts.{AreVerdicts, ShowStates}
+use Rattle.smv_session.specs.Answers.{Answers, IsAccepted, Refuses, Loads, status_of}
+use Rattle.smv_session.specs.declared.status.Status.{Status}
+use Rattle.smv_session.specs.declared.status.Status.TheVariants.{Clear, Failed, ModelRefused, OutsideFault, Usage, Memory}
+
+pub record Session : Type 0 where
+  pub words : List (List ℕ)
+  pub contents : Option Contents
+  pub contents_after : Option Contents
+  pub written : Option (List ℕ)
+  pub written_after : Option (List ℕ)
+  pub file_faults : FileFaults
+  pub file_faults_after : FileFaults
+  pub sink_faults : ℕ
+  pub sink_faults_after : ℕ
+  pub status : Status
+
+-- the call over these words, with the files and the sink before and after it
+abbrev pub session : {F S : Type 0} → (F → Option Contents) → (F → FileFaults) → (S → Option (List ℕ)) → (S → ℕ) → List (String Global) → F → F → S → S → Status → Session
+session contents file_faults written sink_faults words files files_after out out_after status = record {
+  words = map string_bytes words;
+  contents = contents files;
+  contents_after = contents files_after;
+  written = written out;
+  written_after = written out_after;
+  file_faults = file_faults files;
+  file_faults_after = file_faults files_after;
+  sink_faults = sink_faults out;
+  sink_faults_after = sink_faults out_after;
+  status = status;
+}
+
+-- ---- counts
+
+-- a count of the files rose in this call
+abbrev pub FilesRose : Session → Type 0
+FilesRose s = Rose s.file_faults.failed s.file_faults_after.failed ⊎ Rose s.file_faults.missing s.file_faults_after.missing
+
+-- a count of the files is greater than before
+abbrev pub FilesGrew : Session → Type 0
+FilesGrew s = (s.file_faults.failed < s.file_faults_after.failed) ⊎ (s.file_faults.missing < s.file_faults_after.missing)
+
+-- a count of the files stood at its last value before the call
+abbrev pub FilesWereAtLast : Session → Type 0
+FilesWereAtLast s = (s.file_faults.failed ≡ last_count) ⊎ (s.file_faults.missing ≡ last_count)
+
+-- the count of the sink rose in this call
+abbrev pub SinkRose : Session → Type 0
+SinkRose s = Rose s.sink_faults s.sink_faults_after
+
+-- no count rose, and memory was found
+pub record IsUndisturbed (s : Session) : Type 0 where
+  pub files : ¬ FilesRose s
+  pub sink : ¬ SinkRose s
+  pub memory : s.status ≢ Memory
+
+-- ---- what was put
+
+-- as far as the sink tells, this text was put
+abbrev pub Puts : Session → List ℕ → Type 0
+Puts s text = Appends s.written s.written_after text
+
+-- as far as the sink tells, a prefix of this text was put
+abbrev pub PutsPrefix : Session → List ℕ → Type 0
+PutsPrefix s text = AppendsPrefix s.written s.written_after text
+
+-- the sink tells that this text was put
+abbrev pub TellsText : Option (List ℕ) → Option (List ℕ) → List ℕ → Type 0
+TellsText (Some before) (Some after) text = after ≡ before ++ text
+TellsText (Some before) None text = ⊥
+TellsText None after text = ⊥
+
+abbrev pub IsToldToPut : Session → List ℕ → Type 0
+IsToldToPut s text = TellsText s.written s.written_after text
+
+-- ---- the promises
+
+-- Undisturbed, the call puts the answer to its words.
+abbrev pub PutsAnswer : Session → Type 0
+PutsAnswer s = IsUndisturbed s → (text : List ℕ) × Puts s text × Answers (command_of s.words) s.contents text s.status
+
+-- Words that are no command are answered by the usage text, and no others are.
+pub record AnswersUsage (s : Session) : Type 0 where
+  pub only : s.status ≡ Usage → (command_of s.words ≡ words.Usage) × Puts s usage_text
+  pub always : IsUndisturbed s → command_of s.words ≡ words.Usage → s.status ≡ Usage
+
+-- A model to which a refusal applies is answered by its line, and no other is.
+pub record RefusesModels (s : Session) : Type 0 where
+  pub only : s.status ≡ ModelRefused → (model bytes : List ℕ) × (refusal : Refusal) × (command_of s.words ≡ Check model)
+      × IfSome s.contents (λ files. bytes_under files model ≡ Some bytes) × Refuses bytes refusal × Puts s (refusal_line refusal)
+  pub always : IsUndisturbed s → (files : Contents) (model bytes : List ℕ) (refusal : Refusal) → s.contents ≡ Some files → command_of s.words ≡ Check model
+      → bytes_under files model ≡ Some bytes → Refuses bytes refusal → (s.status ≡ ModelRefused) × Puts s (refusal_line refusal)
+
+-- The call checks a model that is accepted, and its contents are told.
+pub record Checks (s : Session) (m : System) : Type 0 where
+  pub files : Contents
+  pub told : s.contents ≡ Some files
+  pub name : List ℕ
+  pub asked : command_of s.words ≡ Check name
+  pub bytes : List ℕ
+  pub there : bytes_under files name ≡ Some bytes
+  pub accepted : IsAccepted bytes m
+
+-- An accepted model is answered by the report of one outcome for each specification: true comes only where
+-- the specification holds at every initial state, and false only where it doesn't.
+pub record ReportsVerdicts (s : Session) : Type 0 where
+  pub reports : IsUndisturbed s → (m : System) → Checks s m → (findings : List Finding) × Puts s (report m findings) × AreVerdicts m findings
+
+-- With a false verdict state 0 is the least initial state at which the specification is false.
+pub record ShowsStates (s : Session) : Type 0 where
+  pub shows : IsUndisturbed s → (m : System) → Checks s m → (findings : List Finding) × Puts s (report m findings) × AreVerdicts m findings × ShowStates m findings
+
+-- the contents that each command leaves
+abbrev pub Leaves : Command → Option Contents → Option Contents → Type 0
+Leaves words.Usage before after = after ≡ before
+Leaves (Check model) before after = after ≡ before
+
+abbrev pub KeepsContents : Session → Type 0
+KeepsContents s = Leaves (command_of s.words) s.contents s.contents_after
+
+-- A fault of the outside is answered only where a count rose.
+pub record FaultHasCause (s : Session) : Type 0 where
+  pub cause : s.status ≡ OutsideFault → FilesRose s ⊎ SinkRose s
+
+-- A count that grew is answered.
+pub record AnswersFaults (s : Session) : Type 0 where
+  pub sink : s.sink_faults < s.sink_faults_after → s.status ≡ OutsideFault
+  pub files : FilesGrew s → (s.status ≡ OutsideFault) ⊎ (s.status ≡ Memory)
+
+-- Where a count of the files grew one fault line is put: whole, or a prefix where the sink failed too.
+abbrev pub PutsFaultLine : Session → Type 0
+PutsFaultLine s = FilesGrew s → s.status ≡ OutsideFault → (fault : Fault) × (Puts s (fault_line fault) ⊎ (SinkRose s × PutsPrefix s (fault_line fault)))
+
+-- Each fault line stands only where its own count rose, and all contents stay with it.
+pub record FaultLinesHaveCause (s : Session) : Type 0 where
+  pub failed : IsToldToPut s (fault_line LoadFailed) → Rose s.file_faults.failed s.file_faults_after.failed × (s.contents_after ≡ s.contents)
+  pub missing : IsToldToPut s (fault_line LoadMissing) → Rose s.file_faults.missing s.file_faults_after.missing × (s.contents_after ≡ s.contents)
+      × IfSome s.contents (λ files. (name : List ℕ) × Loads (command_of s.words) name × (bytes_under files name ≡ None))
+
+-- A fault that no count of the files tells cut an answer off, unless such a count stood at its last value.
+pub record CutsOffAnswer (s : Session) : Type 0 where
+  pub cut : s.status ≡ OutsideFault → ¬ FilesGrew s → ((text : List ℕ) × (status : Status) × Answers (command_of s.words) s.contents text status × PutsPrefix s text)
+      ⊎ (FilesWereAtLast s × (fault : Fault) × PutsPrefix s (fault_line fault))
+
+-- Where memory ran out nothing was put, and all contents stay.
+pub record MemoryChangesNothing (s : Session) : Type 0 where
+  pub written : s.status ≡ Memory → Puts s []
+  pub contents : s.status ≡ Memory → s.contents_after ≡ s.contents
+
+-- A report has the greatest status that applies, and no other answer has one of these.
+pub record ReportHasStatus (s : Session) : Type 0 where
+  pub reports : IsUndisturbed s → (m : System) → Checks s m → (findings : List Finding) × Puts s (report m findings) × AreVerdicts m findings × (s.status ≡ status_of findings)
+  pub only : (s.status ≡ Clear) ⊎ (s.status ≡ Failed) → (m : System) × (findings : List Finding) × Puts s (report m findings) × AreVerdicts m findings × (s.status ≡ status_of findings)
+      × (name bytes : List ℕ) × (command_of s.words ≡ Check name) × IfSome s.contents (λ files. bytes_under files name ≡ Some bytes) × IsAccepted bytes m

@@ -1,0 +1,37 @@
+-- What is found of each specification: its truth, and what is shown where it is false.
+use Rattle.std.specs.Prelude.{◌≡◌, List, [], ◌∷◌, Some, None}
+use Rattle.kripke_model.specs.Ctl.{Ctl, formula_of}
+use Rattle.kripke_model.specs.System.{System, State, Condition}
+use Rattle.kripke_model.specs.Step.{IsState, Initial}
+use Rattle.kripke_model.specs.Truth.{Sat, Initials}
+use Rattle.kripke_model.specs.Order.{IsLeast}
+use Rattle.smv_session.specs.Report.{Outcome, True, False, Unknown, Finding}
+
+-- the verdict is the truth of the specification
+abbrev pub IsVerdict : System → Ctl → Outcome → Type 0
+IsVerdict m f True = Initials m f
+IsVerdict m f (False s path) = Initials m f → ⊥
+-- no node limit is met
+IsVerdict m f (Unknown limit) = ⊥
+
+-- an initial state of the model at which the formula is false
+abbrev pub Fails : System → Ctl → State → Type 0
+Fails m f s = IsState m s × Initial m s × (Sat m f s → ⊥)
+
+-- with a false verdict the least failing initial state is shown, and no path
+abbrev pub ShowsState : System → Ctl → Outcome → Type 0
+ShowsState m f True = Unit {0}
+ShowsState m f (False s path) = IsLeast m (Fails m f) (Some s) × (path ≡ None)
+ShowsState m f (Unknown limit) = Unit {0}
+
+-- one finding for each specification, in order, each as R says
+abbrev pub EachFinding : (Ctl → Finding → Type 0) → List Condition → List Finding → Type 0
+EachFinding R [] [] = Unit {0}
+EachFinding R (c ∷ cs) (f ∷ fs) = R (formula_of c.expr) f × EachFinding R cs fs
+EachFinding R cs fs = ⊥
+
+abbrev pub AreVerdicts : System → List Finding → Type 0
+AreVerdicts m fs = EachFinding (λ f finding. IsVerdict m f finding.outcome) m.specs fs
+
+abbrev pub ShowStates : System → List Finding → Type 0
+ShowStates m fs = EachFinding (λ f finding. ShowsState m f finding.outcome) m.specs fs

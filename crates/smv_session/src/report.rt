@@ -1,0 +1,192 @@
+// The report of a check, line by line.
+ghost use Rattle.std.specs.Prelude.{◌≡◌, ◌<◌, ◌≤◌, ◌++◌, [], count_by, decimal, length, map, slice_index_or, IfOk, OnOk};
+ghost use Rattle.kripke_model.specs.System.{value_in};
+ghost use Rattle.smv_session.specs.Found.{finding_of, outcome_of};
+ghost use Rattle.smv_session.specs.Report as lines;
+
+use crate::outcome::Outcome;
+use crate::text::Text;
+use kripke_model::Name;
+use kripke_model::expressions::Value;
+use kripke_model::models::{FlatVar, Ruled};
+use kripke_model::states::State;
+use std::alloc::{AllocError, Global};
+
+/// The report of one outcome for each specification of the model, in order.
+pub(crate) fn report(
+    alloc: Global,
+    model: &Ruled,
+    outcomes: &[Outcome],
+) -> Result<Vec<u8>, AllocError>
+    requires { length outcomes.now ≤ length model.now.specs }
+    ensures { IfOk result (λ text. text.items ≡ lines.report model.now (map finding_of outcomes.now)) }
+{
+    let mut text = Text::new(alloc);
+    push_findings(&mut text, model, outcomes)?;
+    push_total(&mut text, outcomes)?;
+    Ok(text.into_bytes())
+}
+
+fn push_findings(text: &mut Text, model: &Ruled, outcomes: &[Outcome]) -> Result<(), AllocError>
+    requires { length outcomes.now ≤ length model.now.specs }
+    ensures { OnOk result (text.new ≡ text.old ++ lines.numbered (lines.finding_lines model.now) 0 (map finding_of outcomes.now)) }
+{
+    for (place, outcome) in outcomes.iter().enumerate() {
+        push_finding(text, model, place, outcome)?;
+    }
+    Ok(())
+}
+
+// What is found of the specification of this place.
+fn push_finding(
+    text: &mut Text,
+    model: &Ruled,
+    place: usize,
+    outcome: &Outcome,
+) -> Result<(), AllocError>
+    requires { place < length model.now.specs }
+    ensures { OnOk result (text.new ≡ text.old ++ lines.finding_lines model.now place (finding_of outcome.now)) }
+{
+    push_spec(text, model, place)?;
+    text.push(outcome.verdict())?;
+    text.push(b"\n")?;
+    push_witness(text, model, outcome)
+}
+
+fn push_spec(text: &mut Text, model: &Ruled, place: usize) -> Result<(), AllocError>
+    requires { place < length model.now.specs }
+    ensures { OnOk result (text.new ≡ text.old ++ lines.spec_text model.now place) }
+{
+    let specs = model.specs();
+    let spec = &specs[place];
+    text.push(b"spec ")?;
+    text.push_number(place + 1)?;
+    text.push(b" line ")?;
+    text.push_number(spec.line)?;
+    text.push(b" ")
+}
+
+// What stands below a false verdict.
+fn push_witness(text: &mut Text, model: &Ruled, outcome: &Outcome) -> Result<(), AllocError>
+    ensures { OnOk result (text.new ≡ text.old ++ lines.witness_lines model.now (outcome_of outcome.now)) }
+{
+    match outcome {
+        Outcome::True => Ok(()),
+        Outcome::False(state) => push_state(text, model, 0, state),
+    }
+}
+
+// The state's number, and each variable with its value.
+fn push_state(
+    text: &mut Text,
+    model: &Ruled,
+    number: usize,
+    state: &State,
+) -> Result<(), AllocError>
+    ensures { OnOk result (text.new ≡ text.old ++ lines.state_lines model.now number state.now) }
+{
+    text.push(b"state ")?;
+    text.push_number(number)?;
+    text.push(b"\n")?;
+    push_variables(text, model, state)
+}
+
+fn push_variables(text: &mut Text, model: &Ruled, state: &State) -> Result<(), AllocError>
+    ensures { OnOk result (text.new ≡ text.old ++ lines.numbered (lines.variable_line model.now state.now) 0 model.now.vars) }
+{
+    let vars = model.vars();
+    for (x, var) in vars.iter().enumerate() {
+        push_variable(text, model, state, x, var)?;
+    }
+    Ok(())
+}
+
+fn push_variable(
+    text: &mut Text,
+    model: &Ruled,
+    state: &State,
+    x: usize,
+    var: &FlatVar,
+) -> Result<(), AllocError>
+    ensures { OnOk result (text.new ≡ text.old ++ lines.variable_line model.now state.now x var.now) }
+{
+    text.push(b"  ")?;
+    text.push(var.name.as_bytes())?;
+    text.push(b" = ")?;
+    push_value(text, model, x, value_at(state, x))?;
+    text.push(b"\n")
+}
+
+fn value_at(state: &State, x: usize) -> Value
+    ensures { result ≡ value_in state.now x }
+{
+    match state.values().get(x) {
+        Some(value) => *value,
+        None => Value::Number(0),
+    }
+}
+
+// A value of variable x. A value of the selector prints as its process.
+fn push_value(text: &mut Text, model: &Ruled, x: usize, value: Value) -> Result<(), AllocError>
+    ensures { OnOk result (text.new ≡ text.old ++ lines.value_text model.now x value) }
+{
+    match value {
+        Value::Symbol(c) => text.push(name_at(model.symbols(), c as usize)),
+        Value::Number(i) => {
+            if model.has_selector() && x == 0 {
+                push_process(text, model, i)
+            } else {
+                text.push_number(i)
+            }
+        }
+    }
+}
+
+fn push_process(text: &mut Text, model: &Ruled, i: i32) -> Result<(), AllocError>
+    ensures { OnOk result (text.new ≡ text.old ++ lines.process_name model.now i) }
+{
+    if i < 0 {
+        return Ok(());
+    }
+    text.push(name_at(model.processes(), i as usize))
+}
+
+// The bytes of the name at a place, and none past the last.
+fn name_at(names: &[Name], place: usize) -> &[u8]
+    ensures { result.now ≡ slice_index_or names.now place [] }
+{
+    match names.get(place) {
+        Some(name) => name.as_bytes(),
+        None => b"",
+    }
+}
+
+fn true_count(outcomes: &[Outcome]) -> usize
+    ensures { result ≡ count_by lines.is_true (map finding_of outcomes.now) }
+{
+    outcomes.iter().filter(|outcome| outcome.is_true()).count()
+}
+
+fn false_count(outcomes: &[Outcome]) -> usize
+    ensures { result ≡ count_by lines.is_false (map finding_of outcomes.now) }
+{
+    outcomes.iter().filter(|outcome| outcome.is_false()).count()
+}
+
+fn push_count(text: &mut Text, word: &[u8], n: usize) -> Result<(), AllocError>
+    ensures { OnOk result (text.new ≡ text.old ++ word.now ++ decimal n) }
+{
+    text.push(word)?;
+    text.push_number(n)
+}
+
+// How many specifications there are, and how many of each verdict.
+fn push_total(text: &mut Text, outcomes: &[Outcome]) -> Result<(), AllocError>
+    ensures { OnOk result (text.new ≡ text.old ++ lines.total_line (map finding_of outcomes.now)) }
+{
+    push_count(text, b"total ", outcomes.len())?;
+    push_count(text, b" true ", true_count(outcomes))?;
+    push_count(text, b" false ", false_count(outcomes))?;
+    push_count(text, b" unknown ", 0)?;
+    text.push(b"\n")
+}

@@ -1,0 +1,106 @@
+// The program, over any files and any sink.
+ghost use Rattle.std.specs.Prelude.{◌≡◌, IfOk, map, string_bytes};
+ghost use Rattle.kripke_model.specs.Small.{IsSmall};
+ghost use Rattle.smv_session.specs.Foreseen.{Foresees, IsToldAs};
+ghost use Rattle.smv_session.specs.Words.{Check, command_of};
+ghost use Rattle.smv_session.specs.Answers.{IsModelAnswer, Reports};
+ghost use Rattle.smv_session.specs.Session.{session, PutsAnswer, AnswersUsage, RefusesModels, ReportsVerdicts, ShowsStates, KeepsContents, FaultHasCause, AnswersFaults, PutsFaultLine, FaultLinesHaveCause, CutsOffAnswer, MemoryChangesNothing, ReportHasStatus};
+
+use crate::Status;
+use crate::answer::Answer;
+use crate::command::{Command, read_words};
+use crate::decision::decide_all;
+use crate::outcome::status_of;
+use crate::report::report;
+use kripke_model::models::Ruled;
+use smv_outside::{Files, LoadFault, Sink};
+use smv_parser::{FirstRefusal, one_model, read_first};
+use std::alloc::{AllocError, Global};
+
+/// The greatest number of bytes of a model's text.
+const MOST_MODEL_BYTES: usize = 1 << 20;
+
+const USAGE: &[u8] =
+    b"usage: smv_run check MODEL [--nodes N] [--proof FILE]\n       smv_run recheck MODEL PROOF [--nodes N]\n       smv_run gen N\n";
+
+/// Does what the words ask for, and puts one text.
+pub fn run<F: Files, S: Sink>(alloc: Global, words: &[String], files: &mut F, out: &mut S) -> Status
+    ensures answer { PutsAnswer (session F.contents F.faults S.written S.faults words.now files.old files.new out.old out.new result) }
+    ensures words { AnswersUsage (session F.contents F.faults S.written S.faults words.now files.old files.new out.old out.new result) }
+    ensures refused_model { RefusesModels (session F.contents F.faults S.written S.faults words.now files.old files.new out.old out.new result) }
+    ensures verdicts { ReportsVerdicts (session F.contents F.faults S.written S.faults words.now files.old files.new out.old out.new result) }
+    ensures states_and_traces { ShowsStates (session F.contents F.faults S.written S.faults words.now files.old files.new out.old out.new result) }
+    ensures exported_proofs { KeepsContents (session F.contents F.faults S.written S.faults words.now files.old files.new out.old out.new result) }
+    ensures fault_has_cause { FaultHasCause (session F.contents F.faults S.written S.faults words.now files.old files.new out.old out.new result) }
+    ensures faults_are_answered { AnswersFaults (session F.contents F.faults S.written S.faults words.now files.old files.new out.old out.new result) }
+    ensures fault_line { PutsFaultLine (session F.contents F.faults S.written S.faults words.now files.old files.new out.old out.new result) }
+    ensures fault_lines_have_cause { FaultLinesHaveCause (session F.contents F.faults S.written S.faults words.now files.old files.new out.old out.new result) }
+    ensures cut_off { CutsOffAnswer (session F.contents F.faults S.written S.faults words.now files.old files.new out.old out.new result) }
+    ensures memory { MemoryChangesNothing (session F.contents F.faults S.written S.faults words.now files.old files.new out.old out.new result) }
+    ensures status { ReportHasStatus (session F.contents F.faults S.written S.faults words.now files.old files.new out.old out.new result) }
+{
+    match answer(alloc, words, files) {
+        Ok(answer) => match out.put(&answer.text) {
+            Ok(()) => answer.status,
+            Err(_) => Status::OutsideFault,
+        },
+        Err(_) => Status::Memory,
+    }
+}
+
+// What is to be put, and the status if that succeeds.
+fn answer<F: Files>(alloc: Global, words: &[String], files: &mut F) -> Result<Answer, AllocError>
+    ensures contents { F.contents files.new ≡ F.contents files.old }
+    ensures answer { IfOk result (λ answer. Foresees (command_of (map string_bytes words.now)) (F.contents files.old) (F.faults files.old) (F.faults files.new) answer.text.items answer.status) }
+{
+    match read_words(words) {
+        Command::Usage => Answer::new(alloc, USAGE, Status::Usage),
+        Command::Check(model) => check(alloc, model, files),
+    }
+}
+
+fn check<F: Files>(alloc: Global, model: &str, files: &mut F) -> Result<Answer, AllocError>
+    ensures contents { F.contents files.new ≡ F.contents files.old }
+    ensures answer { IfOk result (λ answer. Foresees (Check model.now) (F.contents files.old) (F.faults files.old) (F.faults files.new) answer.text.items answer.status) }
+{
+    match files.load(model, MOST_MODEL_BYTES) {
+        Ok(bytes) => check_model(alloc, &bytes),
+        Err(fault) => answer_fault(alloc, fault),
+    }
+}
+
+// What is put where the model was not loaded.
+fn answer_fault(alloc: Global, fault: LoadFault) -> Result<Answer, AllocError>
+    ensures { IfOk result (λ answer. IsToldAs fault answer.text.items answer.status) }
+{
+    match fault {
+        LoadFault::Failed => Answer::new(alloc, b"fault load failed\n", Status::OutsideFault),
+        LoadFault::NotThere => Answer::new(alloc, b"fault load missing\n", Status::OutsideFault),
+        LoadFault::TooLong { .. } => Answer::new(alloc, b"refused E0\n", Status::ModelRefused),
+        LoadFault::Memory => Err(AllocError),
+    }
+}
+
+// What is put for a model's text.
+fn check_model(alloc: Global, text: &[u8]) -> Result<Answer, AllocError>
+    ensures { IfOk result (λ answer. IsModelAnswer text.now answer.text.items answer.status) }
+{
+    one_model();
+    match read_first(alloc, text) {
+        Ok(model) => report_model(alloc, &model),
+        Err(FirstRefusal::NotBuilt) => Answer::new(alloc, b"refused E0\n", Status::ModelRefused),
+        Err(FirstRefusal::Memory) => Err(AllocError),
+    }
+}
+
+// The report of a small model, with the status of what is found.
+fn report_model(alloc: Global, model: &Ruled) -> Result<Answer, AllocError>
+    requires { IsSmall model.now }
+    ensures { IfOk result (λ answer. Reports model.now answer.text.items answer.status) }
+{
+    let found = decide_all(alloc, model)?;
+    Ok(Answer {
+        text: report(alloc, model, &found)?,
+        status: status_of(&found),
+    })
+}
