@@ -1,4 +1,4 @@
-//! Tokens to the models of programs.
+//! The text of a program to its model. One form is read today: see `specs/FirstForm.antt`.
 #![tactic(auto)]
 
 mod assignments;
