@@ -1,0 +1,4 @@
+pub mod BinaryLemmas
+pub mod OrderLemmas
+pub mod CodeLemmas
+pub mod StateLemmas

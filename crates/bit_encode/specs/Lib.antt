@@ -1,0 +1,5 @@
+pub mod Binary
+pub mod Code
+pub mod Kept
+pub mod Layouts
+pub mod Laws
