@@ -38,6 +38,13 @@ place_of_value values k d distinct l =
       (λ j less. false_from_ne_true (same v (get_or values j d)) (λ e. distinct j k d less l (sym (same-true v (get_or values j d) e))))
       (λ here. same_self v)
 
+-- a place where the value stands and before which it does not
+pub place_is : (values : List Value) (v : Value) (i : ℕ) → i < length values → ((k : ℕ) (d : Value) → k < i → get_or values k d ≡ v → ⊥) → ((d : Value) → get_or values i d ≡ v) → i ≡ place values v
+place_is values v i l before here =
+    sym (position_or_len_is (same v) values i v (omega arith)
+      (λ k less. false_from_ne_true (same v (get_or values k v)) (λ e. before k v less (sym (same-true v (get_or values k v) e))))
+      (λ _. ap (same v) (here v) ∙ same_self v))
+
 pub contains_at : (values : List Value) (k : ℕ) (d : Value) → k < length values → Contains values (get_or values k d)
 contains_at values k d l = (k, l, get_or_default values k (get_or values k d) d l)
 

@@ -1,7 +1,8 @@
 //! Layouts: which bit of a list speaks of which variable.
 
 ghost use Rattle.std.specs.Prelude.{◌≡◌, ◌≢◌, ◌+◌, ◌*◌, ◌≤◌, All, AllPairs, IfOk, IfErr, OnOk, IfNone, IfSome, SomeIndex, ℕ, ◌<◌, length};
-ghost use Rattle.bit_encode.specs.Code.{IsStateOf, HasBit, IsValid, IsUnused, types_of, AreDistinct, code, bit_place, bit_count};
+ghost use Rattle.bit_encode.specs.Code.{IsStateOf, HasBit, IsValid, IsUnused, types_of, AreDistinct, code, field, bit_place, bit_count};
+ghost use Rattle.bit_encode.specs.Binary.{number};
 ghost use Rattle.bit_encode.specs.Layouts.{Refuses, Accepts};
 ghost use Rattle.bit_encode.specs.Laws.{CodesDiffer, CodesAreValid, ValidAreCodes, FieldsSpell, PlacesDiffer, PlacesWithin};
 
@@ -131,6 +132,17 @@ impl Layout {
         Ok(bits)
     }
 
+    /// The number that the bits of a variable spell.
+    fn code_at(&self, x: usize, bits: &[bool]) -> usize
+        requires known { x < length self.now.types }
+        requires long { length bits.now ≡ bit_count self.now.types }
+        ensures { result ≡ number (field self.now x bits.now) }
+    {
+        let first = self.firsts[x] as usize;
+        let end = first + self.domains[x].width() as usize;
+        spelled(&bits[first..end])
+    }
+
     /// The state with these bits, and `None` where those of some variable are the code of none of its values.
     pub fn decode(&self, alloc: Global, bits: &[bool]) -> Result<Option<State>, AllocError>
         requires { length bits.now ≡ bit_count self.now.types }
@@ -141,9 +153,7 @@ impl Layout {
     {
         let mut s = State::new(alloc);
         for (x, domain) in self.domains.iter().enumerate() {
-            let first = self.firsts[x] as usize;
-            let number = spelled(&bits[first..first + domain.width() as usize]);
-            match domain.get(number) {
+            match domain.get(self.code_at(x, bits)) {
                 Some(value) => s.push(value)?,
                 None => return Ok(None),
             }

@@ -1,6 +1,6 @@
 //! Orders of the variables, and where each variable's bits begin.
 
-ghost use Rattle.std.specs.Prelude.{◌≡◌, ◌↔◌, ◌<◌, ◌^◌, ℕ, IsTrue, IfOk, length, slice_index};
+ghost use Rattle.std.specs.Prelude.{◌≡◌, ◌↔◌, ◌<◌, ◌^◌, ℕ, All, true, IsTrue, IfOk, length, slice_index};
 ghost use Rattle.bit_encode.specs.Code.{IsOrder, bit_count, first_bit};
 ghost use Rattle.bit_encode.specs.Layouts.{counted};
 
@@ -18,6 +18,13 @@ pub(crate) fn total_bits(domains: &[Domain]) -> u32
     total
 }
 
+/// Whether all marks are set.
+fn all_set(marks: &[bool]) -> bool
+    ensures { IsTrue result ↔ All (λ b. b ≡ true) marks.now }
+{
+    marks.iter().all(|x| *x)
+}
+
 /// Whether the order names each of the variables below `count` once, and nothing else.
 pub(crate) fn is_order(alloc: Global, count: usize, order: &[u32]) -> Result<bool, AllocError>
     ensures { IfOk result (λ b. IsTrue b ↔ IsOrder count order.now) }
@@ -30,7 +37,7 @@ pub(crate) fn is_order(alloc: Global, count: usize, order: &[u32]) -> Result<boo
         }
         named[x] = true;
     }
-    Ok(named.iter().all(|x| *x))
+    Ok(all_set(&named))
 }
 
 /// For each variable the place of its first bit.
