@@ -13,7 +13,7 @@ use Rattle.kripke_model.specs.System.{State, value_in}
 use Rattle.kripke_model.specs.Evaluation.{same}
 use Rattle.kripke_model.proofs.SummaryLemmas.{same-true, same_self}
 use Rattle.bit_encode.specs.Binary.{number, binary, width}
-use Rattle.bit_encode.specs.Code.{Coding, IsOrder, AreDistinct, IsStateOf, IsValid, IsUsed, HasBit, values_of, width_of, place, value_code, code, first_bit, bit_place, field, bit_count}
+use Rattle.bit_encode.specs.Code.{Coding, IsOrder, AllDistinct, IsStateOf, IsValid, IsUsed, HasBit, values_of, width_of, place, value_code, code, first_bit, bit_place, field, bit_count}
 use Rattle.bit_encode.proofs.BinaryLemmas.{length-binary, number-binary, binary-number, width-enough}
 use Rattle.bit_encode.proofs.OrderLemmas.{sum_order, sum_places, named_at, before_place}
 
@@ -172,7 +172,7 @@ module _ (c : Coding) (ordered : IsOrder (length c.types) c.order) where
     typed = λ x l. subst (Contains (values_of c.types x)) (sym (h.reads x l)) (contains_at (values_of c.types x) (number (field c x bits)) (Number (pos 0)) (h.used x l));
   }
 
-  pub decoded_code : AreDistinct c.types → (bits : List Bool) (s : State) → length bits ≡ bit_count c.types → IsDecoded bits s → code c s ≡ bits
+  pub decoded_code : AllDistinct c.types → (bits : List Bool) (s : State) → length bits ≡ bit_count c.types → IsDecoded bits s → code c s ≡ bits
   decoded_code distinct bits s long h =
       flat_map-same (value_code c.types s) (λ x. field c x bits) c.order (λ k l. here (get_or c.order k 0) (ordered.known k 0 l)) ∙ fields_join bits long
     where
@@ -183,7 +183,7 @@ module _ (c : Coding) (ordered : IsOrder (length c.types) c.order) where
           let placed : place values (value_in s x) ≡ n = ap (place values) (h.reads x l) ∙ place_of_value values n (Number (pos 0)) (distinct x [] l) (h.used x l) in
           ap (binary (width_of c.types x)) placed ∙ ap (λ w. binary w n) (sym (length-field bits x long l)) ∙ binary-number (field c x bits)
 
-  pub valid_are_codes : AreDistinct c.types → (bits : List Bool) → IsValid c bits → (s : State) × IsStateOf c.types s × (code c s ≡ bits)
+  pub valid_are_codes : AllDistinct c.types → (bits : List Bool) → IsValid c bits → (s : State) × IsStateOf c.types s × (code c s ≡ bits)
   valid_are_codes distinct bits h =
       let f : ℕ → Value = λ x. get_or (values_of c.types x) (number (field c x bits)) (Number (pos 0)) in
       let s : State = map f (range_with_len 0 (length c.types)) in

@@ -3,7 +3,8 @@ use Rattle.std.proofs.Common.{◌≡◌, ℕ, ◌<◌, length, map, get_or, Cont
 use Rattle.std.proofs.lemmas.List.{get_or-map, length-map}
 use Rattle.kripke_model.specs.System.{System, State, Variable, value_in}
 use Rattle.kripke_model.specs.Step.{IsState}
-use Rattle.bit_encode.specs.Code.{IsStateOf, types_of, values_of}
+use Rattle.kripke_model.specs.Flat.{AreDistinct}
+use Rattle.bit_encode.specs.Code.{IsStateOf, HasDistinctValues, AllDistinct, types_of, values_of}
 
 -- the type of a variable, at whatever variable stands for a missing one
 type_at : (m : System) (x : ℕ) (v : Variable) → x < length m.vars → values_of (types_of m) x ≡ (get_or m.vars x v).values
@@ -29,3 +30,9 @@ states_agree_from m s h =
       each = h.each ∙ count;
       typed = λ x v l. subst (λ values. Contains values (value_in s x)) (type_at m x v l) (h.typed x (omega arith));
     }
+
+pub distinct_types : (m : System) → HasDistinctValues m → AllDistinct (types_of m)
+distinct_types m h x d l =
+    let v : Variable = record { name = []; values = d; line = 0 } in
+    let known : x < length m.vars = omega (arith, length-map m.vars (λ (w : Variable). w.values)) in
+    subst AreDistinct (sym (get_or-map (λ (w : Variable). w.values) m.vars x v d known)) (h x v known)

@@ -1,10 +1,11 @@
 -- Which bits stand for a state. The code of a value is its place in its variable's type, and the codes of the
 -- variables' values stand one after the other in a given order of the variables.
-use Rattle.std.specs.Prelude.{◌≡◌, ◌≢◌, ℕ, ◌+◌, ◌*◌, ◌<◌, ◌≤◌, ◌==◌, Bool, List, [], length, map, take, drop, sum_by, count_by, All, AllPairs, Contains}
+use Rattle.std.specs.Prelude.{◌≡◌, ℕ, ◌+◌, ◌*◌, ◌<◌, ◌≤◌, ◌==◌, Bool, List, [], length, map, take, drop, sum_by, count_by, All, Contains}
 use Rattle.std.specs.List.{slice_index_or, flat_map, position_or_len, before_first}
 use Rattle.kripke_model.specs.declared.expressions.Value.{Value}
 use Rattle.kripke_model.specs.System.{System, State, value_in}
 use Rattle.kripke_model.specs.Evaluation.{same}
+use Rattle.kripke_model.specs.Flat.{AreDistinct}
 use Rattle.bit_encode.specs.Binary.{number, binary, width}
 
 -- the values of each variable's type, in declared order, and the order in which the variables have their bits
@@ -33,8 +34,12 @@ pub record IsOrder (n : ℕ) (order : List ℕ) : Type 0 where
   pub once : (x : ℕ) → x < n → count_by (λ y. y == x) order ≡ 1
 
 -- no type has a value twice
-abbrev pub AreDistinct : List (List Value) → Type 0
-AreDistinct types = All (λ values. AllPairs (λ v w. v ≢ w) values) types
+abbrev pub AllDistinct : List (List Value) → Type 0
+AllDistinct types = All (λ values. AreDistinct values) types
+
+-- no variable of the model has a value twice
+abbrev pub HasDistinctValues : System → Type 0
+HasDistinctValues m = All (λ v. AreDistinct v.values) m.vars
 
 -- one value of its type for each variable
 pub record IsStateOf (types : List (List Value)) (s : State) : Type 0 where

@@ -3,3 +3,4 @@ pub mod Code
 pub mod Kept
 pub mod Layouts
 pub mod Laws
+pub mod Rows

@@ -1,7 +1,7 @@
 //! Layouts: which bit of a list speaks of which variable.
 
-ghost use Rattle.std.specs.Prelude.{◌≡◌, ◌≢◌, ◌+◌, ◌*◌, ◌≤◌, All, AllPairs, IfOk, IfErr, OnOk, IfNone, IfSome, SomeIndex, ℕ, ◌<◌, length};
-ghost use Rattle.bit_encode.specs.Code.{IsStateOf, HasBit, IsValid, IsUnused, types_of, AreDistinct, code, field, bit_place, bit_count};
+ghost use Rattle.std.specs.Prelude.{◌≡◌, ◌+◌, ◌*◌, ◌<◌, ◌≤◌, ℕ, IfOk, IfErr, OnOk, IfNone, IfSome, length};
+ghost use Rattle.bit_encode.specs.Code.{IsOrder, IsStateOf, HasBit, IsValid, IsUnused, types_of, HasDistinctValues, code, field, bit_place, bit_count};
 ghost use Rattle.bit_encode.specs.Binary.{number};
 ghost use Rattle.bit_encode.specs.Layouts.{Refuses, Accepts};
 ghost use Rattle.bit_encode.specs.Laws.{CodesDiffer, CodesAreValid, ValidAreCodes, FieldsSpell, PlacesDiffer, PlacesWithin};
@@ -74,7 +74,7 @@ impl Model for Layout {
 impl Layout {
     /// The layout of the model's variables in this order, which lists their numbers.
     pub fn new(alloc: Global, model: &Ruled, order: &[u32]) -> Result<Layout, LayoutRefusal>
-        requires { AreDistinct (types_of model.now) }
+        requires distinct { HasDistinctValues model.now }
         ensures layout { IfOk result (λ l. l ≡ record { types = types_of model.now; order = order.now }) }
         ensures accepted { OnOk result (Accepts (types_of model.now) order.now) }
         ensures refused { IfErr result (λ e. Refuses (types_of model.now) order.now e) }
@@ -98,7 +98,8 @@ impl Layout {
 
     /// How many bits a state has, from 0 to `MAX_STATE_BITS`.
     pub fn bits(&self) -> u32
-        ensures { result ≡ bit_count self.now.types }
+        ensures count { result ≡ bit_count self.now.types }
+        ensures few { result ≤ MAX_STATE_BITS }
     {
         self.bits
     }
@@ -171,8 +172,10 @@ impl Layout {
         let _bits = self.bits;
     }
 
-    /// The bits of the variables have places of their own, below the number of bits.
+    /// The order names each variable once, and the bits of the variables have places of their own, below the number of
+    /// bits.
     pub fn places_law(&self)
+        ensures ordered { IsOrder (length self.now.types) self.now.order }
         ensures differ { PlacesDiffer self.now }
         ensures within { PlacesWithin self.now }
     {

@@ -5,7 +5,7 @@ use Rattle.std.proofs.lemmas.Option.{slice_get_within, get_or_from_slice_get}
 use Rattle.kripke_model.specs.declared.expressions.Value.TheVariants.{Number}
 use Rattle.kripke_model.specs.System.{State}
 use Rattle.bit_encode.specs.Binary.{number}
-use Rattle.bit_encode.specs.Code.{Coding, IsUsed, IsOrder, AreDistinct, values_of, field}
+use Rattle.bit_encode.specs.Code.{Coding, IsUsed, IsOrder, AllDistinct, values_of, field}
 use Rattle.bit_encode.proofs.ReadLemmas.{IsRead, read_more, read_end}
 use Rattle.bit_encode.proofs.CodeLemmas.{IsDecoded, decoded_state, decoded_code}
 use Rattle.bit_encode.proofs.layout.Layout.decode.Goals as goal
@@ -34,7 +34,7 @@ pub returns-clause-code : goal.returns-clause-code
 returns-clause-code c =
     let k : Coding = c.args.self.now in
     let ordered : IsOrder (length k.types) k.order = subst (λ (j : Coding). IsOrder (length j.types) j.order) c.self.view_is c.self.invariant.ordered in
-    let distinct : AreDistinct k.types = subst (λ (j : Coding). AreDistinct j.types) c.self.view_is c.self.invariant.distinct in
+    let distinct : AllDistinct k.types = subst (λ (j : Coding). AllDistinct j.types) c.self.view_is c.self.invariant.distinct in
     let types_are : c.deref-domain-items.result.now ≡ k.types = c.deref-domain-items.ensures.value ∙ ap (λ (j : Coding). j.types) c.self.view_is in
     let all : c.loop-x.x ≡ length k.types = omega (arith, ap length types_are) in
     decoded_code k ordered distinct c.args.bits.now c.loop-x.s c.requires (read_end k ordered c.args.bits.now c.loop-x.x c.loop-x.s all c.loop-x.invariant)
