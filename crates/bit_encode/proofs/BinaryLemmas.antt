@@ -50,13 +50,13 @@ binary-number (true ∷ bits) =
     let fits : leb (2 ^ n) (2 ^ n + number bits) ≡ true = le-leb (2 ^ n) (2 ^ n + number bits) (omega arith) in
     let rest : 2 ^ n + number bits - 2 ^ n ≡ number bits = omega arith in
     ap (λ b. cond b (true ∷ binary n (2 ^ n + number bits - 2 ^ n)) (false ∷ binary n (2 ^ n + number bits))) fits
-        ∙ ap (λ k. true ∷ binary n k) rest ∙ ap (λ bs. true ∷ bs) (binary-number bits)
+    ∙ ap (λ k. true ∷ binary n k) rest ∙ ap (λ bs. true ∷ bs) (binary-number bits)
 binary-number (false ∷ bits) =
     let n : ℕ = length bits in
     let none : 0 + number bits ≡ number bits = omega arith in
     let small : leb (2 ^ n) (number bits) ≡ false = lt-leb (2 ^ n) (number bits) (number-lt bits) in
     ap (λ k. cond (leb (2 ^ n) k) (true ∷ binary n (k - 2 ^ n)) (false ∷ binary n k)) none
-        ∙ ap (λ b. cond b (true ∷ binary n (number bits - 2 ^ n)) (false ∷ binary n (number bits))) small ∙ ap (λ bs. false ∷ bs) (binary-number bits)
+    ∙ ap (λ b. cond b (true ∷ binary n (number bits - 2 ^ n)) (false ∷ binary n (number bits))) small ∙ ap (λ bs. false ∷ bs) (binary-number bits)
 
 pub number_push : (bits : List Bool) (b : Bool) → number (bits ++ b ∷ []) ≡ 2 * number bits + cond b 1 0
 unfolding number
@@ -109,7 +109,7 @@ pub half_below : (a k m : ℕ) → suc a ≤ 2 ^ k → 2 ^ m ≤ 2 * a + 1 → m
 half_below a k m above near = by (cases_lt k m)
   where
     by : (k < m) ⊎ (m ≤ k) → m ≤ k
-    by (inl less) = 
+    by (inl less) =
         let two : 0 < 2 = omega arith in
         let grows : 2 ^ suc k ≤ 2 ^ m = pow-le-pow_right {n = 2} two {i = suc k} {j = m} less in
         absurd (omega (arith, twice k))
@@ -121,13 +121,13 @@ pub binary_half : (w n : ℕ) (bits : List Bool) → 2 ^ w ≤ n → (bits ++ tr
 unfolding binary
 binary_half w n bits h =
     append_assoc bits (true ∷ []) (binary w (n - 2 ^ w))
-        ∙ ap (λ b. bits ++ cond b (true ∷ binary w (n - 2 ^ w)) (false ∷ binary w n)) (sym (le-leb (2 ^ w) n h))
+    ∙ ap (λ b. bits ++ cond b (true ∷ binary w (n - 2 ^ w)) (false ∷ binary w n)) (sym (le-leb (2 ^ w) n h))
 
 pub binary_less : (w n : ℕ) (bits : List Bool) → n < 2 ^ w → (bits ++ false ∷ []) ++ binary w n ≡ bits ++ binary (suc w) n
 unfolding binary
 binary_less w n bits h =
     append_assoc bits (false ∷ []) (binary w n)
-        ∙ ap (λ b. bits ++ cond b (true ∷ binary w (n - 2 ^ w)) (false ∷ binary w n)) (sym (lt-leb (2 ^ w) n h))
+    ∙ ap (λ b. bits ++ cond b (true ∷ binary w (n - 2 ^ w)) (false ∷ binary w n)) (sym (lt-leb (2 ^ w) n h))
 
 pub binary_none : (n : ℕ) (bits : List Bool) → bits ≡ bits ++ binary 0 n
 unfolding binary

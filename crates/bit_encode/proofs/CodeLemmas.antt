@@ -35,15 +35,15 @@ pub place_of_value : (values : List Value) (k : ℕ) (d : Value) → AllPairs (�
 place_of_value values k d distinct l =
     let v : Value = get_or values k d in
     position_or_len_is (same v) values k d (omega arith)
-      (λ j less. false_from_ne_true (same v (get_or values j d)) (λ e. distinct j k d less l (sym (same-true v (get_or values j d) e))))
-      (λ here. same_self v)
+    (λ j less. false_from_ne_true (same v (get_or values j d)) (λ e. distinct j k d less l (sym (same-true v (get_or values j d) e))))
+    (λ here. same_self v)
 
 -- a place where the value stands and before which it does not
 pub place_is : (values : List Value) (v : Value) (i : ℕ) → i < length values → ((k : ℕ) (d : Value) → k < i → get_or values k d ≡ v → ⊥) → ((d : Value) → get_or values i d ≡ v) → i ≡ place values v
 place_is values v i l before here =
     sym (position_or_len_is (same v) values i v (omega arith)
-      (λ k less. false_from_ne_true (same v (get_or values k v)) (λ e. before k v less (sym (same-true v (get_or values k v) e))))
-      (λ _. ap (same v) (here v) ∙ same_self v))
+    (λ k less. false_from_ne_true (same v (get_or values k v)) (λ e. before k v less (sym (same-true v (get_or values k v) e))))
+    (λ _. ap (same v) (here v) ∙ same_self v))
 
 pub contains_at : (values : List Value) (k : ℕ) (d : Value) → k < length values → Contains values (get_or values k d)
 contains_at values k d l = (k, l, get_or_default values k (get_or values k d) d l)
@@ -56,8 +56,8 @@ split_at xs k d l = sym (take-append-drop k xs) ∙ ap (λ ys. take k xs ++ ys) 
 take-add : {X : Type 0} (a b : ℕ) (xs : List X) → take (a + b) xs ≡ take a xs ++ take b (drop a xs)
 take-add a b xs =
     sym (take-append-drop a (take (a + b) xs))
-        ∙ ap (λ ys. ys ++ drop a (take (a + b) xs)) (take-take a (a + b) xs (omega arith))
-        ∙ ap (λ ys. take a xs ++ ys) (drop-take a b xs)
+    ∙ ap (λ ys. ys ++ drop a (take (a + b) xs)) (take-take a (a + b) xs (omega arith))
+    ∙ ap (λ ys. take a xs ++ ys) (drop-take a b xs)
 
 sum_by-same : (f g : ℕ → ℕ) (xs : List ℕ) → ((x : ℕ) → f x ≡ g x) → sum_by f xs ≡ sum_by g xs
 sum_by-same f g xs h =
@@ -77,8 +77,8 @@ piece_at F W xs k long l =
     let parts : flat_map F xs ≡ flat_map F (take k xs) ++ (F x ++ rest) = ap (flat_map F) (split_at xs k 0 l) ∙ flat_map-append F (take k xs) (x ∷ drop (k + 1) xs) in
     let before : length (flat_map F (take k xs)) ≡ sum_by W (take k xs) = length-flat_map F (take k xs) ∙ sum_by-same (λ y. length (F y)) W (take k xs) long in
     ap (λ bits. take (W x) (drop (sum_by W (take k xs)) bits)) parts
-        ∙ ap (take (W x)) (drop_at (flat_map F (take k xs)) (F x ++ rest) (sum_by W (take k xs)) before)
-        ∙ take_at (F x) rest (W x) (long x)
+    ∙ ap (take (W x)) (drop_at (flat_map F (take k xs)) (F x ++ rest) (sum_by W (take k xs)) before)
+    ∙ take_at (F x) rest (W x) (long x)
 
 flat_map-same : (F G : ℕ → List Bool) (xs : List ℕ) → ((k : ℕ) → k < length xs → F (get_or xs k 0) ≡ G (get_or xs k 0)) → flat_map F xs ≡ flat_map G xs
 flat_map-same F G [] h = refl
@@ -100,7 +100,7 @@ module _ (c : Coding) (ordered : IsOrder (length c.types) c.order) where
 
   pub field_within : (x : ℕ) → x < length c.types → first_bit c x + width_of c.types x ≤ bit_count c.types
   field_within = of_each (λ x. first_bit c x + width_of c.types x ≤ bit_count c.types)
-    (λ k l. omega (arith, first_at k l, bits_in_order, sum_by_more_le (width_of c.types) c.order k 0 l))
+      (λ k l. omega (arith, first_at k l, bits_in_order, sum_by_more_le (width_of c.types) c.order k 0 l))
 
   pub length-field : (bits : List Bool) (x : ℕ) → length bits ≡ bit_count c.types → x < length c.types → length (field c x bits) ≡ width_of c.types x
   length-field bits x long l =
@@ -114,7 +114,7 @@ module _ (c : Coding) (ordered : IsOrder (length c.types) c.order) where
 
   pub field-code : (s : State) (x : ℕ) → x < length c.types → field c x (code c s) ≡ value_code c.types s x
   field-code s = of_each (λ x. field c x (code c s) ≡ value_code c.types s x)
-    (λ k l. ap (λ n. take (width_of c.types (get_or c.order k 0)) (drop n (code c s))) (first_at k l)
+      (λ k l. ap (λ n. take (width_of c.types (get_or c.order k 0)) (drop n (code c s))) (first_at k l)
       ∙ piece_at (value_code c.types s) (width_of c.types) c.order k (long_code s) l)
 
   pub fields_spell : (s : State) (x : ℕ) → IsStateOf c.types s → x < length c.types → number (field c x (code c s)) ≡ place (values_of c.types x) (value_in s x)
@@ -147,18 +147,18 @@ module _ (c : Coding) (ordered : IsOrder (length c.types) c.order) where
       let w : ℕ = width_of c.types (get_or c.order k 0) in
       let next : suc k ≡ k + 1 = omega arith in
       ap (λ i. flat_map F (take i c.order)) next ∙ flat_map-take F c.order k l
-          ∙ ap (λ ys. ys ++ F (get_or c.order k 0)) (fields_up_to bits k (omega arith))
-          ∙ ap (λ i. take n bits ++ take w (drop i bits)) (first_at k l)
-          ∙ sym (take-add n w bits)
-          ∙ ap (λ i. take i bits) (sym (sum_by_more (width_of c.types) c.order k 0 l))
-          ∙ ap (λ i. take (sum_by (width_of c.types) (take i c.order)) bits) (sym next)
+      ∙ ap (λ ys. ys ++ F (get_or c.order k 0)) (fields_up_to bits k (omega arith))
+      ∙ ap (λ i. take n bits ++ take w (drop i bits)) (first_at k l)
+      ∙ sym (take-add n w bits)
+      ∙ ap (λ i. take i bits) (sym (sum_by_more (width_of c.types) c.order k 0 l))
+      ∙ ap (λ i. take (sum_by (width_of c.types) (take i c.order)) bits) (sym next)
 
   fields_join : (bits : List Bool) → length bits ≡ bit_count c.types → flat_map (λ x. field c x bits) c.order ≡ bits
   fields_join bits long =
       ap (flat_map (λ x. field c x bits)) (sym (take_all (length c.order) c.order (omega arith)))
-          ∙ fields_up_to bits (length c.order) (omega arith)
-          ∙ ap (λ xs. take (sum_by (width_of c.types) xs) bits) (take_all (length c.order) c.order (omega arith))
-          ∙ take_all (sum_by (width_of c.types) c.order) bits (omega (arith, bits_in_order))
+      ∙ fields_up_to bits (length c.order) (omega arith)
+      ∙ ap (λ xs. take (sum_by (width_of c.types) xs) bits) (take_all (length c.order) c.order (omega arith))
+      ∙ take_all (sum_by (width_of c.types) c.order) bits (omega (arith, bits_in_order))
 
   -- the state that has, for each variable, the value whose place its bits spell
   pub record IsDecoded (bits : List Bool) (s : State) : Type 0 where
@@ -210,8 +210,10 @@ module _ (c : Coding) (ordered : IsOrder (length c.types) c.order) where
     where
       j : (i : ℕ) × (i < length c.order) × (get_or c.order i 0 ≡ x)
       j = named_at (length c.types) c.order x ordered hx.known
+
       k : (i : ℕ) × (i < length c.order) × (get_or c.order i 0 ≡ y)
       k = named_at (length c.types) c.order y ordered hy.known
+
       by : (j.0 ≡ k.0) ⊎ ((j.0 < k.0) ⊎ (k.0 < j.0)) → (x ≡ y) × (b ≡ d)
       by (inl same_place) =
           let one : x ≡ y = sym j.2 ∙ ap (λ i. get_or c.order i 0) same_place ∙ k.2 in

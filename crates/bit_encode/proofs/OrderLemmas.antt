@@ -60,9 +60,9 @@ counted_sum : (f : ℕ → ℕ) (n : ℕ) (ys : List ℕ) → All (λ y. y < n) 
 counted_sum f n [] known = sum_below-same (λ x. times x [] * f x) (λ x. 0) n (λ x l. omega arith) ∙ sum_below-none n
 counted_sum f n (y ∷ ys) known =
     sum_below-same (λ x. times x (y ∷ ys) * f x) (λ x. cond (eqb y x) (f x) 0 + times x ys * f x) n (λ x l. split x (eqb y x) (times-cons x y ys))
-        ∙ sum_below-add (λ x. cond (eqb y x) (f x) 0) (λ x. times x ys * f x) n
-        ∙ ap (λ a. a + sum_below (λ x. times x ys * f x) n) (one_term f y n ∙ ap (λ b. cond b (f y) 0) (lt-ltb y n (All-head (λ z. z < n) y ys known)))
-        ∙ ap (λ a. f y + a) (counted_sum f n ys (All-tail (λ z. z < n) y ys known)) ∙ sym (sum_by-cons f y ys)
+    ∙ sum_below-add (λ x. cond (eqb y x) (f x) 0) (λ x. times x ys * f x) n
+    ∙ ap (λ a. a + sum_below (λ x. times x ys * f x) n) (one_term f y n ∙ ap (λ b. cond b (f y) 0) (lt-ltb y n (All-head (λ z. z < n) y ys known)))
+    ∙ ap (λ a. f y + a) (counted_sum f n ys (All-tail (λ z. z < n) y ys known)) ∙ sym (sum_by-cons f y ys)
   where
     split : (x : ℕ) (b : Bool) → times x (y ∷ ys) ≡ cond b 1 0 + times x ys → times x (y ∷ ys) * f x ≡ cond b (f x) 0 + times x ys * f x
     split x true e = ap (λ k. k * f x) e ∙ omega arith
@@ -71,7 +71,7 @@ counted_sum f n (y ∷ ys) known =
 pub sum_order : (f : ℕ → ℕ) (n : ℕ) (order : List ℕ) → IsOrder n order → sum_by f order ≡ sum_below f n
 sum_order f n order h =
     sym (counted_sum f n order h.known)
-        ∙ sum_below-same (λ x. times x order * f x) f n (λ x l. ap (λ k. k * f x) (h.once x l) ∙ omega arith)
+    ∙ sum_below-same (λ x. times x order * f x) f n (λ x l. ap (λ k. k * f x) (h.once x l) ∙ omega arith)
 
 -- a sum over a list, place by place
 sum_places-from : {X : Type 0} (f : X → ℕ) (xs : List X) (d : X) (n : ℕ) → n ≤ length xs → sum_below (λ k. f (get_or xs k d)) n ≡ sum_by f (take n xs)
@@ -91,7 +91,7 @@ never : (p : ℕ → Bool) (xs : List ℕ) → ((k : ℕ) → k < length xs → 
 never p [] h = refl
 never p (x ∷ xs) h =
     sum_by-cons (λ y. cond (p y) 1 0) x xs
-        ∙ ap (λ b. cond b 1 0 + count_by p xs) (h 0 (omega arith)) ∙ omega (arith, never p xs (λ k l. h (suc k) (omega arith)))
+    ∙ ap (λ b. cond b 1 0 + count_by p xs) (h 0 (omega arith)) ∙ omega (arith, never p xs (λ k l. h (suc k) (omega arith)))
 
 -- what passes is counted
 passed : (p : ℕ → Bool) (xs : List ℕ) (k : ℕ) → k < length xs → p (get_or xs k 0) ≡ true → 1 ≤ count_by p xs
@@ -124,5 +124,5 @@ place_once n order j k h less l e =
 pub before_place : (n : ℕ) (order : List ℕ) (k : ℕ) → IsOrder n order → k < length order → before_first (λ y. eqb y (get_or order k 0)) order ≡ take k order
 before_place n order k h l =
     ap (λ i. take i order) (position_or_len_is (λ y. eqb y (get_or order k 0)) order k 0 (omega arith)
-      (λ j less. ne_eqb (get_or order j 0) (get_or order k 0) (place_once n order j k h less l))
-      (λ here. eq-eqb (get_or order k 0) (get_or order k 0) refl))
+    (λ j less. ne_eqb (get_or order j 0) (get_or order k 0) (place_once n order j k h less l))
+    (λ here. eq-eqb (get_or order k 0) (get_or order k 0) refl))

@@ -32,7 +32,7 @@ module _ (types : List (List Value)) (order : List ℕ) (ordered : IsOrder (leng
       by k below (inl here) =
           let small : get_or order i 0 < length types = ordered.known i 0 l in
           ap (λ j. get_or (set firsts (get_or order i 0) next) (get_or order j 0) 0) here
-              ∙ get_or-set_same firsts (get_or order i 0) next 0 (omega (arith, h.each)) ∙ h.total ∙ ap (λ j. sum_by (width_of types) (take j order)) (sym here)
+          ∙ get_or-set_same firsts (get_or order i 0) next 0 (omega (arith, h.each)) ∙ h.total ∙ ap (λ j. sum_by (width_of types) (take j order)) (sym here)
       by k below (inr apart) =
           let less : k < i = omega arith in
           get_or-set_other firsts (get_or order i 0) (get_or order k 0) next 0 (place_once (length types) order k i ordered less l) ∙ h.placed k less

@@ -32,6 +32,7 @@ read_more c bits i s v h here e = record {
     used_by : (x : ℕ) → x < i + 1 → (x ≡ i) ⊎ (x ≡ i → ⊥) → IsUsed c bits x
     used_by x l (inl same) = subst (IsUsed c bits) (sym same) here
     used_by x l (inr apart) = h.used x (omega arith)
+
     reads_by : (x : ℕ) → x < i + 1 → (x ≡ i) ⊎ (x ≡ i → ⊥) → value_in (s ++ v ∷ []) x ≡ get_or (values_of c.types x) (number (field c x bits)) (Number (pos 0))
     reads_by x l (inl same) =
         get_or_push s v (Number (pos 0)) x (h.each ∙ sym same) ∙ e ∙ ap (λ y. get_or (values_of c.types y) (number (field c y bits)) (Number (pos 0))) (sym same)

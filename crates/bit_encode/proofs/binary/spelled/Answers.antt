@@ -20,9 +20,9 @@ overflow_mul-n-else-bit c = omega (arith, c.loop-bit.invariant, (number_more c.a
 pub loop-bit-preserved : goal.loop-bit-preserved
 loop-bit-preserved c = elim c.if-bit.branch [
   | then-bit w ↦ let more = number_more c.args.bits.now c.loop-bit.bit-index true _ (omega arith) c.requires (sym w.if-bit.true) in
-    w.n-is ∙ ap (λ n. 2 * n + 1) c.loop-bit.invariant ∙ sym more.1
+      w.n-is ∙ ap (λ n. 2 * n + 1) c.loop-bit.invariant ∙ sym more.1
   | else-bit w ↦ let more = number_more c.args.bits.now c.loop-bit.bit-index false _ (omega arith) c.requires (sym w.if-bit.false) in
-    w.n-is ∙ ap (λ n. 2 * n) c.loop-bit.invariant ∙ omega arith ∙ sym more.1
+      w.n-is ∙ ap (λ n. 2 * n) c.loop-bit.invariant ∙ omega arith ∙ sym more.1
 ]
 
 pub returns : goal.returns

@@ -20,7 +20,7 @@ loop-x-preserved c =
     let found : slice_get c.domain-item.result c.code_at.result ≡ Some c.in-Some.value = sym c.in-Some.ensures in
     let here : slice_get (values_of k.types x) n ≡ Some c.in-Some.value = ap (λ vs. slice_get vs n) (sym domain) ∙ ap (slice_get c.domain-item.result) (sym c.code_at.ensures) ∙ found in
     subst (IsRead k c.args.bits.now (x + 1)) (sym c.in_ok-push-in-Some.ensures)
-      (read_more k c.args.bits.now x c.loop-x.s c.in-Some.value c.loop-x.invariant (slice_get_within (values_of k.types x) n c.in-Some.value here) (sym (get_or_from_slice_get (values_of k.types x) n c.in-Some.value (Number (pos 0)) here)))
+    (read_more k c.args.bits.now x c.loop-x.s c.in-Some.value c.loop-x.invariant (slice_get_within (values_of k.types x) n c.in-Some.value here) (sym (get_or_from_slice_get (values_of k.types x) n c.in-Some.value (Number (pos 0)) here)))
 
 pub returns-clause-state : goal.returns-clause-state
 returns-clause-state c =
