@@ -1,5 +1,5 @@
 -- The states of a model are those of the types of its variables.
-use Rattle.std.proofs.Common.{◌≡◌, ℕ, ◌<◌, length, map, get_or, Contains, [], sym, ◌∙◌, ap, subst, arith}
+use Rattle.std.proofs.Common.{◌≡◌, ℕ, ◌<◌, length, get_or, Contains, [], sym, ◌∙◌, subst, arith}
 use Rattle.std.proofs.lemmas.List.{get_or-map, length-map}
 use Rattle.kripke_model.specs.System.{System, State, Variable, value_in}
 use Rattle.kripke_model.specs.Step.{IsState}

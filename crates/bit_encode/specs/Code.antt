@@ -1,6 +1,6 @@
 -- Which bits stand for a state. The code of a value is its place in its variable's type, and the codes of the
 -- variables' values stand one after the other in a given order of the variables.
-use Rattle.std.specs.Prelude.{◌≡◌, ℕ, ◌+◌, ◌*◌, ◌<◌, ◌≤◌, ◌==◌, Bool, List, [], length, map, take, drop, sum_by, count_by, All, Contains}
+use Rattle.std.specs.Prelude.{◌≡◌, ℕ, ◌+◌, ◌<◌, ◌≤◌, ◌==◌, Bool, List, [], length, map, take, drop, sum_by, count_by, All, Contains}
 use Rattle.std.specs.List.{slice_index_or, flat_map, position_or_len, before_first}
 use Rattle.kripke_model.specs.declared.expressions.Value.{Value}
 use Rattle.kripke_model.specs.System.{System, State, value_in}

@@ -1,8 +1,8 @@
 -- What the codes of a layout keep.
-use Rattle.std.specs.Prelude.{◌≡◌, ◌↔◌, ℕ, ◌<◌, ◌≤◌, ◌^◌, Bool, List, length}
+use Rattle.std.specs.Prelude.{◌≡◌, ◌↔◌, ℕ, ◌<◌, Bool, List, length}
 use Rattle.kripke_model.specs.System.{System, State, value_in}
 use Rattle.kripke_model.specs.Step.{IsState}
-use Rattle.bit_encode.specs.Binary.{number, width}
+use Rattle.bit_encode.specs.Binary.{number}
 use Rattle.bit_encode.specs.Code.{Coding, IsStateOf, IsValid, HasBit, types_of, values_of, place, code, field, bit_place, bit_count}
 
 -- two states with one code are equal

@@ -1,5 +1,5 @@
 -- When a layout is refused, and what each layout keeps.
-use Rattle.std.specs.Prelude.{◌≡◌, ℕ, ◌-◌, ◌^◌, ◌<◌, ◌≤◌, List, length, min, slice_index}
+use Rattle.std.specs.Prelude.{◌≡◌, ℕ, ◌-◌, ◌^◌, ◌<◌, ◌≤◌, List, length, min}
 use Rattle.kripke_model.specs.declared.expressions.Value.{Value}
 use Rattle.bit_encode.specs.declared.TheConstants.{MAX_STATE_BITS}
 use Rattle.bit_encode.specs.declared.layout.LayoutRefusal.{LayoutRefusal}

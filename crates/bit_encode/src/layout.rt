@@ -75,7 +75,8 @@ impl Layout {
     /// The layout of the model's variables in this order, which lists their numbers.
     pub fn new(alloc: Global, model: &Ruled, order: &[u32]) -> Result<Layout, LayoutRefusal>
         requires distinct { HasDistinctValues model.now }
-        ensures layout { IfOk result (λ l. l ≡ record { types = types_of model.now; order = order.now }) }
+        ensures layout { IfOk result
+            (λ l. l ≡ record { types = types_of model.now; order = order.now }) }
         ensures accepted { OnOk result (Accepts (types_of model.now) order.now) }
         ensures refused { IfErr result (λ e. Refuses (types_of model.now) order.now e) }
     {
@@ -147,7 +148,8 @@ impl Layout {
     /// The state with these bits, and `None` where those of some variable are the code of none of its values.
     pub fn decode(&self, alloc: Global, bits: &[bool]) -> Result<Option<State>, AllocError>
         requires { length bits.now ≡ bit_count self.now.types }
-        ensures unused { IfOk result (λ o. IfNone o ((x : ℕ) × (x < length self.now.types) × IsUnused self.now bits.now x)) }
+        ensures unused { IfOk result (λ o. IfNone o
+            ((x : ℕ) × (x < length self.now.types) × IsUnused self.now bits.now x)) }
         ensures valid { IfOk result (λ o. IfSome o (λ s. IsValid self.now bits.now)) }
         ensures state { IfOk result (λ o. IfSome o (λ s. IsStateOf self.now.types s)) }
         ensures code { IfOk result (λ o. IfSome o (λ s. code self.now s ≡ bits.now)) }

@@ -49,7 +49,8 @@ pub(crate) fn first_bits(
     requires ordered { IsOrder (length domains.now) order.now }
     requires few { bit_count domains.now < 2 ^ 32 }
     ensures each { IfOk result (λ v. length v.items ≡ length domains.now) }
-    ensures firsts { IfOk result (λ v. (x : ℕ) → x < length domains.now → slice_index v.items x ≡ first_bit (record { types = domains.now; order = order.now }) x) }
+    ensures firsts { IfOk result (λ v. (x : ℕ) → x < length domains.now
+        → slice_index v.items x ≡ first_bit (record { types = domains.now; order = order.now }) x) }
 {
     let mut firsts = vec![in alloc; 0; domains.len()]?;
     let mut next: u32 = 0;

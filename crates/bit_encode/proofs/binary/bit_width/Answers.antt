@@ -1,4 +1,4 @@
-use Rattle.std.proofs.Common.{◌≡◌, ◌^◌, ℕ, zero, suc, ◌-◌, ◌<◌, ◌≤◌, sym, ◌∙◌, ap, subst, refl, arith}
+use Rattle.std.proofs.Common.{◌≡◌, ◌-◌, sym, arith}
 use Rattle.std.proofs.lemmas.Nat.{leading_length}
 use Rattle.bit_encode.specs.Binary.{width}
 use Rattle.bit_encode.proofs.BinaryLemmas.{width_is, half_below}

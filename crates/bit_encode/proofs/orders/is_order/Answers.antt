@@ -1,8 +1,7 @@
-use Rattle.std.proofs.Common.{◌≡◌, ℕ, Bool, List, get_or, length, take, false, true, sym, ◌∙◌, ap, subst, arith}
+use Rattle.std.proofs.Common.{◌≡◌, ℕ, Bool, List, get_or, take, false, true, sym, ◌∙◌, subst, arith}
 use Rattle.std.specs.Prelude.{All}
 use Rattle.std.proofs.lemmas.List.{get_or_read, take_all}
 use Rattle.std.proofs.lemmas.Bool.{false≢true}
-use Rattle.bit_encode.specs.Code.{IsOrder}
 use Rattle.bit_encode.proofs.OrderMarks.{IsMarked, mark_more, mark_twice, mark_end, mark_all}
 use Rattle.bit_encode.proofs.orders.is_order.Goals as goal
 use Rattle.bit_encode.proofs.orders.is_order.Goals.{then-x-count-via-then-x-count, then-x-count-via-else-x-count+then-index}

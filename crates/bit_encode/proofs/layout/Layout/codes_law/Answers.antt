@@ -1,5 +1,4 @@
-use Rattle.std.proofs.Common.{sym, subst}
-use Rattle.bit_encode.specs.Code.{Coding, IsOrder, AllDistinct}
+use Rattle.std.proofs.Common.{subst}
 use Rattle.bit_encode.specs.Laws.{CodesDiffer, CodesAreValid, ValidAreCodes, FieldsSpell}
 use Rattle.bit_encode.proofs.CodeLemmas.{codes_differ, codes_valid, valid_are_codes, fields_spell}
 use Rattle.bit_encode.proofs.layout.Layout.codes_law.Goals as goal

@@ -1,13 +1,12 @@
-use Rattle.std.proofs.Common.{◌≡◌, ℕ, ◌+◌, ◌<◌, ◌++◌, ◌∷◌, get_or, length, [], pos, Some, sym, ◌∙◌, ap, subst, arith}
+use Rattle.std.proofs.Common.{◌≡◌, ℕ, ◌+◌, length, [], pos, Some, sym, ◌∙◌, ap, subst, arith}
 use Rattle.std.specs.Prelude.{slice_get}
 use Rattle.std.proofs.lemmas.List.{get_or_read}
 use Rattle.std.proofs.lemmas.Option.{slice_get_within, get_or_from_slice_get}
 use Rattle.kripke_model.specs.declared.expressions.Value.TheVariants.{Number}
-use Rattle.kripke_model.specs.System.{State}
 use Rattle.bit_encode.specs.Binary.{number}
-use Rattle.bit_encode.specs.Code.{Coding, IsUsed, IsOrder, AllDistinct, values_of, field}
+use Rattle.bit_encode.specs.Code.{Coding, IsOrder, AllDistinct, values_of, field}
 use Rattle.bit_encode.proofs.ReadLemmas.{IsRead, read_more, read_end}
-use Rattle.bit_encode.proofs.CodeLemmas.{IsDecoded, decoded_state, decoded_code}
+use Rattle.bit_encode.proofs.CodeLemmas.{decoded_state, decoded_code}
 use Rattle.bit_encode.proofs.layout.Layout.decode.Goals as goal
 
 pub loop-x-preserved : goal.loop-x-preserved

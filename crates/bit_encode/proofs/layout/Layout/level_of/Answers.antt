@@ -1,6 +1,6 @@
-use Rattle.std.proofs.Common.{◌≡◌, ℕ, ◌+◌, ◌<◌, get_or, length, sym, ◌∙◌, ap, subst, arith}
+use Rattle.std.proofs.Common.{◌≡◌, sym, ◌∙◌, subst, arith}
 use Rattle.std.proofs.lemmas.List.{get_or_read}
-use Rattle.bit_encode.specs.Code.{Coding, HasBit, first_bit, bit_place, bit_count}
+use Rattle.bit_encode.specs.Code.{Coding, HasBit, first_bit}
 use Rattle.bit_encode.proofs.CodeLemmas.{places_within}
 use Rattle.bit_encode.proofs.layout.Layout.level_of.Goals as goal
 
