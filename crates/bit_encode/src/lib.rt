@@ -1,0 +1,13 @@
+//! The states of a flat model as lists of bits, in an order of its variables.
+#![tactic(auto)]
+
+mod binary;
+mod domains;
+pub mod laws;
+pub mod layout;
+mod orders;
+#[cfg(test)]
+mod tests;
+
+/// The most bits that the states of a model may have.
+pub const MAX_STATE_BITS: u32 = 64;
