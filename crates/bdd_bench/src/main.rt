@@ -3,7 +3,8 @@
 //! one summand after the other, which takes more than 2 to the n triples.
 //!
 //! Without arguments it counts a small case of each. `queens N` and `carry N` count one, and say
-//! how long it took.
+//! how much processor time its operations took. The steps that `Steps` counts take no bytes at run
+//! time, so no program can print them.
 #![tactic(auto)]
 
 ghost use Rattle.std.specs.Prelude.{◌≡◌, ◌<◌};
@@ -11,11 +12,10 @@ ghost use Rattle.std.specs.Prelude.{◌≡◌, ◌<◌};
 use anyhow::{Result, bail};
 use bdd_nodes::{Ref, Steps, Store, StoreRefusal};
 use bdd_ops::Engine;
-use std::alloc::Global;
 use std::env;
 use std::marker::Brand;
 use std::sync::ledger::{Blank, Ledger};
-use std::time::Instant;
+use std::time::CpuClock;
 
 /// The most triples that a store takes.
 const LIMIT: u32 = 2_000_000_000;
@@ -23,7 +23,31 @@ const LIMIT: u32 = 2_000_000_000;
 /// How many answers the engine remembers.
 const CACHE: u32 = 1_000_000;
 
-fn literal(engine: &mut Engine, level: u32) -> Result<Ref, StoreRefusal> {
+/// Why a count has no answer.
+#[derive(Drop)]
+enum Failure {
+    /// The store refused a triple.
+    Refused,
+    /// The store lacks a level or a diagram that an operation was to take.
+    Absent,
+}
+
+impl From<StoreRefusal> for Failure {
+    fn from(_refusal: StoreRefusal) -> Failure {
+        Failure::Refused
+    }
+}
+
+/// What a count made, and the processor time of its operations. The time that tables take before
+/// and after them is left out.
+struct Outcome {
+    triples: u32,
+    refused: u64,
+    micros: u128,
+}
+
+/// The diagram that is true where the level's bit is set.
+fn literal(engine: &mut Engine, level: u32) -> Result<Ref, Failure> {
     let (low, high) = (Ref::FALSE, Ref::TRUE);
     let store = engine.store();
     if level < store.levels()
@@ -32,21 +56,17 @@ fn literal(engine: &mut Engine, level: u32) -> Result<Ref, StoreRefusal> {
         && level < store.level(low)
         && level < store.level(high)
     {
-        engine.make(level, low, high)
+        Ok(engine.make(level, low, high)?)
     } else {
-        Err(StoreRefusal::Memory)
+        Err(Failure::Absent)
     }
 }
 
-fn negation<L: Ledger>(
-    engine: &mut Engine,
-    f: Ref,
-    steps: &mut Steps<L>,
-) -> Result<Ref, StoreRefusal> {
+fn negation<L: Ledger>(engine: &mut Engine, f: Ref, steps: &mut Steps<L>) -> Result<Ref, Failure> {
     if !engine.store().has(f) {
-        return Err(StoreRefusal::Memory);
+        return Err(Failure::Absent);
     }
-    engine.not(f, steps)
+    Ok(engine.not(f, steps)?)
 }
 
 fn either<L: Ledger>(
@@ -54,11 +74,11 @@ fn either<L: Ledger>(
     f: Ref,
     g: Ref,
     steps: &mut Steps<L>,
-) -> Result<Ref, StoreRefusal> {
+) -> Result<Ref, Failure> {
     if !engine.store().has(f) || !engine.store().has(g) {
-        return Err(StoreRefusal::Memory);
+        return Err(Failure::Absent);
     }
-    engine.or(f, g, steps)
+    Ok(engine.or(f, g, steps)?)
 }
 
 fn both<L: Ledger>(
@@ -66,11 +86,11 @@ fn both<L: Ledger>(
     f: Ref,
     g: Ref,
     steps: &mut Steps<L>,
-) -> Result<Ref, StoreRefusal> {
+) -> Result<Ref, Failure> {
     if !engine.store().has(f) || !engine.store().has(g) {
-        return Err(StoreRefusal::Memory);
+        return Err(Failure::Absent);
     }
-    engine.and(f, g, steps)
+    Ok(engine.and(f, g, steps)?)
 }
 
 fn attacks(a: (u32, u32), b: (u32, u32)) -> bool {
@@ -90,7 +110,7 @@ fn some_in_row<L: Ledger>(
     row: u32,
     n: u32,
     steps: &mut Steps<L>,
-) -> Result<Ref, StoreRefusal> {
+) -> Result<Ref, Failure> {
     let mut some = Ref::FALSE;
     for column in 0..n {
         let here = literal(engine, place(row, column, n))?;
@@ -104,7 +124,7 @@ fn safe_at<L: Ledger>(
     at: (u32, u32),
     n: u32,
     steps: &mut Steps<L>,
-) -> Result<Ref, StoreRefusal> {
+) -> Result<Ref, Failure> {
     let here = literal(engine, place(at.0, at.1, n))?;
     let free = negation(engine, here, steps)?;
     let mut safe = Ref::TRUE;
@@ -121,7 +141,7 @@ fn safe_at<L: Ledger>(
     Ok(safe)
 }
 
-fn queens<L: Ledger>(engine: &mut Engine, n: u32, blank: Blank) -> Result<Ref, StoreRefusal>
+fn queens<L: Ledger>(engine: &mut Engine, n: u32, blank: Blank) -> Result<Ref, Failure>
     requires name { blank.name ≡ L.name }
     requires parts { blank.parts ≡ L.parts }
     requires some { 0 < L.parts }
@@ -144,7 +164,7 @@ fn queens<L: Ledger>(engine: &mut Engine, n: u32, blank: Blank) -> Result<Ref, S
 
 /// The carry out of the lowest `n` bits of two summands: the one's bits are the levels below `n`,
 /// the other's those from `n` on.
-fn carry<L: Ledger>(engine: &mut Engine, n: u32, blank: Blank) -> Result<Ref, StoreRefusal>
+fn carry<L: Ledger>(engine: &mut Engine, n: u32, blank: Blank) -> Result<Ref, Failure>
     requires name { blank.name ≡ L.name }
     requires parts { blank.parts ≡ L.parts }
     requires some { 0 < L.parts }
@@ -163,21 +183,34 @@ fn carry<L: Ledger>(engine: &mut Engine, n: u32, blank: Blank) -> Result<Ref, St
     Ok(carry)
 }
 
-/// The triples made and the cache entries that found no memory.
-fn run(alloc: Global, adder: bool, n: u32) -> Result<(u32, u64), StoreRefusal> {
-    let levels = if adder { n.saturating_mul(2) } else { n.saturating_mul(n) };
-    let Ok(store) = Store::new(alloc, levels.min(256), LIMIT) else {
-        return Err(StoreRefusal::Memory);
-    };
-    let Ok(mut engine) = Engine::new(alloc, store, CACHE) else {
-        return Err(StoreRefusal::Memory);
-    };
-    if adder {
-        let _carry = carry::<Brand>(&mut engine, n, Blank::new(1))?;
+/// Counts the carry of an adder or the solutions of a board, in an engine of its own.
+fn run(rt: &HostRuntime, adder: bool, n: u32) -> Result<Outcome> {
+    let levels = if adder {
+        n.saturating_mul(2)
     } else {
-        let _all = queens::<Brand>(&mut engine, n, Blank::new(1))?;
+        n.saturating_mul(n)
+    };
+    if levels > 256 {
+        bail!("more than 256 levels");
     }
-    Ok((engine.store().count(), engine.refused()))
+    let store = Store::new(rt.alloc(), levels, LIMIT)?;
+    let mut engine = Engine::new(rt.alloc(), store, CACHE)?;
+    let start = rt.process_cpu_time()?;
+    let built = if adder {
+        carry::<Brand>(&mut engine, n, Blank::new(1))
+    } else {
+        queens::<Brand>(&mut engine, n, Blank::new(1))
+    };
+    let end = rt.process_cpu_time()?;
+    let micros = end.saturating_sub(start).as_micros();
+    if built.is_err() {
+        bail!("no room for all triples");
+    }
+    Ok(Outcome {
+        triples: engine.store().count(),
+        refused: engine.refused(),
+        micros,
+    })
 }
 
 fn main(rt: HostRuntime) -> Result<()> {
@@ -195,15 +228,15 @@ fn main(rt: HostRuntime) -> Result<()> {
         cases = [(adder, n), (adder, 1)];
     }
     for (adder, n) in cases {
-        let start = Instant::now(&rt)?;
-        let Ok((count, refused)) = run(rt.alloc(), adder, n) else {
-            bail!("refused");
-        };
-        let taken = start.elapsed(&rt)?;
+        let outcome = run(&rt, adder, n)?;
         let name = if adder { "carry" } else { "queens" };
-        println!(rt; "{name} {n}: {count} triples, {refused} refused")?;
+        let Outcome {
+            triples,
+            refused,
+            micros,
+        } = outcome;
+        println!(rt; "{name} {n}: {triples} triples, {refused} refused")?;
         if timed {
-            let micros = taken.as_micros();
             println!(rt; "{micros} microseconds")?;
             return Ok(());
         }
