@@ -1,3 +1,4 @@
+pub mod Triple
 pub mod Table
 pub mod Size
 pub mod Store

@@ -1,3 +1,4 @@
+pub mod Key
 pub mod Operation
 pub mod Operand
 pub mod Result

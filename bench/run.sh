@@ -1,0 +1,64 @@
+#!/bin/sh
+# Builds the program bdd_bench and the same work over BuDDy with full optimisation, runs them side by
+# side, and prints the ratio of time and of instructions, and where our instructions go. Wants rt, gcc,
+# libbdd-dev and valgrind (with callgrind_annotate).
+# Usage: bench/run.sh [queens|carry] [N] [NODES]
+# NODES is the room of BuDDy's node table: enough that nothing is collected, so that it makes as many
+# nodes as bdd_ops, which collects nothing.
+set -e
+cd "$(dirname "$0")/.."
+kind=${1:-queens}
+n=${2:-8}
+nodes=${3:-2000000}
+work=$(mktemp -d)
+trap 'rm -rf "$work"' EXIT
+
+# rt builds a proved program with clang at -O3
+(cd crates/bdd_bench && rt run -- "$kind" 4 >/dev/null)
+ours=crates/bdd_bench/out/bdd_bench
+gcc -O3 -o "$work/buddy" bench/buddy.c -lbdd
+
+grep -m 1 'model name' /proc/cpuinfo
+echo "processors: $(nproc)"
+"$ours" "$kind" "$n" | sed -n 1p
+"$work/buddy" "$kind" "$n" "$nodes" | sed -n 1p
+
+ratio() { echo "$1 $2" | awk '{ printf "%.2f", $1 / $2 }'; }
+time_of() { "$@" | awk '/microseconds/ { print $1 }'; }
+# the least of nine runs of each, in turn: other work on the machine makes a run only longer
+least_a= least_b=
+for run in 1 2 3 4 5 6 7 8 9; do
+    a=$(time_of "$ours" "$kind" "$n")
+    b=$(time_of "$work/buddy" "$kind" "$n" "$nodes")
+    [ -n "$least_a" ] && [ "$least_a" -le "$a" ] || least_a=$a
+    [ -n "$least_b" ] && [ "$least_b" -le "$b" ] || least_b=$b
+done
+echo "microseconds of processor time of the operations: $least_a and $least_b, ratio $(ratio "$least_a" "$least_b")"
+
+profile() {
+    to=$1
+    shift
+    valgrind --tool=callgrind --callgrind-out-file="$to" "$@" >/dev/null 2>&1
+    callgrind_annotate --inclusive=yes --threshold=100 "$to" >"$to.inclusive"
+    callgrind_annotate --threshold=100 "$to" >"$to.own"
+}
+# The instructions of the first line that has these words: with all that was called, or its own.
+of() { grep -m 1 -e "$2" "$1" | awk '{ gsub(",", "", $1); print $1 }'; }
+profile "$work/a" "$ours" "$kind" "$n"
+profile "$work/b" "$work/buddy" "$kind" "$n" "$nodes"
+a=$(of "$work/a.inclusive" 'PROGRAM TOTALS')
+b=$(of "$work/b.inclusive" 'PROGRAM TOTALS')
+echo "instructions, whole programs: $a and $b, ratio $(ratio "$a" "$b")"
+# literals are made outside the recursion, in far less than a hundredth of the instructions
+a=$(of "$work/a.inclusive" 'Engine::apply::<#[0-9a-f]*> ')
+b=$(of "$work/b.inclusive" ":$kind[ .]")
+echo "instructions of the operations: $a and $b, ratio $(ratio "$a" "$b")"
+echo "of BuDDy's, before the operations: $(of "$work/b.inclusive" ':bdd_init '), after them: $(of "$work/b.inclusive" ':bdd_done ')"
+echo "of ours, after them: $(of "$work/a.inclusive" 'LruCache::drop')"
+echo "instructions of each function of ours, its own:"
+grep -E '^ *[0-9,]+ \( *[0-9.]+%\)' "$work/a.own" | sed 's/\[[^]]*\]$//' | head -18
+echo "the same with all that it calls:"
+grep -E 'Engine::(note|make)|Nodes::(find|insert)|HashMap::grow|IndexMap::grow|LruCache::drop|KeyHash|rattle_(de)?alloc' \
+    "$work/a.inclusive" | sed 's/\[[^]]*\]$//'
+echo "instructions of each function of BuDDy, its own:"
+grep -E '^ *[0-9,]+ \( *[0-9.]+%\)' "$work/b.own" | sed 's/\[[^]]*\]$//' | head -8

@@ -1,0 +1,7 @@
+use Rattle.bdd_bench.proofs.run.Given as goal
+
+abbrev pub ghosts-carry : goal.ghosts-carry
+ghosts-carry a = record { name = a.blank.name; parts = a.blank.parts }
+
+abbrev pub ghosts-queens : goal.ghosts-queens
+ghosts-queens a = record { name = a.blank.name; parts = a.blank.parts }

@@ -1,0 +1,245 @@
+//! Builds two diagrams that are known to be large, and says how many triples were made: all
+//! solutions of the n queens problem, and the carry of an n bit adder whose summands' bits stand
+//! one summand after the other, which takes more than 2 to the n triples.
+//!
+//! Without arguments it counts a small case of each. `queens N` and `carry N` count one, and say
+//! how much processor time its operations took. The steps that `Steps` counts take no bytes at run
+//! time, so no program can print them.
+#![tactic(auto)]
+
+ghost use Rattle.std.specs.Prelude.{◌≡◌, ◌<◌};
+
+use anyhow::{Result, bail};
+use bdd_nodes::{Ref, Steps, Store, StoreRefusal};
+use bdd_ops::Engine;
+use std::env;
+use std::marker::Brand;
+use std::sync::ledger::{Blank, Ledger};
+use std::time::CpuClock;
+
+/// The most triples that a store takes.
+const LIMIT: u32 = 2_000_000_000;
+
+/// How many answers the engine remembers.
+const CACHE: u32 = 1_000_000;
+
+/// Why a count has no answer.
+#[derive(Drop)]
+enum Failure {
+    /// The store refused a triple.
+    Refused,
+    /// The store lacks a level or a diagram that an operation was to take.
+    Absent,
+}
+
+impl From<StoreRefusal> for Failure {
+    fn from(_refusal: StoreRefusal) -> Failure {
+        Failure::Refused
+    }
+}
+
+/// What a count made, and the processor time of its operations. The time that tables take before
+/// and after them is left out.
+struct Outcome {
+    triples: u32,
+    refused: u64,
+    micros: u128,
+}
+
+/// The diagram that is true where the level's bit is set.
+fn literal(engine: &mut Engine, level: u32) -> Result<Ref, Failure> {
+    let (low, high) = (Ref::FALSE, Ref::TRUE);
+    let store = engine.store();
+    if level < store.levels()
+        && store.has(low)
+        && store.has(high)
+        && level < store.level(low)
+        && level < store.level(high)
+    {
+        Ok(engine.make(level, low, high)?)
+    } else {
+        Err(Failure::Absent)
+    }
+}
+
+fn negation<L: Ledger>(engine: &mut Engine, f: Ref, steps: &mut Steps<L>) -> Result<Ref, Failure> {
+    if !engine.store().has(f) {
+        return Err(Failure::Absent);
+    }
+    Ok(engine.not(f, steps)?)
+}
+
+fn either<L: Ledger>(
+    engine: &mut Engine,
+    f: Ref,
+    g: Ref,
+    steps: &mut Steps<L>,
+) -> Result<Ref, Failure> {
+    if !engine.store().has(f) || !engine.store().has(g) {
+        return Err(Failure::Absent);
+    }
+    Ok(engine.or(f, g, steps)?)
+}
+
+fn both<L: Ledger>(
+    engine: &mut Engine,
+    f: Ref,
+    g: Ref,
+    steps: &mut Steps<L>,
+) -> Result<Ref, Failure> {
+    if !engine.store().has(f) || !engine.store().has(g) {
+        return Err(Failure::Absent);
+    }
+    Ok(engine.and(f, g, steps)?)
+}
+
+fn attacks(a: (u32, u32), b: (u32, u32)) -> bool {
+    let same = a.0 == b.0 && a.1 == b.1;
+    let line = a.0 == b.0 || a.1 == b.1;
+    let falling = a.0.saturating_add(a.1) == b.0.saturating_add(b.1);
+    let rising = a.0.saturating_add(b.1) == b.0.saturating_add(a.1);
+    !same && (line || falling || rising)
+}
+
+fn place(row: u32, column: u32, n: u32) -> u32 {
+    row.saturating_mul(n).saturating_add(column)
+}
+
+fn some_in_row<L: Ledger>(
+    engine: &mut Engine,
+    row: u32,
+    n: u32,
+    steps: &mut Steps<L>,
+) -> Result<Ref, Failure> {
+    let mut some = Ref::FALSE;
+    for column in 0..n {
+        let here = literal(engine, place(row, column, n))?;
+        some = either(engine, some, here, steps)?;
+    }
+    Ok(some)
+}
+
+fn safe_at<L: Ledger>(
+    engine: &mut Engine,
+    at: (u32, u32),
+    n: u32,
+    steps: &mut Steps<L>,
+) -> Result<Ref, Failure> {
+    let here = literal(engine, place(at.0, at.1, n))?;
+    let free = negation(engine, here, steps)?;
+    let mut safe = Ref::TRUE;
+    for row in 0..n {
+        for column in 0..n {
+            if attacks(at, (row, column)) {
+                let other = literal(engine, place(row, column, n))?;
+                let other_free = negation(engine, other, steps)?;
+                let apart = either(engine, free, other_free, steps)?;
+                safe = both(engine, safe, apart, steps)?;
+            }
+        }
+    }
+    Ok(safe)
+}
+
+fn queens<L: Ledger>(engine: &mut Engine, n: u32, blank: Blank) -> Result<Ref, Failure>
+    requires name { blank.name ≡ L.name }
+    requires parts { blank.parts ≡ L.parts }
+    requires some { 0 < L.parts }
+{
+    let mut count = Steps::<L>::new(blank);
+    let steps = &mut count;
+    let mut all = Ref::TRUE;
+    for row in 0..n {
+        let some = some_in_row(engine, row, n, steps)?;
+        all = both(engine, all, some, steps)?;
+    }
+    for row in 0..n {
+        for column in 0..n {
+            let safe = safe_at(engine, (row, column), n, steps)?;
+            all = both(engine, all, safe, steps)?;
+        }
+    }
+    Ok(all)
+}
+
+/// The carry out of the lowest `n` bits of two summands: the one's bits are the levels below `n`,
+/// the other's those from `n` on.
+fn carry<L: Ledger>(engine: &mut Engine, n: u32, blank: Blank) -> Result<Ref, Failure>
+    requires name { blank.name ≡ L.name }
+    requires parts { blank.parts ≡ L.parts }
+    requires some { 0 < L.parts }
+{
+    let mut count = Steps::<L>::new(blank);
+    let steps = &mut count;
+    let mut carry = Ref::FALSE;
+    for bit in 0..n {
+        let left = literal(engine, bit)?;
+        let right = literal(engine, n.saturating_add(bit))?;
+        let some = either(engine, left, right, steps)?;
+        let passed = both(engine, some, carry, steps)?;
+        let all = both(engine, left, right, steps)?;
+        carry = either(engine, passed, all, steps)?;
+    }
+    Ok(carry)
+}
+
+/// Counts the carry of an adder or the solutions of a board, in an engine of its own.
+fn run(rt: &HostRuntime, adder: bool, n: u32) -> Result<Outcome> {
+    let levels = if adder {
+        n.saturating_mul(2)
+    } else {
+        n.saturating_mul(n)
+    };
+    if levels > 256 {
+        bail!("more than 256 levels");
+    }
+    let store = Store::new(rt.alloc(), levels, LIMIT)?;
+    let mut engine = Engine::new(rt.alloc(), store, CACHE)?;
+    let start = rt.process_cpu_time()?;
+    let built = if adder {
+        carry::<Brand>(&mut engine, n, Blank::new(1))
+    } else {
+        queens::<Brand>(&mut engine, n, Blank::new(1))
+    };
+    let end = rt.process_cpu_time()?;
+    let micros = end.saturating_sub(start).as_micros();
+    if built.is_err() {
+        bail!("no room for all triples");
+    }
+    Ok(Outcome {
+        triples: engine.store().count(),
+        refused: engine.refused(),
+        micros,
+    })
+}
+
+fn main(rt: HostRuntime) -> Result<()> {
+    let mut words = env::args(&rt)?;
+    let _program = words.next();
+    let mut cases = [(false, 5), (true, 6)];
+    let mut timed = false;
+    if let Some(word) = words.next() {
+        timed = true;
+        let adder = word.as_str() == "carry";
+        let Some(number) = words.next() else {
+            bail!("queens N or carry N");
+        };
+        let n = number.as_str().parse::<u32>()?;
+        cases = [(adder, n), (adder, 1)];
+    }
+    for (adder, n) in cases {
+        let outcome = run(&rt, adder, n)?;
+        let name = if adder { "carry" } else { "queens" };
+        let Outcome {
+            triples,
+            refused,
+            micros,
+        } = outcome;
+        println!(rt; "{name} {n}: {triples} triples, {refused} refused")?;
+        if timed {
+            println!(rt; "{micros} microseconds")?;
+            return Ok(());
+        }
+    }
+    Ok(())
+}
