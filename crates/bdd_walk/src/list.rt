@@ -1,0 +1,77 @@
+ghost use Rattle.std.specs.Prelude.{◌≡◌, ℕ, ◌+◌, ◌<◌, ◌≤◌, length, slice_index, IfOk, IfErr};
+ghost use Rattle.bdd_nodes.specs.Store.{triples, levels_of, Grows};
+ghost use Rattle.bdd_nodes.specs.Refusal.{IsRefusalOf};
+ghost use Rattle.bdd_ops.specs.Engine.{store_of, cache_of, lists_of, refused_of};
+ghost use Rattle.bdd_walk.specs.List.{nodes_of, roots_of, number_in, IsGoodList};
+ghost use Rattle.bdd_walk.specs.Copy.{AreCopies};
+
+use bdd_nodes::{Ref, StoreRefusal, Triple};
+use bdd_ops::Engine;
+use std::alloc::{AllocError, Global};
+
+/// Diagrams outside of a store: the triples of a diagram table, in the order of their numbers,
+/// which begin at 2, and the numbers of some diagrams. 0 and 1 are the constants.
+#[derive(Debug, Drop)]
+pub struct NodeList {
+    /// The triples.
+    pub nodes: Vec<Triple>,
+    /// The numbers of the diagrams that are meant.
+    pub roots: Vec<u32>,
+}
+
+/// The diagrams of a good list of no more levels than the engine's store has, in the list's order.
+/// Each triple that the store lacks is put into it, so a list of `n` triples adds at most `n`.
+/// `Full` and `Memory` may leave new triples in the store.
+pub fn import(
+    alloc: Global,
+    engine: &mut Engine,
+    list: &NodeList,
+) -> Result<Vec<Ref>, StoreRefusal>
+    requires { IsGoodList (levels_of (store_of engine.old)) list.now }
+    ensures roots { IfOk result (λ refs. AreCopies (nodes_of list.now) (roots_of list.now) (store_of engine.new) refs.items) }
+    ensures held { IfErr result (IsRefusalOf (store_of engine.new)) }
+    ensures grows { Grows (store_of engine.old) (store_of engine.new) }
+    ensures count { length (triples (store_of engine.new)) ≤ length (triples (store_of engine.old)) + length (nodes_of list.now) }
+    ensures cache { cache_of engine.new ≡ cache_of engine.old }
+    ensures lists { lists_of engine.new ≡ lists_of engine.old }
+    ensures refused { refused_of engine.new ≡ refused_of engine.old }
+{
+    let mut made = Vec::new(alloc);
+    for triple in &list.nodes {
+        let low = made_of(made.as_slice(), triple.low);
+        let high = made_of(made.as_slice(), triple.high);
+        let r = engine.make(triple.level, low, high)?;
+        let Ok(()) = made.push(r) else {
+            return Err(StoreRefusal::Memory);
+        };
+    }
+    let Ok(refs) = all_made_of(alloc, made.as_slice(), list.roots.as_slice()) else {
+        return Err(StoreRefusal::Memory);
+    };
+    Ok(refs)
+}
+
+/// The diagram of a number of a list whose triples have these diagrams.
+fn made_of(made: &[Ref], number: u32) -> Ref
+    requires { number < length made.now + 2 }
+    ensures { result ≡ number_in made.now number }
+{
+    match number {
+        0 => Ref::FALSE,
+        1 => Ref::TRUE,
+        _ => made[number as usize - 2],
+    }
+}
+
+/// The diagrams of these numbers.
+fn all_made_of(alloc: Global, made: &[Ref], numbers: &[u32]) -> Result<Vec<Ref>, AllocError>
+    requires { (k : ℕ) → k < length numbers.now → slice_index numbers.now k < length made.now + 2 }
+    ensures as_many { IfOk result (λ refs. length refs.items ≡ length numbers.now) }
+    ensures each { IfOk result (λ refs. (k : ℕ) → k < length numbers.now → slice_index refs.items k ≡ number_in made.now (slice_index numbers.now k)) }
+{
+    let mut refs = Vec::new(alloc);
+    for number in numbers {
+        refs.push(made_of(made, *number))?;
+    }
+    Ok(refs)
+}
