@@ -1,1 +1,6 @@
 pub mod FirstBits
+pub mod Indices
+pub mod Copies
+pub mod Reaches
+pub mod Imports
+pub mod Copying
