@@ -62,7 +62,7 @@ IsCopied-node t r u e a b c d good f g h low high q lows highs grows has node eq
   grows = all;
   reached = λ p new hp. elim (cases_lt p (length c.nodes.keys + 2)) [
     | inl before ↦ elim (cases_lt p (length b.nodes.keys + 2)) [
-      | inl first ↦ reaches-from d u.level low high q node p (inl (reaches_in-keeps b.levels b.nodes.keys d.nodes.keys b.good bd.triples low low low p (omega arith) lows.copy.has (lows.reached p new first)) ) has
+      | inl first ↦ reaches-from d u.level low high q node p (inl (reaches_in-keeps b.levels b.nodes.keys d.nodes.keys b.good bd.triples low low low p (omega arith) lows.copy.has (lows.reached p new first))) has
       | inr second ↦ reaches-from d u.level low high q node p (inr (reaches_in-keeps c.levels c.nodes.keys d.nodes.keys c.good grows.triples high high high p (omega arith) highs.copy.has (highs.reached p second before))) has
     ]
     | inr last ↦ subst (λ x. reaches_in d.nodes.keys q q x ≡ true) (sym (new-number c d u.level low high q grows has node equal there one p last hp)) (reaches_in-self d.nodes.keys q q)
@@ -122,5 +122,5 @@ IsCopying-push t roots i s new kept more copies q old c = record {
       place = r.place;
       inside = omega (arith, length-append copies (q ∷ []), r.inside);
       reached = subst (λ x. reaches_in new.nodes.keys x x p ≡ true) (sym (index-push copies q r.place r.inside))
-      (reaches_in-keeps s.levels s.nodes.keys new.nodes.keys s.good c.grows.triples (slice_index copies r.place) (slice_index copies r.place) (slice_index copies r.place) p (omega arith) (old.each r.place (omega (arith, r.inside, old.len))).has r.reached);
+          (reaches_in-keeps s.levels s.nodes.keys new.nodes.keys s.good c.grows.triples (slice_index copies r.place) (slice_index copies r.place) (slice_index copies r.place) p (omega arith) (old.each r.place (omega (arith, r.inside, old.len))).has r.reached);
     }

@@ -3,4 +3,5 @@ pub mod Indices
 pub mod Copies
 pub mod Reaches
 pub mod Imports
+pub mod Exports
 pub mod Copying

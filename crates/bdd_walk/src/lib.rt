@@ -7,5 +7,5 @@ mod list;
 mod live;
 
 pub use first::least;
-pub use list::{NodeList, import};
+pub use list::{NodeList, export, import};
 pub use live::{Copied, copy_live};

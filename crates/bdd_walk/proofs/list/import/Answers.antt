@@ -81,7 +81,7 @@ loop-triple-preserved c =
     let e = c.in_ok-r.ensures in
     record {
       made = subst (AreMade t c.args.engine.now.store c.make.new.self.store) (sym c.in-Ok.ensures.items)
-      (AreMade-push t c.args.engine.now.store c.loop-triple.engine.store c.loop-triple.made.items c.requires.nodes i.made _ at c.make.new.self.store c.made_of-low.result c.made_of-high.result c.in_ok-r.r a b e.grows e.has e.node e.one_more);
+          (AreMade-push t c.args.engine.now.store c.loop-triple.engine.store c.loop-triple.made.items c.requires.nodes i.made _ at c.make.new.self.store c.made_of-low.result c.made_of-high.result c.in_ok-r.r a b e.grows e.has e.node e.one_more);
       len = search rules;
       cache = e.cache ∙ i.cache;
       lists = e.lists ∙ i.lists;

@@ -33,9 +33,9 @@ returns t c =
     let e = c.in-Ok.ensures in
     let u = c.in-Ok-insert.ensures.updates in
     let low : IsCopied s.nodes.keys c.in-Some.triple.low c.args.new.now c.copy.new.new (get nat_eq c.copy.new.done) c.in_ok-low.low =
-        subst (λ x. IsCopied s.nodes.keys x c.args.new.now c.copy.new.new (get nat_eq c.copy.new.done) c.in_ok-low.low) c.child.ensures c.in_ok-low.ensures in
+    subst (λ x. IsCopied s.nodes.keys x c.args.new.now c.copy.new.new (get nat_eq c.copy.new.done) c.in_ok-low.low) c.child.ensures c.in_ok-low.ensures in
     let high : IsCopied s.nodes.keys c.in-Some.triple.high c.copy.new.new c.copy-2.new.new (get nat_eq c.copy-2.new.done) c.in_ok-high.high =
-        subst (λ x. IsCopied s.nodes.keys x c.copy.new.new c.copy-2.new.new (get nat_eq c.copy-2.new.done) c.in_ok-high.high) c.child-2.ensures c.in_ok-high.ensures in
+    subst (λ x. IsCopied s.nodes.keys x c.copy.new.new c.copy-2.new.new (get nat_eq c.copy-2.new.done) c.in_ok-high.high) c.child-2.ensures c.in_ok-high.ensures in
     IsCopied-node s.nodes.keys c.args.r c.in-Some.triple (sym c.in-Some.ensures.node) c.args.new.now c.copy.new.new c.copy-2.new.new c.make.new.self
     (rw c.requires.levels s.good) (get nat_eq c.copy.new.done) (get nat_eq c.copy-2.new.done) (get nat_eq c.insert.new.self) c.in_ok-low.low c.in_ok-high.high c.in-Ok.q low high
     e.grows e.has e.node e.equal_stays e.there_stays e.one_more
