@@ -5,3 +5,4 @@ pub mod Reaches
 pub mod Imports
 pub mod Exports
 pub mod Copying
+pub mod Seeing

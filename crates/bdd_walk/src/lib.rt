@@ -5,7 +5,9 @@
 mod first;
 mod list;
 mod live;
+mod reach;
 
 pub use first::least;
 pub use list::{NodeList, export, import};
 pub use live::{Copied, copy_live};
+pub use reach::size;

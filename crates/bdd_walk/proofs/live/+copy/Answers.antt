@@ -3,6 +3,7 @@ use Rattle.std.specs.HashMap.{get}
 use Rattle.std.proofs.lemmas.Bool.{eqb-true}
 use Rattle.bdd_walk.specs.Copy.{IsCopied}
 use Rattle.bdd_walk.proofs.Copies.{IsCopyOf-constant}
+use Rattle.bdd_walk.proofs.Seeing.{other-number}
 use Rattle.bdd_walk.proofs.Copying.{IsCopied-same, IsCopied-node}
 use Rattle.bdd_walk.proofs.live.+copy.Goals as goal
 
@@ -19,13 +20,6 @@ copy-requires t c =
     let g = c.args.store.now.good.each c.args.r c.in-Some.triple (sym c.in-Some.ensures.node) in
     let e : c.child.result ≡ c.in-Some.triple.low = c.child.ensures in
     (omega (arith, g.low_earlier, e, c.decreases), (omega (arith, g.low_earlier, e, c.requires.has), (c.requires.levels, c.requires.done)))
-
-other-number : (k x : ℕ) → (x ≡ k → ⊥) → nat_eq k x ≡ false
-other-number k x other = by (k == x) refl
-  where
-    by : (b : Bool) → (k == x) ≡ b → (k == x) ≡ false
-    by true e = absurd (other (sym (eqb-true k x e)))
-    by false e = e
 
 pub returns : goal.returns
 returns t c =
