@@ -1,4 +1,4 @@
-use Rattle.std.proofs.Common.{◌≡◌, ◌∷◌, [], ◌++◌, sym, ap, ◌∙◌}
+use Rattle.std.proofs.Common.{◌∷◌, [], ◌++◌, sym, ap, ◌∙◌}
 use Rattle.bdd_nodes.specs.Table.{node_of}
 use Rattle.bdd_nodes.proofs.Tables.{node_of-at}
 use Rattle.bdd_walk.proofs.Indices.{take-more}

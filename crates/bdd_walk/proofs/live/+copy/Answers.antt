@@ -1,6 +1,5 @@
-use Rattle.std.proofs.Common.{rules, arith, ◌≡◌, ◌≢◌, ◌<◌, ℕ, Bool, true, false, ◌==◌, Some, nat_eq, refl, sym, ap, subst, ◌∙◌}
+use Rattle.std.proofs.Common.{rules, arith, ◌≡◌, Some, nat_eq, sym, subst, ◌∙◌}
 use Rattle.std.specs.HashMap.{get}
-use Rattle.std.proofs.lemmas.Bool.{eqb-true}
 use Rattle.bdd_walk.specs.Copy.{IsCopied}
 use Rattle.bdd_walk.proofs.Copies.{IsCopyOf-constant}
 use Rattle.bdd_walk.proofs.Seeing.{other-number}
