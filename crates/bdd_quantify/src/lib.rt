@@ -2,7 +2,11 @@
 //! and the cache of a `bdd_ops::Engine`.
 #![tactic(auto)]
 
+mod entry;
+mod level;
 mod node;
+mod quantification;
 mod renaming;
 
+pub use quantification::{and_exists, exists};
 pub use renaming::rename;

@@ -1,4 +1,4 @@
-use Rattle.std.proofs.Common.{◌≡◌, ℕ, ◌-◌, ◌%◌, ◌^◌, ◌<◌, ◌≤◌, ◌+◌, true, false, Some, length, sym, ap, subst, ◌∙◌, arith, rules}
+use Rattle.std.proofs.Common.{◌≡◌, ◌-◌, ◌%◌, ◌^◌, ◌<◌, ◌+◌, true, false, Some, length, sym, ap, subst, ◌∙◌, arith, rules}
 use Rattle.bdd_nodes.specs.declared.triple.Triple.{Triple}
 use Rattle.bdd_nodes.specs.Store.{triples, levels_of, Has, level_of, node_of, triple, Grows, IsNodeOf}
 use Rattle.bdd_nodes.proofs.Tables.{Grows-then}
