@@ -1,0 +1,166 @@
+-- Lemmas on the exchange of neighbouring levels.
+use Rattle.std.proofs.Common.{◌≡◌, ◌≢◌, ℕ, suc, ◌+◌, ◌-◌, ◌*◌, ◌%◌, ◌^◌, ◌<◌, ◌≤◌, inl, inr, Bool, true, false, cond, if◌then◌else◌, List, Some, slice_index_or, sym, ap, subst, ◌∙◌, arith}
+use Rattle.std.proofs.Math.Pow.{pow_mono}
+use Rattle.std.proofs.Math.Nat.{pow-suc}
+use Rattle.bdd_nodes.specs.declared.triple.Triple.{Triple}
+use Rattle.bdd_nodes.specs.declared.store.Store.{Store}
+use Rattle.bdd_nodes.specs.Table.{IsGoodNode}
+use Rattle.bdd_nodes.specs.Store.{Has, level_of, node_of, value_of, triples, levels_of, Grows, IsNodeOf}
+use Rattle.bdd_nodes.proofs.Tables.{node_of-has}
+use Rattle.bdd_nodes.proofs.Canonical.{level_of-node, level_of-constant}
+use Rattle.bdd_ops.specs.declared.key.Key.TheVariants.{Rename}
+use Rattle.bdd_ops.specs.Answer.{with_bit, exchanged, key_top, IsAnswer}
+use Rattle.bdd_quantify.specs.Independence.{DependsOnParity}
+use Rattle.bdd_quantify.specs.Exchange.{neighbour_of}
+use Rattle.bdd_quantify.proofs.Bits.{cases_parity, with_bit-commutes, exchanged-even, exchanged-odd}
+use Rattle.bdd_quantify.proofs.Values.{depends, value-child, value-made, level-made, value-node, value-constant}
+
+-- a triple's own level is of the diagram's parity
+abbrev HasParity : Bool → ℕ → Type 0
+HasParity even level = (i : ℕ) × (level ≡ (if even then 2 * i else 2 * i + 1))
+
+own-level : (s : Store) (f : ℕ) (t : Triple) → node_of s f ≡ Some t → (even : Bool) → DependsOnParity s even f → HasParity even t.level
+own-level s f t e true p = elim (cases_parity t.level) [
+  | inl h ↦ h
+  | inr h ↦ absurd (depends s.levels s.nodes.keys s.good f t e (λ bits b. subst (λ l. value_of s f (with_bit bits l b) ≡ value_of s f bits) (sym h.1) (p h.0 bits b)))
+]
+own-level s f t e false p = elim (cases_parity t.level) [
+  | inl h ↦ absurd (depends s.levels s.nodes.keys s.good f t e (λ bits b. subst (λ l. value_of s f (with_bit bits l b) ≡ value_of s f bits) (sym h.1) (p h.0 bits b)))
+  | inr h ↦ h
+]
+
+-- a level of the other parity is another
+other-level : (even : Bool) (level i : ℕ) → HasParity even level → (if even then 2 * i + 1 else 2 * i) ≢ level
+other-level true level i h = λ e. absurd (omega (arith, h.1, e))
+other-level false level i h = λ e. absurd (omega (arith, h.1, e))
+
+-- where the levels come in pairs, the neighbour is one of them
+pub neighbour-inside : (s : Store) → levels_of s % 2 ≡ 0 → (f : ℕ) (t : Triple) → node_of s f ≡ Some t → (even : Bool) → DependsOnParity s even f → neighbour_of even t.level < levels_of s
+neighbour-inside s pairs f t e true p = let h = own-level s f t e true p in omega (arith, pairs, h.1, (s.good.each f t e).inside)
+neighbour-inside s pairs f t e false p = let h = own-level s f t e false p in omega (arith, pairs, h.1, (s.good.each f t e).inside)
+
+-- and there is one before
+pub neighbour-some : (s : Store) (f : ℕ) (t : Triple) → node_of s f ≡ Some t → (even : Bool) → DependsOnParity s even f → 0 < neighbour_of even t.level + t.level
+neighbour-some s f t e true p = omega arith
+neighbour-some s f t e false p = let h = own-level s f t e false p in omega (arith, h.1)
+
+-- a child is smaller, lies deeper and depends on the same levels
+pub record IsChild (s : Store) (even : Bool) (f level child : ℕ) : Type 0 where
+  pub has : Has s child
+  pub parity : DependsOnParity s even child
+  pub deeper : level < level_of s child
+  pub smaller : child < f
+
+pub IsChild-node : (s : Store) (f : ℕ) (t : Triple) → node_of s f ≡ Some t → (even : Bool) → DependsOnParity s even f → (bit : Bool) → IsChild s even f t.level (cond bit t.high t.low)
+IsChild-node s f t e even p bit = record {
+  has = by bit (λ x. Has s x) (omega (arith, g.low_earlier, has.0)) (omega (arith, g.high_earlier, has.0));
+  parity = λ i bits b.
+      value-child s.levels s.nodes.keys s.good f t e (with_bit bits (other i) b) bit
+      ∙ ap (value_of s f) (with_bit-commutes bits (other i) t.level b bit (other-level even t.level i own))
+      ∙ p i (with_bit bits t.level bit) b
+      ∙ sym (value-child s.levels s.nodes.keys s.good f t e bits bit);
+  deeper = by bit (λ x. t.level < level_of s x) g.low_deeper g.high_deeper;
+  smaller = by bit (λ x. x < f) g.low_earlier g.high_earlier;
+}
+  where
+    g : IsGoodNode s.levels s.nodes.keys f t
+    g = s.good.each f t e
+
+    has : Has s f × (2 ≤ f)
+    has = node_of-has s.nodes.keys f t e
+
+    own : HasParity even t.level
+    own = own-level s f t e even p
+
+    other : ℕ → ℕ
+    other i = if even then 2 * i + 1 else 2 * i
+
+    by : (b : Bool) (P : ℕ → Type 0) → P t.low → P t.high → P (cond b t.high t.low)
+    by true P low high = high
+    by false P low high = low
+
+pub DependsOnParity-grows : (old new : Store) → Grows old new → (even : Bool) (f : ℕ) → Has old f → DependsOnParity old even f → DependsOnParity new even f
+DependsOnParity-grows old new g even f has p = λ i bits b. g.value f has (with_bit bits (if even then 2 * i + 1 else 2 * i) b) ∙ p i bits b ∙ sym (g.value f has bits)
+
+-- growth keeps a child
+pub IsChild-grows : (old new : Store) → Grows old new → (even : Bool) (f level child : ℕ) → IsChild old even f level child → IsChild new even f level child
+IsChild-grows old new g even f level child a = record {
+  has = g.has child a.has;
+  parity = DependsOnParity-grows old new g even child a.has a.parity;
+  deeper = omega (arith, a.deeper, g.level child a.has);
+  smaller = a.smaller;
+}
+
+-- the answer for a child lies deeper than the neighbour
+pub deeper-answer : (s : Store) (lists : List (List ℕ)) (even : Bool) (f level child r : ℕ) → neighbour_of even level < levels_of s → 0 < neighbour_of even level + level → IsChild s even f level child → IsAnswer s lists (Rename child even) r
+    → neighbour_of even level < level_of s r
+deeper-answer s lists true f level child r inside some a b = omega (arith, inside, a.deeper, b.deep)
+deeper-answer s lists false f level child r inside some a b = omega (arith, inside, some, a.deeper, b.deep)
+
+-- the bit at a level before the exchange is the one at its neighbour
+neighbour-bit : (even : Bool) (level : ℕ) → HasParity even level → (bits : List Bool) → slice_index_or bits (neighbour_of even level) false ≡ slice_index_or (exchanged bits) level false
+neighbour-bit true level h bits =
+    ap (λ l. slice_index_or bits (l + 1) false) h.1 ∙ sym (exchanged-even bits h.0) ∙ sym (ap (λ l. slice_index_or (exchanged bits) l false) h.1)
+neighbour-bit false level h bits =
+    let e : level - 1 ≡ 2 * h.0 = omega (arith, h.1) in
+    ap (λ l. slice_index_or bits l false) e ∙ sym (exchanged-odd bits h.0) ∙ sym (ap (λ l. slice_index_or (exchanged bits) l false) h.1)
+
+-- a constant is its own answer
+pub IsAnswer-constant : (s : Store) (lists : List (List ℕ)) (even : Bool) (f : ℕ) → Has s f → f < 2 → IsAnswer s lists (Rename f even) f
+IsAnswer-constant s lists true f has h = record {
+  operands = has;
+  listed = omega arith;
+  has = has;
+  value = λ bits. value-constant s.nodes.keys f h bits (exchanged bits);
+  deep = omega (arith, level_of-constant s.levels s.nodes.keys f h);
+}
+IsAnswer-constant s lists false f has h = record {
+  operands = has;
+  listed = omega arith;
+  has = has;
+  value = λ bits. value-constant s.nodes.keys f h bits (exchanged bits);
+  deep = omega (arith, level_of-constant s.levels s.nodes.keys f h);
+}
+
+-- the answer of a triple from those of its children
+pub IsAnswer-whole : (old new : Store) → Grows old new → (lists : List (List ℕ)) (f : ℕ) (t : Triple) → node_of old f ≡ Some t → (even : Bool) → DependsOnParity old even f → (low high r : ℕ)
+    → IsAnswer new lists (Rename t.low even) low → IsAnswer new lists (Rename t.high even) high → neighbour_of even t.level < level_of new low → Has new r → IsNodeOf new (neighbour_of even t.level) low high r
+    → IsAnswer new lists (Rename f even) r
+IsAnswer-whole old new g lists f t e even p low high r a b deeper has node = record {
+  operands = g.has f (node_of-has old.nodes.keys f t e).0;
+  listed = omega arith;
+  has = has;
+  value = λ bits.
+      value-made new.levels new.nodes.keys new.good (neighbour_of even t.level) low high r node.equal node.node bits
+      ∙ (λ j. cond (neighbour-bit even t.level (own-level old f t e even p) bits j) (b.value bits j) (a.value bits j))
+      ∙ sym (value-node new.levels new.nodes.keys new.good f t there (exchanged bits));
+  deep = deep even (level-made new.levels new.nodes.keys new.good (neighbour_of even t.level) low high r deeper node.equal node.node);
+}
+  where
+    there : node_of new f ≡ Some t
+    there = g.node f (node_of-has old.nodes.keys f t e).0 ∙ e
+
+    level : level_of new f ≡ t.level
+    level = level_of-node new.levels new.nodes.keys f t there
+
+    deep : (b : Bool) → neighbour_of b t.level ≤ level_of new r → key_top (levels_of new) (triples new) (Rename f b) ≤ level_of new r
+    deep true h = omega (arith, h, level)
+    deep false h = omega (arith, h, level)
+
+-- each side takes at most half of the bound
+half : (levels level top : ℕ) → level < top → level < levels → 2 ^ (levels - top) + 2 ^ (levels - top) ≤ 2 ^ (levels - level)
+half levels level top deeper inside =
+    let e : 2 ^ suc (levels - top) ≡ 2 ^ (levels - top) * 2 = pow-suc 2 (levels - top) in
+    let m : 2 ^ suc (levels - top) ≤ 2 ^ (levels - level) = pow_mono (omega arith) in
+    omega arith
+
+-- what one side added, and both
+pub count-low : (levels level top before after : ℕ) → level < top → level < levels → after + 1 ≤ before + 2 ^ (levels - top) → after + 1 ≤ before + 2 ^ (levels - level)
+count-low levels level top before after deeper inside h = let two = half levels level top deeper inside in omega arith
+
+pub count-high : (levels level low high before between after : ℕ) → level < low → level < high → level < levels
+    → between + 1 ≤ before + 2 ^ (levels - low) → after + 1 ≤ between + 2 ^ (levels - high) → after + 2 ≤ before + 2 ^ (levels - level)
+count-high levels level low high before between after a b inside h i =
+    let one = half levels level low a inside in
+    let two = half levels level high b inside in
+    omega arith

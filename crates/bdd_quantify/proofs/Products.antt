@@ -1,0 +1,302 @@
+-- Lemmas on conjunctions with quantified levels.
+use Rattle.std.proofs.Common.{◌≡◌, ℕ, ◌+◌, ◌<◌, ◌≤◌, ◌⊎◌, inl, inr, min, max, Bool, true, false, ◌&&◌, ◌||◌, ◌==◌, cond, if◌then◌else◌, List, length, slice_index_or, refl, sym, ap, ◌∙◌, arith}
+use Rattle.std.proofs.lemmas.Bool.{cases_lt, eqb-true}
+use Rattle.bdd_nodes.specs.declared.store.Store.{Store}
+use Rattle.bdd_nodes.specs.Store.{Has, level_of, value_of, triples, levels_of, Grows, IsNodeOf}
+use Rattle.bdd_nodes.proofs.Tables.{node_of-some, value_of-false, value_of-true}
+use Rattle.bdd_nodes.proofs.Canonical.{level_of-node, level_of-constant, level_of-bound}
+use Rattle.bdd_ops.specs.declared.key.Key.TheVariants.{Exists, AndExists}
+use Rattle.bdd_ops.specs.Operation.{part_of}
+use Rattle.bdd_ops.specs.Answer.{with_bit, some_choice, list_at, meaning_of, key_highest, key_top, lists_named, IsAnswer}
+use Rattle.bdd_ops.proofs.AnswerLemmas.{some_choice-same}
+use Rattle.bdd_ops.proofs.Parts.{part_of-grows, part_of-value, part_of-le, part_of-less, part_of-deeper}
+use Rattle.bdd_quantify.specs.Product.{product_of, IsProduct, IsEntry, key_of}
+use Rattle.bdd_quantify.proofs.Values.{depends, value-above, value-made, level-made}
+use Rattle.bdd_quantify.proofs.Choices.{IsAway, Rises, Ignores, IsBranch, some_choice-ignored, some_choice-branch, some_choice-named}
+
+and-true : (b : Bool) → (b && true) ≡ b
+and-true true = refl
+and-true false = refl
+
+and-false : (b : Bool) → (b && false) ≡ false
+and-false true = refl
+and-false false = refl
+
+-- a true operand adds nothing to a conjunction
+true-right : (s : Store) (f g : ℕ) → g ≡ 1 → (bits : List Bool) → (value_of s f bits && value_of s g bits) ≡ value_of s f bits
+true-right s f g e bits = ap (λ x. value_of s f bits && value_of s x bits) e ∙ ap (λ b. value_of s f bits && b) (value_of-true s.nodes.keys bits) ∙ and-true (value_of s f bits)
+
+true-left : (s : Store) (f g : ℕ) → f ≡ 1 → (bits : List Bool) → (value_of s f bits && value_of s g bits) ≡ value_of s g bits
+true-left s f g e bits = ap (λ x. value_of s x bits && value_of s g bits) e ∙ ap (λ b. b && value_of s g bits) (value_of-true s.nodes.keys bits)
+
+false-right : (s : Store) (f g : ℕ) → g ≡ 0 → (bits : List Bool) → (value_of s f bits && value_of s g bits) ≡ false
+false-right s f g e bits = ap (λ x. value_of s f bits && value_of s x bits) e ∙ ap (λ b. value_of s f bits && b) (value_of-false s.nodes.keys bits) ∙ and-false (value_of s f bits)
+
+false-left : (s : Store) (f g : ℕ) → f ≡ 0 → (bits : List Bool) → (value_of s f bits && value_of s g bits) ≡ false
+false-left s f g e bits = ap (λ x. value_of s x bits && value_of s g bits) e ∙ ap (λ b. b && value_of s g bits) (value_of-false s.nodes.keys bits)
+
+-- the key means the product
+meaning-key : (s : Store) (lists : List (List ℕ)) (f g p : ℕ) (bits : List Bool) → meaning_of lists (triples s) (key_of f g p) bits ≡ product_of s (list_at lists p) f g bits
+meaning-key s lists f g p bits = by (g == 1) refl (f == 1) refl
+  where
+    by : (x : Bool) → (g == 1) ≡ x → (y : Bool) → (f == 1) ≡ y → meaning_of lists (triples s) (if x then Exists f p else (if y then Exists g p else AndExists f g p)) bits ≡ product_of s (list_at lists p) f g bits
+    by true e y d = some_choice-same (value_of s f) (λ bs. value_of s f bs && value_of s g bs) (λ bs. sym (true-right s f g (eqb-true g 1 e) bs)) (list_at lists p) bits
+    by false e true d = some_choice-same (value_of s g) (λ bs. value_of s f bs && value_of s g bs) (λ bs. sym (true-left s f g (eqb-true f 1 d) bs)) (list_at lists p) bits
+    by false e false d = refl
+
+top-key : (s : Store) (f g p : ℕ) → Has s f → Has s g → key_top (levels_of s) (triples s) (key_of f g p) ≡ min (level_of s f) (level_of s g)
+top-key s f g p hf hg = by (g == 1) refl (f == 1) refl
+  where
+    by : (x : Bool) → (g == 1) ≡ x → (y : Bool) → (f == 1) ≡ y → key_top (levels_of s) (triples s) (if x then Exists f p else (if y then Exists g p else AndExists f g p)) ≡ min (level_of s f) (level_of s g)
+    by true e y d = omega (arith, level_of-bound s.levels s.nodes.keys s.good f hf, level_of-constant s.levels s.nodes.keys g (omega (arith, eqb-true g 1 e)))
+    by false e true d = omega (arith, level_of-bound s.levels s.nodes.keys s.good g hg, level_of-constant s.levels s.nodes.keys f (omega (arith, eqb-true f 1 d)))
+    by false e false d = refl
+
+named-key : (f g p : ℕ) → lists_named (key_of f g p) ≡ p + 1
+named-key f g p = by (g == 1) (f == 1)
+  where
+    by : (x y : Bool) → lists_named (if x then Exists f p else (if y then Exists g p else AndExists f g p)) ≡ p + 1
+    by true y = refl
+    by false true = refl
+    by false false = refl
+
+operands-key : (s : Store) (f g p : ℕ) → Has s f → Has s g → Has s (key_highest (key_of f g p))
+operands-key s f g p hf hg = by (g == 1) (f == 1)
+  where
+    by : (x y : Bool) → Has s (key_highest (if x then Exists f p else (if y then Exists g p else AndExists f g p)))
+    by true y = hf
+    by false true = hg
+    by false false = omega arith
+
+pub answer-entry : (s : Store) (lists : List (List ℕ)) (f g r p : ℕ) → IsEntry s lists f g r p → IsAnswer s lists (key_of f g p) r
+answer-entry s lists f g r p a = record {
+  operands = operands-key s f g p a.product.has_f a.product.has_g;
+  listed = omega (arith, a.listed, named-key f g p);
+  has = a.product.has;
+  value = λ bits. a.product.value bits ∙ sym (meaning-key s lists f g p bits);
+  deep = omega (arith, a.product.deep, top-key s f g p a.product.has_f a.product.has_g);
+}
+
+pub product-answer : (s : Store) (lists : List (List ℕ)) (f g r p : ℕ) → Has s f → Has s g → IsAnswer s lists (key_of f g p) r → IsProduct s (list_at lists p) f g r
+product-answer s lists f g r p hf hg a = record {
+  has_f = hf;
+  has_g = hg;
+  has = a.has;
+  value = λ bits. a.value bits ∙ meaning-key s lists f g p bits;
+  deep = omega (arith, a.deep, top-key s f g p hf hg);
+}
+
+-- growth keeps a product
+product-grows : (old new : Store) → Grows old new → (ls : List ℕ) (f g : ℕ) → Has old f → Has old g → (bits : List Bool) → product_of new ls f g bits ≡ product_of old ls f g bits
+product-grows old new w ls f g hf hg bits = some_choice-same (λ bs. value_of new f bs && value_of new g bs) (λ bs. value_of old f bs && value_of old g bs) (λ bs. λ j. w.value f hf bs j && w.value g hg bs j) ls bits
+
+pub IsProduct-grows : (old new : Store) → Grows old new → (ls : List ℕ) (f g r : ℕ) → IsProduct old ls f g r → IsProduct new ls f g r
+IsProduct-grows old new w ls f g r a = record {
+  has_f = w.has f a.has_f;
+  has_g = w.has g a.has_g;
+  has = w.has r a.has;
+  value = λ bits. w.value r a.has bits ∙ a.value bits ∙ sym (product-grows old new w ls f g a.has_f a.has_g bits);
+  deep = omega (arith, a.deep, w.level f a.has_f, w.level g a.has_g, w.level r a.has);
+}
+
+-- the value before the call
+pub product-before : (old new : Store) → Grows old new → (ls : List ℕ) (f g r : ℕ) → Has old f → Has old g → IsProduct new ls f g r → (bits : List Bool) → value_of new r bits ≡ product_of old ls f g bits
+product-before old new w ls f g r hf hg a bits = a.value bits ∙ product-grows old new w ls f g hf hg bits
+
+-- with a true operand
+pub exists-before : (old new : Store) → Grows old new → (ls : List ℕ) (f r : ℕ) → Has old f → IsProduct new ls f 1 r → (bits : List Bool) → value_of new r bits ≡ some_choice (value_of old f) ls bits
+exists-before old new w ls f r hf a bits =
+    product-before old new w ls f 1 r hf (omega arith) a bits ∙ some_choice-same (λ bs. value_of old f bs && value_of old 1 bs) (value_of old f) (λ bs. true-right old f 1 refl bs) ls bits
+
+-- a conjunction that is the same at every list of bits
+product-constant : (s : Store) (ls : List ℕ) (f g : ℕ) (b : Bool) → ((bits : List Bool) → (value_of s f bits && value_of s g bits) ≡ b) → (bits : List Bool) → product_of s ls f g bits ≡ b
+product-constant s ls f g b h bits = some_choice-same (λ bs. value_of s f bs && value_of s g bs) (λ bs. b) h ls bits ∙ some_choice-ignored (λ bs. b) ls (λ k inside bs c. refl) bits
+
+min-bound : (s : Store) (f g : ℕ) → Has s f → min (level_of s f) (level_of s g) ≤ levels_of s
+min-bound s f g hf = omega (arith, level_of-bound s.levels s.nodes.keys s.good f hf)
+
+pub IsProduct-constant : (s : Store) (ls : List ℕ) (f g r : ℕ) → Has s f → Has s g → ((r ≡ 0) × ((f ≡ 0) ⊎ (g ≡ 0))) ⊎ ((r ≡ 1) × (f ≡ 1) × (g ≡ 1)) → IsProduct s ls f g r
+IsProduct-constant s ls f g r hf hg (inl h) = record {
+  has_f = hf;
+  has_g = hg;
+  has = omega (arith, h.0);
+  value = λ bits. ap (λ x. value_of s x bits) h.0 ∙ value_of-false s.nodes.keys bits ∙ sym (product-constant s ls f g false (elim h.1 [ inl e ↦ false-left s f g e | inr e ↦ false-right s f g e ]) bits);
+  deep = omega (arith, min-bound s f g hf, level_of-constant s.levels s.nodes.keys r (omega (arith, h.0)));
+}
+IsProduct-constant s ls f g r hf hg (inr h) = record {
+  has_f = hf;
+  has_g = hg;
+  has = omega (arith, h.0);
+  value = λ bits. ap (λ x. value_of s x bits) h.0 ∙ value_of-true s.nodes.keys bits ∙ sym (product-constant s ls f g true (λ bs. true-left s f g h.1 bs ∙ ap (λ x. value_of s x bs) h.2 ∙ value_of-true s.nodes.keys bs) bits);
+  deep = omega (arith, min-bound s f g hf, level_of-constant s.levels s.nodes.keys r (omega (arith, h.0)));
+}
+
+-- a diagram that doesn't depend on the levels before one lies there or deeper
+level-deep : (s : Store) (r d : ℕ) → Has s r → d ≤ levels_of s → ((l : ℕ) → l < d → Ignores (value_of s r) l) → d ≤ level_of s r
+level-deep s r d has bound h = elim (cases_lt (level_of s r) d) [
+  | inl less ↦ elim (cases_lt r 2) [
+    | inl constant ↦ omega (arith, level_of-constant s.levels s.nodes.keys r constant)
+    | inr some ↦
+        let node = node_of-some s.nodes.keys r has some in
+        absurd (depends s.levels s.nodes.keys s.good r node.0 node.1 (h node.0.level (omega (arith, level_of-node s.levels s.nodes.keys r node.0 node.1))))
+  ]
+  | inr more ↦ more
+]
+
+-- the conjunction, where no named level is left
+pub IsProduct-past : (old new : Store) → Grows old new → (ls : List ℕ) (f g level r : ℕ) → Has old f → Has old g → level ≡ min (level_of old f) (level_of old g) → ((k : ℕ) → k < length ls → slice_index_or ls k 0 < level)
+    → Has new r → ((bits : List Bool) → value_of new r bits ≡ (value_of old f bits && value_of old g bits)) → IsProduct new ls f g r
+IsProduct-past old new w ls f g level r hf hg top past has value = record {
+  has_f = w.has f hf;
+  has_g = w.has g hg;
+  has = has;
+  value = λ bits. value bits ∙ sym (product-grows old new w ls f g hf hg bits ∙ some_choice-ignored (λ bs. value_of old f bs && value_of old g bs) ls (λ k inside. ignores (slice_index_or ls k 0) (past k inside)) bits);
+  deep = omega (
+    arith,
+    w.level f hf,
+    w.level g hg,
+    top,
+    level-deep new r level has (omega (arith, top, min-bound old f g hf, w.levels)) (λ l less bits b. value (with_bit bits l b) ∙ ignores l less bits b ∙ sym (value bits)),
+  );
+}
+  where
+    ignores : (l : ℕ) → l < level → Ignores (λ bs. value_of old f bs && value_of old g bs) l
+    ignores l less bits b = λ j. value-above old.levels old.nodes.keys old.good f hf l (omega arith) bits b j && value-above old.levels old.nodes.keys old.good g hg l (omega arith) bits b j
+
+-- two diagrams at their least level, and their children there
+pub record AreSides (s : Store) (f g level fl gl fh gh : ℕ) : Type 0 where
+  pub has_f : Has s f
+  pub has_g : Has s g
+  pub some : 2 ≤ max f g
+  pub top : level ≡ min (level_of s f) (level_of s g)
+  pub low_f : fl ≡ part_of (triples s) level false f
+  pub low_g : gl ≡ part_of (triples s) level false g
+  pub high_f : fh ≡ part_of (triples s) level true f
+  pub high_g : gh ≡ part_of (triples s) level true g
+
+pub AreSides-grows : (old new : Store) → Grows old new → (f g level fl gl fh gh : ℕ) → AreSides old f g level fl gl fh gh → AreSides new f g level fl gl fh gh
+AreSides-grows old new w f g level fl gl fh gh a = record {
+  has_f = w.has f a.has_f;
+  has_g = w.has g a.has_g;
+  some = a.some;
+  top = a.top ∙ sym (λ j. min (w.level f a.has_f j) (w.level g a.has_g j));
+  low_f = a.low_f ∙ sym (part_of-grows old.nodes.keys new.nodes.keys w.triples level false f a.has_f);
+  low_g = a.low_g ∙ sym (part_of-grows old.nodes.keys new.nodes.keys w.triples level false g a.has_g);
+  high_f = a.high_f ∙ sym (part_of-grows old.nodes.keys new.nodes.keys w.triples level true f a.has_f);
+  high_g = a.high_g ∙ sym (part_of-grows old.nodes.keys new.nodes.keys w.triples level true g a.has_g);
+}
+
+-- the children on one side are smaller together and lie deeper
+pub record IsSide (s : Store) (f g level x y : ℕ) : Type 0 where
+  pub has_x : Has s x
+  pub has_y : Has s y
+  pub deep_x : level < level_of s x
+  pub deep_y : level < level_of s y
+  pub smaller : x + y < f + g
+
+module _ (s : Store) (f g level fl gl fh gh : ℕ) (a : AreSides s f g level fl gl fh gh) where
+  pub sides-inside : level < levels_of s
+  sides-inside = elim (cases_lt f 2) [
+    | inl constant ↦ omega (arith, a.top, inside g a.has_g (omega (arith, a.some)))
+    | inr other ↦ omega (arith, a.top, inside f a.has_f other)
+  ]
+    where
+      inside : (r : ℕ) → Has s r → 2 ≤ r → level_of s r < levels_of s
+      inside r has two = let node = node_of-some s.nodes.keys r has two in omega (arith, level_of-node s.levels s.nodes.keys r node.0 node.1, (s.good.each r node.0 node.1).inside)
+
+  side : (bit : Bool) (x y : ℕ) → x ≡ part_of (triples s) level bit f → y ≡ part_of (triples s) level bit g → IsSide s f g level x y
+  side bit x y ex ey = record {
+    has_x = omega (arith, ex, below_f, a.has_f);
+    has_y = omega (arith, ey, below_g, a.has_g);
+    deep_x = omega (arith, ap (level_of s) ex, part_of-deeper s.levels s.nodes.keys s.good level bit f a.has_f (omega (arith, a.top)) sides-inside);
+    deep_y = omega (arith, ap (level_of s) ey, part_of-deeper s.levels s.nodes.keys s.good level bit g a.has_g (omega (arith, a.top)) sides-inside);
+    smaller = elim (cases_lt (level_of s g) (level_of s f)) [
+      | inl less ↦ omega (arith, ex, ey, below_f, part_of-less s.levels s.nodes.keys s.good level bit g a.has_g (omega (arith, a.top)) sides-inside)
+      | inr more ↦ omega (arith, ex, ey, below_g, part_of-less s.levels s.nodes.keys s.good level bit f a.has_f (omega (arith, a.top)) sides-inside)
+    ];
+  }
+    where
+      below_f : part_of (triples s) level bit f ≤ f
+      below_f = part_of-le s.levels s.nodes.keys s.good level bit f a.has_f
+
+      below_g : part_of (triples s) level bit g ≤ g
+      below_g = part_of-le s.levels s.nodes.keys s.good level bit g a.has_g
+
+  pub sides-low : IsSide s f g level fl gl
+  sides-low = side false fl gl a.low_f a.low_g
+
+  pub sides-high : IsSide s f g level fh gh
+  sides-high = side true fh gh a.high_f a.high_g
+
+  -- the conjunction is that of the side which the bit chooses
+  branch : IsBranch level (λ bs. value_of s f bs && value_of s g bs) (λ bs. value_of s fh bs && value_of s gh bs) (λ bs. value_of s fl bs && value_of s gl bs)
+  branch bits = by (slice_index_or bits level false) refl
+    where
+      by : (x : Bool) → slice_index_or bits level false ≡ x → (value_of s f bits && value_of s g bits) ≡ cond x (value_of s fh bits && value_of s gh bits) (value_of s fl bits && value_of s gl bits)
+      by true e = sym (λ j. (ap (λ x. value_of s x bits) a.high_f ∙ part_of-value s.levels s.nodes.keys s.good level true bits e f a.has_f) j
+          && (ap (λ x. value_of s x bits) a.high_g ∙ part_of-value s.levels s.nodes.keys s.good level true bits e g a.has_g) j)
+      by false e = sym (λ j. (ap (λ x. value_of s x bits) a.low_f ∙ part_of-value s.levels s.nodes.keys s.good level false bits e f a.has_f) j
+          && (ap (λ x. value_of s x bits) a.low_g ∙ part_of-value s.levels s.nodes.keys s.good level false bits e g a.has_g) j)
+
+  ignores : (x y : ℕ) → Has s x → Has s y → level < level_of s x → level < level_of s y → Ignores (λ bs. value_of s x bs && value_of s y bs) level
+  ignores x y hx hy dx dy bits b = λ j. value-above s.levels s.nodes.keys s.good x hx level dx bits b j && value-above s.levels s.nodes.keys s.good y hy level dy bits b j
+
+  module _ (ls : List ℕ) (low high : ℕ) (p : IsProduct s ls fl gl low) where
+    pub low-deeper : level < level_of s low
+    low-deeper = omega (arith, p.deep, sides-low.deep_x, sides-low.deep_y)
+
+    -- a named level: either side
+    named-value : Rises ls → (k : ℕ) → k < length ls → slice_index_or ls k 0 ≡ level → (bits : List Bool) → product_of s ls f g bits ≡ (product_of s ls fl gl bits || product_of s ls fh gh bits)
+    named-value rises k inside at bits =
+        some_choice-named level (λ bs. value_of s f bs && value_of s g bs) (λ bs. value_of s fh bs && value_of s gh bs) (λ bs. value_of s fl bs && value_of s gl bs) branch
+        (ignores fh gh sides-high.has_x sides-high.has_y sides-high.deep_x sides-high.deep_y)
+        (ignores fl gl sides-low.has_x sides-low.has_y sides-low.deep_x sides-low.deep_y) ls rises k inside at bits
+
+    -- one side that is true decides
+    pub IsProduct-true : low ≡ 1 → Rises ls → (k : ℕ) → k < length ls → slice_index_or ls k 0 ≡ level → IsProduct s ls f g low
+    IsProduct-true one rises k inside at = record {
+      has_f = a.has_f;
+      has_g = a.has_g;
+      has = p.has;
+      value = λ bits. is_true bits ∙ sym (named-value rises k inside at bits ∙ ap (λ x. x || product_of s ls fh gh bits) (sym (p.value bits) ∙ is_true bits));
+      deep = omega (arith, min-bound s f g a.has_f, level_of-constant s.levels s.nodes.keys low (omega arith));
+    }
+      where
+        is_true : (bits : List Bool) → value_of s low bits ≡ true
+        is_true bits = ap (λ x. value_of s x bits) one ∙ value_of-true s.nodes.keys bits
+
+    module _ (q : IsProduct s ls fh gh high) where
+      pub high-deeper : level < level_of s high
+      high-deeper = omega (arith, q.deep, sides-high.deep_x, sides-high.deep_y)
+
+      -- the disjunction of both sides
+      pub IsProduct-union : (new : Store) → Grows s new → Rises ls → (k : ℕ) → k < length ls → slice_index_or ls k 0 ≡ level → (r : ℕ) → Has new r → ((bits : List Bool) → value_of new r bits ≡ (value_of s low bits || value_of s high bits)) → IsProduct new ls f g r
+      IsProduct-union new w rises k inside at r has value = record {
+        has_f = w.has f a.has_f;
+        has_g = w.has g a.has_g;
+        has = has;
+        value = λ bits. value bits ∙ (λ j. p.value bits j || q.value bits j) ∙ sym (product-grows s new w ls f g a.has_f a.has_g bits ∙ named-value rises k inside at bits);
+        deep = omega (
+          arith,
+          a.top,
+          w.level f a.has_f,
+          w.level g a.has_g,
+          level-deep new r level has (omega (arith, sides-inside, w.levels)) (λ l less bits b.
+              value (with_bit bits l b)
+              ∙ (λ j. value-above s.levels s.nodes.keys s.good low p.has l (omega (arith, low-deeper)) bits b j || value-above s.levels s.nodes.keys s.good high q.has l (omega (arith, high-deeper)) bits b j)
+              ∙ sym (value bits)),
+        );
+      }
+
+      -- the triple of both sides
+      pub IsProduct-node : IsAway level ls → (r : ℕ) → Has s r → IsNodeOf s level low high r → IsProduct s ls f g r
+      IsProduct-node away r has node = record {
+        has_f = a.has_f;
+        has_g = a.has_g;
+        has = has;
+        value = λ bits.
+            value-made s.levels s.nodes.keys s.good level low high r node.equal node.node bits
+            ∙ (λ j. cond (slice_index_or bits level false) (q.value bits j) (p.value bits j))
+            ∙ sym (some_choice-branch level (λ bs. value_of s f bs && value_of s g bs) (λ bs. value_of s fh bs && value_of s gh bs) (λ bs. value_of s fl bs && value_of s gl bs) branch ls away bits);
+        deep = omega (arith, a.top, level-made s.levels s.nodes.keys s.good level low high r low-deeper node.equal node.node);
+      }

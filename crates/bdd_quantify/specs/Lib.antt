@@ -1,0 +1,3 @@
+pub mod Independence
+pub mod Exchange
+pub mod Product

@@ -1,0 +1,75 @@
+ghost use Rattle.std.specs.Prelude.{◌≡◌, ◌<◌};
+
+use crate::{and_exists, exists};
+use bdd_nodes::{Ref, Steps, Store, StoreRefusal};
+use bdd_ops::Engine;
+use std::alloc::Global;
+use std::marker::Brand;
+use std::process::Abort;
+use std::sync::ledger::{Blank, Ledger};
+use std::test::Fail;
+
+/// What `make` answers; where a condition of it fails, `Memory`.
+fn made(engine: &mut Engine, level: u32, low: Ref, high: Ref) -> Result<Ref, StoreRefusal> {
+    let store = engine.store();
+    let there = store.has(low) && store.has(high) && level < store.levels();
+    if there && level < store.level(low) && level < store.level(high) {
+        engine.make(level, low, high)
+    } else {
+        Err(StoreRefusal::Memory)
+    }
+}
+
+/// What `and_exists` over level 1 answers; where a condition fails, `Memory`.
+fn product<L: Ledger>(
+    engine: &mut Engine,
+    f: Ref,
+    g: Ref,
+    steps: &mut Steps<L>,
+) -> Result<Ref, StoreRefusal> {
+    let store = engine.store();
+    if store.has(f) && store.has(g) {
+        and_exists(engine, f, g, &[1], steps)
+    } else {
+        Err(StoreRefusal::Memory)
+    }
+}
+
+/// What `exists` over level 1 answers; where a condition fails, `Memory`.
+fn without<L: Ledger>(
+    engine: &mut Engine,
+    f: Ref,
+    steps: &mut Steps<L>,
+) -> Result<Ref, StoreRefusal> {
+    if engine.store().has(f) {
+        exists(engine, f, &[1], steps)
+    } else {
+        Err(StoreRefusal::Memory)
+    }
+}
+
+fn literals<L: Ledger>(rt: &impl Abort, alloc: Global, cache: u32, blank: Blank) -> Result<(), Fail>
+    requires cache { 0 < cache }
+    requires name { blank.name ≡ L.name }
+    requires parts { blank.parts ≡ L.parts }
+    requires some { 0 < L.parts }
+{
+    let mut steps = Steps::<L>::new(blank);
+    let mut engine = Engine::new(alloc, Store::new(alloc, 2, 100)?, cache)?;
+    let a = made(&mut engine, 0, Ref::FALSE, Ref::TRUE)?;
+    let b = made(&mut engine, 1, Ref::FALSE, Ref::TRUE)?;
+    let and = made(&mut engine, 0, Ref::FALSE, b)?;
+    assert_eq!(rt; without(&mut engine, and, &mut steps)?, a);
+    assert_eq!(rt; without(&mut engine, b, &mut steps)?, Ref::TRUE);
+    assert_eq!(rt; product(&mut engine, a, b, &mut steps)?, a);
+    assert_eq!(rt; product(&mut engine, b, b, &mut steps)?, Ref::TRUE);
+    assert_eq!(rt; without(&mut engine, and, &mut steps)?, a);
+    assert_eq!(rt; engine.refused(), 0);
+    Ok(())
+}
+
+#[test]
+fn quantification_of_two_literals(rt: HostRuntime) -> Result<(), Fail> {
+    literals::<Brand>(&rt, rt.alloc(), 1, Blank::new(1))?;
+    literals::<Brand>(&rt, rt.alloc(), 65_536, Blank::new(1))
+}
