@@ -6,3 +6,4 @@ pub mod Levels
 pub mod Products
 pub mod Counts
 pub mod Runs
+pub mod Literals

@@ -1,6 +1,9 @@
 ghost use Rattle.std.specs.Prelude.{◌≡◌, ◌<◌};
+ghost use Rattle.bdd_nodes.specs.Store.{levels_of};
+ghost use Rattle.bdd_ops.specs.Engine.{store_of};
 
-use crate::{and_exists, exists};
+use crate::{and_exists, exists, rename};
+use bdd_nodes::laws::{constants, expansion};
 use bdd_nodes::{Ref, Steps, Store, StoreRefusal};
 use bdd_ops::Engine;
 use std::alloc::Global;
@@ -48,6 +51,40 @@ fn without<L: Ledger>(
     }
 }
 
+/// The literal of level 0, and its answer to `rename`: the literal of level 1.
+fn renamed<L: Ledger>(engine: &mut Engine, steps: &mut Steps<L>) -> Result<(Ref, Ref), StoreRefusal>
+    requires { levels_of (store_of engine.old) ≡ 2 }
+{
+    constants(engine.store());
+    let store = engine.store();
+    if store.level(Ref::FALSE) == 0 || store.level(Ref::TRUE) == 0 {
+        return Err(StoreRefusal::Memory);
+    }
+    let a = engine.make(0, Ref::FALSE, Ref::TRUE)?;
+    constants(engine.store());
+    expansion(engine.store(), a);
+    let b = rename(engine, a, true, steps)?;
+    Ok((a, b))
+}
+
+fn renamed_literal<L: Ledger>(
+    rt: &impl Abort,
+    alloc: Global,
+    cache: u32,
+    blank: Blank,
+) -> Result<(), Fail>
+    requires cache { 0 < cache }
+    requires name { blank.name ≡ L.name }
+    requires parts { blank.parts ≡ L.parts }
+    requires some { 0 < L.parts }
+{
+    let mut steps = Steps::<L>::new(blank);
+    let mut engine = Engine::new(alloc, Store::new(alloc, 2, 100)?, cache)?;
+    let (_, b) = renamed(&mut engine, &mut steps)?;
+    assert_eq!(rt; b, made(&mut engine, 1, Ref::FALSE, Ref::TRUE)?);
+    Ok(())
+}
+
 fn literals<L: Ledger>(rt: &impl Abort, alloc: Global, cache: u32, blank: Blank) -> Result<(), Fail>
     requires cache { 0 < cache }
     requires name { blank.name ≡ L.name }
@@ -70,6 +107,8 @@ fn literals<L: Ledger>(rt: &impl Abort, alloc: Global, cache: u32, blank: Blank)
 
 #[test]
 fn quantification_of_two_literals(rt: HostRuntime) -> Result<(), Fail> {
+    renamed_literal::<Brand>(&rt, rt.alloc(), 1, Blank::new(1))?;
+    renamed_literal::<Brand>(&rt, rt.alloc(), 65_536, Blank::new(1))?;
     literals::<Brand>(&rt, rt.alloc(), 1, Blank::new(1))?;
     literals::<Brand>(&rt, rt.alloc(), 65_536, Blank::new(1))
 }
