@@ -49,19 +49,20 @@ profile "$work/b" "$work/buddy" "$kind" "$n" "$nodes"
 a=$(of "$work/a.inclusive" 'PROGRAM TOTALS')
 b=$(of "$work/b.inclusive" 'PROGRAM TOTALS')
 echo "instructions, whole programs: $a and $b, ratio $(ratio "$a" "$b")"
-# literals are made outside the recursion, in far less than a hundredth of the instructions; the
-# preimages' own recursion calls that of the operations, whose own calls make the relation and the sets
+# literals are made outside the recursion, in far less than a hundredth of the instructions, and so is
+# the counter's relation: its sets and its preimages are counted
+b=$(of "$work/b.inclusive" ":$kind[ .]")
 if [ "$kind" = counter ]; then
-    a=$(of "$work/a.inclusive" 'counter')
+    products=$(of "$work/a.inclusive" 'quantification::product::<#[0-9a-f]*> ')
+    sets=$(of "$work/a.inclusive" 'bdd_bench::carried::<#[0-9a-f]*> ')
+    a=$((products + sets))
 else
     a=$(of "$work/a.inclusive" 'Engine::apply::<#[0-9a-f]*> ')
 fi
-b=$(of "$work/b.inclusive" ":$kind[ .]")
 echo "instructions of the operations: $a and $b, ratio $(ratio "$a" "$b")"
 if [ "$kind" = counter ]; then
-    a=$(of "$work/a.inclusive" 'product')
-    b=$(of "$work/b.inclusive" ':bdd_appex')
-    echo "of these, the relational products: $a and $b, ratio $(ratio "$a" "$b")"
+    b=$(of "$work/b.inclusive" ':bdd_appex ')
+    echo "of these, the relational products: $products and $b, ratio $(ratio "$products" "$b")"
 fi
 echo "of BuDDy's, before the operations: $(of "$work/b.inclusive" ':bdd_init '), after them: $(of "$work/b.inclusive" ':bdd_done ')"
 echo "of ours, after them: $(of "$work/a.inclusive" 'LruCache::drop')"
