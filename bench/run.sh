@@ -2,7 +2,7 @@
 # Builds the program bdd_bench and the same work over BuDDy with full optimisation, runs them side by
 # side, and prints the ratio of time and of instructions, and where our instructions go. Wants rt, gcc,
 # libbdd-dev and valgrind (with callgrind_annotate).
-# Usage: bench/run.sh [queens|carry] [N] [NODES]
+# Usage: bench/run.sh [queens|carry|counter] [N] [NODES]
 # NODES is the room of BuDDy's node table: enough that nothing is collected, so that it makes as many
 # nodes as bdd_ops, which collects nothing.
 set -e
@@ -49,10 +49,21 @@ profile "$work/b" "$work/buddy" "$kind" "$n" "$nodes"
 a=$(of "$work/a.inclusive" 'PROGRAM TOTALS')
 b=$(of "$work/b.inclusive" 'PROGRAM TOTALS')
 echo "instructions, whole programs: $a and $b, ratio $(ratio "$a" "$b")"
-# literals are made outside the recursion, in far less than a hundredth of the instructions
-a=$(of "$work/a.inclusive" 'Engine::apply::<#[0-9a-f]*> ')
+# literals are made outside the recursion, in far less than a hundredth of the instructions, and so is
+# the counter's relation: its sets and its preimages are counted
 b=$(of "$work/b.inclusive" ":$kind[ .]")
+if [ "$kind" = counter ]; then
+    products=$(of "$work/a.inclusive" 'quantification::product::<#[0-9a-f]*> ')
+    sets=$(of "$work/a.inclusive" 'bdd_bench::carried::<#[0-9a-f]*> ')
+    a=$((products + sets))
+else
+    a=$(of "$work/a.inclusive" 'Engine::apply::<#[0-9a-f]*> ')
+fi
 echo "instructions of the operations: $a and $b, ratio $(ratio "$a" "$b")"
+if [ "$kind" = counter ]; then
+    b=$(of "$work/b.inclusive" ':bdd_appex ')
+    echo "of these, the relational products: $products and $b, ratio $(ratio "$products" "$b")"
+fi
 echo "of BuDDy's, before the operations: $(of "$work/b.inclusive" ':bdd_init '), after them: $(of "$work/b.inclusive" ':bdd_done ')"
 echo "of ours, after them: $(of "$work/a.inclusive" 'LruCache::drop')"
 echo "instructions of each function of ours, its own:"
