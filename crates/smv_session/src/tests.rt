@@ -1,8 +1,13 @@
 use super::*;
 use kripke_model::Name;
+use kripke_model::expressions::{Expr, Value};
+use kripke_model::states::State;
 use smv_outside::{Entry, MemFiles, MemSink, have_distinct_names};
+use smv_parser::read_first;
 use std::alloc::{AllocError, Global};
 use std::test::Fail;
+use tree_engine::leaves::leaf;
+use tree_engine::transitions::pre;
 
 const SWAP: &[u8] =
     b"MODULE main\nVAR\n  a : boolean;\n  b : boolean;\nASSIGN\n  init(a) := 0;\n  init(b) := 1;\n  next(a) := b;\n  next(b) := a;\nSPEC AG (a | b)\n";
@@ -320,5 +325,27 @@ fn models_have_their_verdicts(rt: HostRuntime) -> Result<(), Fail> {
         assert_eq!(rt; out.written(), model.put);
         assert_eq!(rt; status.code(), model.code);
     }
+    Ok(())
+}
+
+fn state(alloc: Global, a: i32, b: i32) -> Result<State, AllocError> {
+    let mut s = State::new(alloc);
+    s.push(Value::Number(a))?;
+    s.push(Value::Number(b))?;
+    Ok(s)
+}
+
+// A step exchanges the two values, so what steps to a = 1 has b = 1.
+#[test]
+fn preimages_are_what_steps_into_a_set(rt: HostRuntime) -> Result<(), Fail> {
+    let alloc = rt.alloc();
+    let Ok(model) = read_first(alloc, SWAP) else {
+        panic!(rt; "not read")
+    };
+    let before = pre(alloc, &model, &leaf(alloc, &Expr::Var(0))?)?;
+    assert!(rt; before.has(&state(alloc, 0, 1)?));
+    assert!(rt; before.has(&state(alloc, 1, 1)?));
+    assert!(rt; !before.has(&state(alloc, 1, 0)?));
+    assert!(rt; !before.has(&state(alloc, 0, 0)?));
     Ok(())
 }
