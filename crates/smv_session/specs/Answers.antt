@@ -3,7 +3,7 @@ use Rattle.std.specs.Prelude.{◌≡◌, ◌⊎◌, ℕ, List, [], ◌∷◌, if
 use Rattle.std.specs.List.{list_any}
 use Rattle.smv_outside.specs.Contents.{Contents, bytes_under}
 use Rattle.kripke_model.specs.System.{System}
-use Rattle.smv_parser.specs.FirstForm.{IsFirstForm}
+use Rattle.first_form.specs.FirstForm.{IsFirstForm}
 use Rattle.smv_session.specs.Words as words
 use Rattle.smv_session.specs.Words.{Command, Check}
 use Rattle.smv_session.specs.Texts.{usage_text, Refusal, NotBuilt, refusal_line}

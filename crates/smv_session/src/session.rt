@@ -14,7 +14,7 @@ use crate::outcome::status_of;
 use crate::report::report;
 use kripke_model::models::Ruled;
 use smv_outside::{Files, LoadFault, Sink};
-use smv_parser::{FirstRefusal, one_model, read_first};
+use first_form::{FirstRefusal, one_model, read_first};
 use std::alloc::{AllocError, Global};
 
 /// The greatest number of bytes of a model's text.
