@@ -11,7 +11,7 @@ use Rattle.kripke_model.specs.declared.expressions.Value.{Value}
 use Rattle.kripke_model.specs.declared.expressions.Value.TheVariants.{Number}
 use Rattle.kripke_model.specs.System.{State, value_in}
 use Rattle.kripke_model.specs.Evaluation.{same}
-use Rattle.kripke_model.proofs.SummaryLemmas.{same-true, same_self}
+use Rattle.kripke_model.proofs.ValueLemmas.{same-true, same_self}
 use Rattle.bit_encode.specs.Binary.{number, binary, width}
 use Rattle.bit_encode.specs.Code.{Coding, IsOrder, AllDistinct, IsStateOf, IsValid, IsUsed, HasBit, values_of, width_of, place, value_code, code, first_bit, bit_place, field, bit_count}
 use Rattle.bit_encode.proofs.BinaryLemmas.{length-binary, number-binary, binary-number, width-enough}

@@ -15,10 +15,10 @@ ghost use Rattle.bit_encode.specs.Rows.{unused_code, mixed};
 use crate::laws::{states_law, width_law};
 use crate::layout::{Layout, LayoutRefusal};
 use kripke_model::Name;
-use kripke_model::evaluation::is_state;
 use kripke_model::expressions::Value;
 use kripke_model::models::{FlatModel, FlatVar, Ruled};
 use kripke_model::states::State;
+use single_states::evaluation::is_state;
 use std::alloc::{AllocError, Global};
 use std::test::Fail;
 

@@ -9,7 +9,7 @@ use Rattle.kripke_model.specs.declared.expressions.Value.TheVariants.{Number}
 use Rattle.kripke_model.specs.declared.expressions.BinOp.{BinOp}
 use Rattle.kripke_model.specs.Term.{Term}
 use Rattle.kripke_model.specs.System.{Variable}
-use Rattle.kripke_model.specs.Summary.{truth_value}
+use Rattle.kripke_model.specs.Evaluation.{truth_value}
 use Rattle.first_form.specs.Words.{Then}
 
 -- an expression as it is written; parentheses count for its depth

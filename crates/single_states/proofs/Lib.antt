@@ -1,0 +1,7 @@
+mod SummaryLemmas
+mod EvalLemmas
+mod ValuationLemmas
+mod DistinctLemmas
+mod QuotientLemmas
+mod StateLemmas
+mod StepLemmas

@@ -1,0 +1,8 @@
+//! The values of expressions at given states, and the tests of states, steps and paths.
+#![tactic(auto)]
+
+pub mod evaluation;
+pub mod steps;
+#[cfg(test)]
+mod tests;
+mod valuation;
