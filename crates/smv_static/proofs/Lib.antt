@@ -1,0 +1,2 @@
+mod ResultLemmas
+mod NextLemmas

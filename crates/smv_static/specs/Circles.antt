@@ -1,0 +1,27 @@
+-- Which assignments lie on a cycle of the graph of two tables.
+use Rattle.std.specs.Prelude.{◌≡◌, ◌⊎◌, ℕ, ◌<◌, ◌≤◌, List, length, Contains}
+use Rattle.std.specs.List.{slice_index_or}
+use Rattle.kripke_model.specs.System.{System, Assignment}
+use Rattle.kripke_model.specs.Static.{IsOnCycle}
+use Rattle.smv_static.specs.Targets.{targets_of}
+use Rattle.smv_static.specs.Ways.{IsReached}
+
+-- a way leads from what the assignment's variable depends on to that variable
+abbrev pub IsCircular : List (List ℕ) → List (List ℕ) → Assignment → Type 0
+IsCircular base extra a = IsReached base extra (targets_of a) a.var
+
+-- the assignment at place k is P
+abbrev pub HoldsOf : (Assignment → Type 0) → List Assignment → ℕ → Type 0
+HoldsOf P assigns k = (d : Assignment) → P (slice_index_or assigns k d)
+
+-- least is at most bound; if it is less it is one of these places, and P there; and P is at no smaller one of these places
+pub record IsLeastAmong (P : Assignment → Type 0) (assigns : List Assignment) (places : List ℕ) (bound least : ℕ) : Type 0 where
+  pub at_most : least ≤ bound
+  pub holds : (least ≡ bound) ⊎ Contains places least × HoldsOf P assigns least
+  pub none : (k : ℕ) → Contains places k → k < least → HoldsOf (λ a. P a → ⊥) assigns k
+
+-- the first assignment that lies on a cycle, or how many there are if none does
+pub record IsFirstCircular (m : System) (least : ℕ) : Type 0 where
+  pub at_most : least ≤ length m.assigns
+  pub holds : least < length m.assigns → HoldsOf (IsOnCycle m) m.assigns least
+  pub none : (k : ℕ) → k < least → HoldsOf (λ a. IsOnCycle m a → ⊥) m.assigns k

@@ -1,0 +1,10 @@
+pub mod Nexts
+pub mod Sections
+pub mod Numbers
+pub mod Kept
+pub mod Ways
+pub mod Targets
+pub mod Groups
+pub mod Circles
+pub mod Leaves
+pub mod Sides
