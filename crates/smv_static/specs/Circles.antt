@@ -1,8 +1,8 @@
 -- Which assignments lie on a cycle of the graph of two tables.
-use Rattle.std.specs.Prelude.{◌≡◌, ◌⊎◌, ℕ, ◌<◌, ◌≤◌, List, length, Contains}
+use Rattle.std.specs.Prelude.{◌≡◌, ◌⊎◌, ℕ, ◌+◌, ◌<◌, ◌≤◌, List, length, Contains}
 use Rattle.std.specs.List.{slice_index_or}
 use Rattle.kripke_model.specs.System.{System, Assignment}
-use Rattle.kripke_model.specs.Static.{IsOnCycle}
+use Rattle.kripke_model.specs.Static.{Graph, LeadsTo, HasWay, IsOnCycle}
 use Rattle.smv_static.specs.Targets.{targets_of}
 use Rattle.smv_static.specs.Ways.{IsReached}
 
@@ -25,3 +25,20 @@ pub record IsFirstCircular (m : System) (least : ℕ) : Type 0 where
   pub at_most : least ≤ length m.assigns
   pub holds : least < length m.assigns → HoldsOf (IsOnCycle m) m.assigns least
   pub none : (k : ℕ) → k < least → HoldsOf (λ a. IsOnCycle m a → ⊥) m.assigns k
+
+-- the graph whose edges are those of group q and of the current values
+abbrev pub IsGraphOf : ℕ → ℕ → Graph → Type 0
+IsGraphOf processes q Graph.AtStart = q ≡ processes + 1
+IsGraphOf processes q (Graph.InProcess p) = (q ≡ p) × (p < processes)
+
+-- the assignment lies on a cycle of the graph
+abbrev pub IsOnCycleOf : System → Graph → Assignment → Type 0
+IsOnCycleOf m g a = (x : ℕ) × LeadsTo g a x × HasWay m g x a.var
+
+-- none of the assignments before this place lies on a cycle of the graph
+abbrev pub IsClear : System → Graph → ℕ → Type 0
+IsClear m g least = (k : ℕ) → k < least → HoldsOf (λ a. IsOnCycleOf m g a → ⊥) m.assigns k
+
+-- least is the bound, or the place of an assignment that lies on a cycle
+abbrev pub IsFound : System → ℕ → ℕ → Type 0
+IsFound m bound least = (least ≡ bound) ⊎ (least < length m.assigns) × HoldsOf (IsOnCycle m) m.assigns least

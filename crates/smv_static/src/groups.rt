@@ -1,6 +1,6 @@
 //! Assignments in groups, and tables of what they depend on.
 
-ghost use Rattle.std.specs.Prelude.{◌≡◌, ◌+◌, ◌<◌, ◌≤◌, ◌++◌, ◌^◌, length, All, IfOk, OnOk, slice_set, vec_len};
+ghost use Rattle.std.specs.Prelude.{◌≡◌, ◌+◌, ◌<◌, ◌≤◌, ◌++◌, ◌^◌, length, All, IfOk, OnOk, slice_set};
 ghost use Rattle.smv_static.specs.Groups.{IsGrouped, IsTable, group_of};
 ghost use Rattle.smv_static.specs.Numbers.{row};
 ghost use Rattle.smv_static.specs.Targets.{targets_of};
@@ -24,16 +24,12 @@ pub fn group_of(assign: &Assign, processes: usize) -> usize
 }
 
 /// The places of the assignments of each group.
-pub fn grouped(
-    alloc: Global,
-    assigns: &[Assign],
-    processes: usize,
-) -> Result<Vec<Row>, AllocError>
+pub fn grouped(alloc: Global, assigns: &[Assign], processes: usize) -> Result<Vec<Row>, AllocError>
     requires count { processes ≤ 1024 }
     requires known { All (λ a. a.process < processes) assigns.now }
     requires few { length assigns.now < 2 ^ 32 }
     ensures grouped { IfOk result (λ rows. IsGrouped processes assigns.now rows.items) }
-    ensures count { IfOk result (λ rows. vec_len rows ≡ processes + 2) }
+    ensures count { IfOk result (λ rows. length rows.items ≡ processes + 2) }
 {
     let mut rows = empty_rows(alloc, processes + 2)?;
     for (k, assign) in assigns.iter().enumerate() {
@@ -44,9 +40,9 @@ pub fn grouped(
 
 /// Appends what the assignment's variable depends on to that variable's row.
 fn add_targets(rows: &mut Vec<Row>, assign: &Assign) -> Result<(), AllocError>
-    requires { assign.now.var < vec_len rows.old }
+    requires { assign.now.var < length rows.old.items }
     ensures added { OnOk result (rows.new.items ≡ slice_set rows.old.items assign.now.var (row rows.old.items assign.now.var ++ targets_of assign.now)) }
-    ensures count { vec_len rows.new ≡ vec_len rows.old }
+    ensures count { length rows.new.items ≡ length rows.old.items }
 {
     push_targets(assign, &mut rows[assign.var as usize])
 }

@@ -1,6 +1,6 @@
 //! Tables of numbers, and growing sets of them.
 
-ghost use Rattle.std.specs.Prelude.{◌≡◌, ◌↔◌, ◌<◌, ◌≤◌, ◌++◌, ◌∷◌, ℕ, [], length, All, Contains, IfOk, OnOk, IsTrue, slice_index, slice_set, vec_len};
+ghost use Rattle.std.specs.Prelude.{◌≡◌, ◌↔◌, ◌<◌, ◌≤◌, ◌++◌, ◌∷◌, ℕ, [], length, All, Contains, IfOk, OnOk, IsTrue, slice_index, slice_set};
 ghost use Rattle.smv_static.specs.Numbers.{Extends, row};
 
 use std::alloc::{AllocError, Global};
@@ -46,7 +46,7 @@ impl Row {
 /// A table of so many empty rows.
 pub fn empty_rows(alloc: Global, count: usize) -> Result<Vec<Row>, AllocError>
     ensures rows { IfOk result (λ rows. (x : ℕ) → row rows.items x ≡ []) }
-    ensures count { IfOk result (λ rows. vec_len rows ≡ count) }
+    ensures count { IfOk result (λ rows. length rows.items ≡ count) }
 {
     let mut rows = Vec::new(alloc);
     for _ in 0..count {
@@ -67,9 +67,9 @@ pub fn row_at(rows: &[Row], x: u32) -> &[u32]
 
 /// Puts y at the end of row x.
 pub fn push_at(rows: &mut Vec<Row>, x: usize, y: u32) -> Result<(), AllocError>
-    requires { x < vec_len rows.old }
+    requires { x < length rows.old.items }
     ensures pushed { OnOk result (rows.new.items ≡ slice_set rows.old.items x (row rows.old.items x ++ y ∷ [])) }
-    ensures count { vec_len rows.new ≡ vec_len rows.old }
+    ensures count { length rows.new.items ≡ length rows.old.items }
 {
     rows[x].push(y)
 }
@@ -82,13 +82,13 @@ pub struct Found {
 }
 
 impl Model for Found {
-    ghost use Rattle.std.specs.Prelude.{vec_len};
+    ghost use Rattle.std.specs.Prelude.{length};
     ghost use Rattle.smv_static.specs.Numbers.{Finding};
     ghost use Rattle.smv_static.specs.Kept.{IsKept};
 
     ghost Value = { Finding };
 
-    ghost view = { λ f. record { count = vec_len f.marks; found = f.order.items } };
+    ghost view = { λ f. record { count = length f.marks.items; found = f.order.items } };
 
     ghost invariant = { λ f. IsKept f.marks.items f.order.items };
 }

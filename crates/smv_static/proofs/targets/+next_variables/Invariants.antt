@@ -1,6 +1,6 @@
 use Rattle.std.proofs.Common.{◌≡◌, ◌++◌, drop}
 use Rattle.kripke_model.specs.Reading.{terms_in, arms_in}
-use Rattle.smv_static.specs.Targets.{variables_in_elements, next_variables_in_arms}
+use Rattle.smv_static.specs.Targets.{next_variables_in_elements, next_variables_in_arms}
 use Rattle.smv_static.proofs.targets.+next_variables.Given as goal
 
 -- with those of the elements that are left it has all of them

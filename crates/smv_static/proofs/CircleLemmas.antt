@@ -1,0 +1,136 @@
+-- Cycles in the graphs of a model, read off two tables.
+use Rattle.std.proofs.Common.{◌≡◌, ◌≢◌, ℕ, ◌+◌, ◌<◌, ◌≤◌, ◌⊎◌, inl, inr, ⊎_elim, List, [], ◌++◌, length, get_or, refl, sym, ◌∙◌, ap, subst, arith, Any}
+use Rattle.std.specs.Prelude.{Contains, All}
+use Rattle.std.specs.List.{slice_index_or}
+use Rattle.std.proofs.lemmas.List.{get_or_default}
+use Rattle.std.proofs.lemmas.List.Elements.{Contains-append_left, Contains-append_right, Contains-append_cases}
+use Rattle.kripke_model.specs.declared.models.Part.{Part}
+use Rattle.kripke_model.specs.Term.{Term}
+use Rattle.kripke_model.specs.System.{System, Assignment}
+use Rattle.kripke_model.specs.Static.{Graph, LeadsTo, HasWay, IsOnCycle, variables_in, under_next}
+use Rattle.smv_static.specs.Numbers.{row}
+use Rattle.smv_static.specs.Targets.{targets_by, targets_of}
+use Rattle.smv_static.specs.Groups.{group_by, group_of, IsGrouped, IsTable}
+use Rattle.smv_static.specs.Ways.{Edge, Way}
+use Rattle.smv_static.specs.Circles.{IsCircular, HoldsOf, IsLeastAmong, IsGraphOf, IsOnCycleOf, IsClear, IsFound}
+use Rattle.smv_static.proofs.TargetLemmas.{next_to, next_from}
+
+-- ---- an assignment's group says in which graphs it has edges
+
+abbrev IsOneOf : ℕ → ℕ → ℕ → Type 0
+IsOneOf P q group = (group ≡ q) ⊎ (group ≡ P)
+
+module _ (P q x : ℕ) where
+  start_by : (part : Part) (e : Term) (process : ℕ) → q ≡ P + 1 → part ≢ Part.Next → Contains (variables_in e) x → IsOneOf P q (group_by P part process) × Contains (targets_by part e) x
+  start_by Part.Init e process is n c = (inl (sym is), c)
+  start_by Part.Now e process is n c = (inr refl, c)
+  start_by Part.Next e process is n c = absurd (n refl)
+
+  pub leads_group : (g : Graph) (a : Assignment) → IsGraphOf P q g → LeadsTo g a x → IsOneOf P q (group_of P a) × Contains (targets_of a) x
+  leads_group Graph.AtStart a is leads = start_by a.part a.right a.process is leads.0 leads.1
+  leads_group (Graph.InProcess p) a is leads =
+      let M : Part → Type 0 = λ part. IsOneOf P q (group_by P part a.process) × Contains (targets_by part a.right) x in
+      elim leads [
+        | inl h ↦ subst M (sym h.0) (inr refl, h.1)
+        | inr h ↦ subst M (sym h.0) (inl (h.1 ∙ sym is.0), next_from x a.right h.2)
+      ]
+
+  leads_by : (part : Part) (g : Graph) (a : Assignment) → a.part ≡ part → IsGraphOf P q g → a.process < P → IsOneOf P q (group_by P part a.process) → Contains (targets_by part a.right) x → LeadsTo g a x
+  leads_by Part.Init Graph.AtStart a e is known group c = (λ n. let f : Part.Init ≡ Part.Next = sym e ∙ n in cc, c)
+  leads_by Part.Now Graph.AtStart a e is known group c = (λ n. let f : Part.Now ≡ Part.Next = sym e ∙ n in cc, c)
+  leads_by Part.Next Graph.AtStart a e is known group c = absurd (elim group [ inl h ↦ omega arith | inr h ↦ omega arith ])
+  leads_by Part.Init (Graph.InProcess p) a e is known group c = absurd (elim group [ inl h ↦ let i = is.0 in let j = is.1 in omega arith | inr h ↦ omega arith ])
+  leads_by Part.Now (Graph.InProcess p) a e is known group c = inl (e, c)
+  leads_by Part.Next (Graph.InProcess p) a e is known group c = elim group [ inl h ↦ inr (e, h ∙ is.0, next_to x a.right c) | inr h ↦ absurd (omega arith) ]
+
+  pub group_leads : (g : Graph) (a : Assignment) → IsGraphOf P q g → a.process < P → IsOneOf P q (group_of P a) → Contains (targets_of a) x → LeadsTo g a x
+  group_leads g a is known group c = leads_by a.part g a refl is known group c
+
+-- ---- the tables of a graph
+
+abbrev blank : Assignment
+blank = record { part = Part.Now; var = 0; process = 0; right = Term.Var 0; line = 0 }
+
+module _ (m : System) (P q : ℕ) (g : Graph) (is : IsGraphOf P q g) (processes : All (λ a. a.process < P) m.assigns) (groups base extra : List (List ℕ))
+    (grouped : IsGrouped P m.assigns groups) (b : IsTable m.assigns (row groups P) base) (e : IsTable m.assigns (row groups q) extra) where
+  -- an edge of an assignment in this group
+  edge_of : (r k x y : ℕ) → IsOneOf P q r → Contains (row groups r) k → ((d : Assignment) → (get_or m.assigns k d).var ≡ x) → ((d : Assignment) → Contains (targets_of (get_or m.assigns k d)) y)
+      → Any (λ a. (a.var ≡ x) × LeadsTo g a y) m.assigns
+  edge_of r k x y one place var target =
+      let a : Assignment = get_or m.assigns k blank in
+      let below : k < length m.assigns = grouped.known r k place in
+      let group : IsOneOf P q (group_of P a) = subst (λ (n : ℕ). IsOneOf P q n) (sym (grouped.sound r k blank place)) one in
+      (k, a, below, get_or_default m.assigns k a blank below, (var blank, group_leads P q y g a is (processes k blank below) group (target blank)))
+
+  edge_to : (x y : ℕ) → Edge base extra x y → Any (λ a. (a.var ≡ x) × LeadsTo g a y) m.assigns
+  edge_to x y (inl h) = let s = b.sound x y h in edge_of P s.0 x y (inr refl) s.1 s.2 s.3
+  edge_to x y (inr h) = let s = e.sound x y h in edge_of q s.0 x y (inl refl) s.1 s.2 s.3
+
+  -- the place of an assignment is in the rows of its groups
+  place_of : (k : ℕ) (d : Assignment) → k < length m.assigns → IsOneOf P q (group_of P (get_or m.assigns k d)) → Contains (row groups q) k ⊎ Contains (row groups P) k
+  place_of k d below (inl h) = inl (subst (λ (r : ℕ). Contains (row groups r) k) h (grouped.complete k d below))
+  place_of k d below (inr h) = inr (subst (λ (r : ℕ). Contains (row groups r) k) h (grouped.complete k d below))
+
+  edge_at : (k y : ℕ) (d : Assignment) → k < length m.assigns → LeadsTo g (get_or m.assigns k d) y → Edge base extra (get_or m.assigns k d).var y
+  edge_at k y d below leads =
+      let l = leads_group P q y g (get_or m.assigns k d) is leads in
+      ⊎_elim (λ in_extra. inr (e.complete k y d in_extra l.1)) (λ in_base. inl (b.complete k y d in_base l.1)) (place_of k d below l.0)
+
+  edge_from : (x y : ℕ) → Any (λ a. (a.var ≡ x) × LeadsTo g a y) m.assigns → Edge base extra x y
+  edge_from x y h =
+      let leads : LeadsTo g (get_or m.assigns h.0 h.1) y = subst (λ (a : Assignment). LeadsTo g a y) (sym h.3) h.4.1 in
+      let var : (get_or m.assigns h.0 h.1).var ≡ x = ap (λ (a : Assignment). a.var) h.3 ∙ h.4.0 in
+      subst (λ (z : ℕ). Edge base extra z y) var (edge_at h.0 y h.1 h.2 leads)
+
+  way_to : (x z : ℕ) → Way base extra x z → HasWay m g x z
+  way_to x z Way.stay = HasWay.stay
+  way_to x z (Way.step edge w) = HasWay.step (edge_to x _ edge) (way_to _ z w)
+
+  way_from : (x z : ℕ) → HasWay m g x z → Way base extra x z
+  way_from x z HasWay.stay = Way.stay
+  way_from x z (HasWay.step edge w) = Way.step (edge_from x _ edge) (way_from _ z w)
+
+  circular_to : (k : ℕ) (d : Assignment) → Contains (row groups q ++ row groups P) k → IsCircular base extra (get_or m.assigns k d) → IsOnCycleOf m g (get_or m.assigns k d)
+  circular_to k d place c =
+      let a : Assignment = get_or m.assigns k d in
+      let at : (r : ℕ) → IsOneOf P q r → Contains (row groups r) k → LeadsTo g a c.0 = λ r one h.
+      group_leads P q c.0 g a is (processes k d (grouped.known r k h)) (subst (λ (n : ℕ). IsOneOf P q n) (sym (grouped.sound r k d h)) one) c.1 in
+      (c.0, ⊎_elim (λ h. at q (inl refl) h) (λ h. at P (inr refl) h) (Contains-append_cases (row groups q) (row groups P) k place), way_to c.0 a.var c.2)
+
+  circular_from : (k : ℕ) (d : Assignment) → k < length m.assigns → IsOnCycleOf m g (get_or m.assigns k d) → Contains (row groups q ++ row groups P) k × IsCircular base extra (get_or m.assigns k d)
+  circular_from k d below c =
+      let a : Assignment = get_or m.assigns k d in
+      let l = leads_group P q c.0 g a is c.1 in
+      (⊎_elim (λ h. Contains-append_left (row groups q) (row groups P) k h) (λ h. Contains-append_right (row groups q) (row groups P) k h) (place_of k d below l.0), (c.0, l.1, way_from c.0 a.var c.2))
+
+  module _ (bound least : ℕ) (among : IsLeastAmong (IsCircular base extra) m.assigns (row groups q ++ row groups P) bound least) where
+    pub found_in_graph : IsFound m bound least
+    found_in_graph = elim among.holds [
+      | inl same ↦ inl same
+      | inr h ↦ inr (⊎_elim (λ c. grouped.known q least c) (λ c. grouped.known P least c) (Contains-append_cases (row groups q) (row groups P) least h.0), λ d. let c = circular_to least d h.0 (h.1 d) in (g, c.0, c.1, c.2))
+    ]
+
+    pub clear_in_graph : bound ≤ length m.assigns → IsClear m g least
+    clear_in_graph few k less d c =
+        let below : k < length m.assigns = let l = among.at_most in omega arith in
+        let f = circular_from k d below c in
+        among.none k f.0 less d f.1
+
+-- ---- a process without edges of its own
+
+module _ (m : System) (p : ℕ) (free : (k y : ℕ) (d : Assignment) → k < length m.assigns → (get_or m.assigns k d).part ≡ Part.Next → (get_or m.assigns k d).process ≡ p
+    → Any (λ e. Contains (variables_in e) y) (under_next (get_or m.assigns k d).right) → ⊥) where
+  start_leads : (k y : ℕ) (d : Assignment) → k < length m.assigns → LeadsTo (Graph.InProcess p) (get_or m.assigns k d) y → LeadsTo Graph.AtStart (get_or m.assigns k d) y
+  start_leads k y d below leads = elim leads [
+    | inl h ↦ (λ n. let f : Part.Now ≡ Part.Next = sym h.0 ∙ n in cc, h.1)
+    | inr h ↦ absurd (free k y d below h.0 h.1 h.2)
+  ]
+
+  start_way : (x z : ℕ) → HasWay m (Graph.InProcess p) x z → HasWay m Graph.AtStart x z
+  start_way x z HasWay.stay = HasWay.stay
+  start_way x z (HasWay.step h w) =
+      HasWay.step (h.0, h.1, h.2, h.3, (h.4.0, subst (λ (a : Assignment). LeadsTo Graph.AtStart a _) h.3 (start_leads h.0 _ h.1 h.2 (subst (λ (a : Assignment). LeadsTo (Graph.InProcess p) a _) (sym h.3) h.4.1)))) (start_way _ z w)
+
+  pub clear_as_start : (least : ℕ) → least ≤ length m.assigns → IsClear m Graph.AtStart least → IsClear m (Graph.InProcess p) least
+  clear_as_start least few clear k less d c =
+      clear k less d (c.0, start_leads k c.0 d (omega arith) c.1, start_way c.0 (get_or m.assigns k d).var c.2)
