@@ -5,3 +5,4 @@ pub mod StateLemmas
 pub mod OrderMarks
 pub mod PlaceLemmas
 pub mod ReadLemmas
+pub mod RowLemmas

@@ -1,7 +1,7 @@
 //! Layouts: which bit of a list speaks of which variable.
 
 ghost use Rattle.std.specs.Prelude.{◌≡◌, ◌+◌, ◌*◌, ◌<◌, ◌≤◌, ℕ, IfOk, IfErr, OnOk, IfNone, IfSome, length};
-ghost use Rattle.bit_encode.specs.Code.{IsOrder, IsStateOf, HasBit, IsValid, IsUnused, types_of, HasDistinctValues, code, field, bit_place, bit_count};
+ghost use Rattle.bit_encode.specs.Code.{IsOrder, IsStateOf, HasBit, IsValid, IsUnused, types_of, code, field, bit_place, bit_count};
 ghost use Rattle.bit_encode.specs.Binary.{number};
 ghost use Rattle.bit_encode.specs.Layouts.{Refuses, Accepts};
 ghost use Rattle.bit_encode.specs.Laws.{CodesDiffer, CodesAreValid, ValidAreCodes, FieldsSpell, PlacesDiffer, PlacesWithin};
@@ -74,12 +74,12 @@ impl Model for Layout {
 impl Layout {
     /// The layout of the model's variables in this order, which lists their numbers.
     pub fn new(alloc: Global, model: &Ruled, order: &[u32]) -> Result<Layout, LayoutRefusal>
-        requires distinct { HasDistinctValues model.now }
         ensures layout { IfOk result
             (λ l. l ≡ record { types = types_of model.now; order = order.now }) }
         ensures accepted { OnOk result (Accepts (types_of model.now) order.now) }
         ensures refused { IfErr result (λ e. Refuses (types_of model.now) order.now e) }
     {
+        model.rules_law();
         let domains = domains_of(alloc, model.vars())?;
         let bits = total_bits(&domains);
         if bits > MAX_STATE_BITS {

@@ -8,9 +8,9 @@
 //! and one with a boolean, a range `3..7` and a variable of one value, with the order reversed.
 
 ghost use Rattle.std.specs.Prelude.{◌≡◌, ◌<◌, ◌↔◌, IfOk, IsTrue, length};
-ghost use Rattle.kripke_model.specs.Flat.{AreDistinct};
-ghost use Rattle.bit_encode.specs.Code.{IsStateOf, HasDistinctValues, types_of};
-ghost use Rattle.bit_encode.specs.Rows.{unused_code, mixed};
+ghost use Rattle.kripke_model.specs.Flat.{IsFlat};
+ghost use Rattle.bit_encode.specs.Code.{IsStateOf, types_of};
+ghost use Rattle.bit_encode.specs.Rows.{variable, model_with, unused_model, mixed_model};
 
 use crate::laws::{states_law, width_law};
 use crate::layout::{Layout, LayoutRefusal};
@@ -22,23 +22,30 @@ use single_states::evaluation::is_state;
 use std::alloc::{AllocError, Global};
 use std::test::Fail;
 
-fn variable(alloc: Global, name: &str, values: &[Value]) -> Result<FlatVar, AllocError>
-    ensures { IfOk result (λ v. v.values ≡ values.now) }
+fn name(alloc: Global, text: &str) -> Result<Name, AllocError>
+    ensures { IfOk result (λ n. n ≡ text.now) }
+{
+    Ok(Name::new(String::from_str(alloc, text)?))
+}
+
+fn variable(alloc: Global, text: &str, values: &[Value]) -> Result<FlatVar, AllocError>
+    ensures { IfOk result (λ v. v ≡ variable text.now values.now) }
 {
     Ok(FlatVar {
-        name: Name::new(String::from_str(alloc, name)?),
+        name: name(alloc, text)?,
         values: values.to_vec(alloc)?,
         line: 2,
     })
 }
 
 /// The model of these variables alone.
-fn model_of(alloc: Global, vars: Vec<FlatVar>) -> Result<Ruled, AllocError>
-    ensures { IfOk result (λ m. m.vars ≡ vars.items) }
+fn model_of(alloc: Global, symbols: Vec<Name>, vars: Vec<FlatVar>) -> Result<Ruled, AllocError>
+    requires { IsFlat (model_with symbols.items vars.items) }
+    ensures { IfOk result (λ m. m ≡ model_with symbols.items vars.items) }
 {
-    let main = Name::new(String::from_str(alloc, "main")?);
+    let main = name(alloc, "main")?;
     let flat = FlatModel {
-        symbols: Vec::new(alloc),
+        symbols,
         vars,
         selector: false,
         processes: vec![in alloc; main]?,
@@ -55,23 +62,32 @@ fn model_of(alloc: Global, vars: Vec<FlatVar>) -> Result<Ruled, AllocError>
     })
 }
 
+#[tactic(auto, using(crate::proofs::RowLemmas::flat_unused))]
 fn with_unused_code(alloc: Global) -> Result<Ruled, AllocError>
-    ensures types { IfOk result (λ m. types_of m ≡ unused_code) }
-    ensures distinct { IfOk result (λ m. HasDistinctValues m) }
+    ensures { IfOk result (λ m. m ≡ unused_model) }
 {
+    let a = name(alloc, "a")?;
+    let b = name(alloc, "b")?;
+    let c = name(alloc, "c")?;
+    let only = name(alloc, "only")?;
     let x = variable(
         alloc,
         "x",
         &[Value::Symbol(0), Value::Symbol(1), Value::Symbol(2)],
     )?;
     let y = variable(alloc, "y", &[Value::Symbol(3)])?;
-    model_of(alloc, vec![in alloc; x, y]?)
+    model_of(
+        alloc,
+        vec![in alloc; a, b, c, only]?,
+        vec![in alloc; x, y]?,
+    )
 }
 
+#[tactic(auto, using(crate::proofs::RowLemmas::flat_mixed))]
 fn with_range(alloc: Global) -> Result<Ruled, AllocError>
-    ensures types { IfOk result (λ m. types_of m ≡ mixed) }
-    ensures distinct { IfOk result (λ m. HasDistinctValues m) }
+    ensures { IfOk result (λ m. m ≡ mixed_model) }
 {
+    let only = name(alloc, "only")?;
     let flag = variable(alloc, "flag", &[Value::Number(0), Value::Number(1)])?;
     let range = [
         Value::Number(3),
@@ -81,8 +97,12 @@ fn with_range(alloc: Global) -> Result<Ruled, AllocError>
         Value::Number(7),
     ];
     let count = variable(alloc, "count", &range)?;
-    let only = variable(alloc, "only", &[Value::Symbol(0)])?;
-    model_of(alloc, vec![in alloc; flag, count, only]?)
+    let y = variable(alloc, "y", &[Value::Symbol(0)])?;
+    model_of(
+        alloc,
+        vec![in alloc; only]?,
+        vec![in alloc; flag, count, y]?,
+    )
 }
 
 fn state_of(alloc: Global, values: &[Value]) -> Result<State, AllocError>

@@ -7,3 +7,5 @@ pub mod Declared
 pub mod Assigned
 pub mod Specified
 pub mod Whole
+pub mod FlatForms
+pub mod ResultLemmas

@@ -58,34 +58,6 @@ propositional vars most ts rest t x = written_propositional vars x.expression ts
 pub evaluable : (m : System) (most : ℕ) (ts rest : List Placed) (t : Term) → Expresses m.vars most ts t rest → IsEvaluable m t
 evaluable m most ts rest t x = written_evaluable m x.expression t x.means
 
--- ---- the formula of an invariant
-
-both_parts : (a b c : Bool) → a && b && c ≡ true → (b ≡ true) × (c ≡ true)
-both_parts true true true p = (refl, refl)
-both_parts a b c p = absurd cc
-
-no_operator_in : (t : Term) → is_propositional t ≡ true → has_path_operator t ≡ false
-no_operator_in (Term.Const v) p = refl
-no_operator_in (Term.Var x) p = refl
-no_operator_in (Term.Not e) p = no_operator_in e p
-no_operator_in (Term.Binary op a b) p =
-    let q = both_parts (is_connective op) (is_propositional a) (is_propositional b) p in
-    ap (λ (x : Bool). x || has_path_operator b) (no_operator_in a q.0) ∙ no_operator_in b q.1
-no_operator_in t p = absurd cc
-
-leaf_formula : (e : Term) → has_path_operator e ≡ false → formula_of e ≡ Ctl.Leaf e
-leaf_formula (Term.Not e) h = rw h
-leaf_formula (Term.Binary BinOp.And a b) h = rw h
-leaf_formula (Term.Binary BinOp.Or a b) h = rw h
-leaf_formula (Term.Binary BinOp.Implies a b) h = rw h
-leaf_formula (Term.Binary BinOp.Iff a b) h = rw h
-leaf_formula (Term.Quant op e) h = absurd cc
-leaf_formula (Term.Until all a b) h = absurd cc
-leaf_formula e h = refl
-
-pub invariant_formula : (t : Term) → is_propositional t ≡ true → formula_of (Term.Quant PathOp.AG t) ≡ Ctl.Quant PathOp.AG (Ctl.Leaf t)
-invariant_formula t p = ap (Ctl.Quant PathOp.AG) (leaf_formula t (no_operator_in t p))
-
 -- ---- a specification
 
 pub specification_once : (vars : List Variable) (ts : List Placed) (c d : Condition) → IsDistinct vars → Specifies vars ts c → Specifies vars ts d → c ≡ d

@@ -13,7 +13,6 @@ use Rattle.kripke_model.specs.Size.{node_count}
 use Rattle.kripke_model.specs.Flat.{main_name, node_total}
 use Rattle.kripke_model.specs.Small.{IsSmall, IsBoolean, is_propositional}
 use Rattle.kripke_model.specs.Evaluable.{IsEvaluable}
-use Rattle.kripke_model.specs.WellFormed.{IsWellFormed}
 use Rattle.kripke_model.specs.System.{Variable, Assignment, Condition, System}
 use Rattle.first_form.specs.Words.{Then, Each}
 use Rattle.first_form.specs.Written.{greatest_depth}
@@ -173,7 +172,7 @@ too_many_nodes ts vars assigns t line rest spec o read once s many m p w =
 
 -- ---- what every such model keeps
 
-each_all : {A : Type 0} (D : List Placed → A → List Placed → Type 0) (P : A → Type 0) → ((ts rest : List Placed) (x : A) → D ts x rest → P x) → (xs : List A) (ts rest : List Placed) → Each D ts xs rest → All P xs
+pub each_all : {A : Type 0} (D : List Placed → A → List Placed → Type 0) (P : A → Type 0) → ((ts rest : List Placed) (x : A) → D ts x rest → P x) → (xs : List A) (ts rest : List Placed) → Each D ts xs rest → All P xs
 each_all D P h [] ts rest p = All-nil P
 each_all D P h (x ∷ xs) ts rest p = All-cons P x xs (h ts p.0 x p.1) (each_all D P h xs p.0 rest p.2)
 
@@ -181,15 +180,6 @@ not_now : (part : Part) (x ts rest : List Placed) → ThenPart part x rest → p
 not_now Part.Init x ts rest p = λ e. cc
 not_now Part.Now x ts rest p = absurd p
 not_now Part.Next x ts rest p = λ e. cc
-
-pub well_formed : (ts : List Placed) (m : System) → Models ts m → IsWellFormed m
-well_formed ts m p = record {
-  assigned = each_all (Assigns m.vars) (λ a. a.var < length m.vars) (λ us rest a x. x.declared.0) m.assigns p.assignments p.specification p.assigned;
-  assigns = each_all (Assigns m.vars) (λ a. IsEvaluable m a.right) (λ us rest a x. evaluable m greatest_depth x.right_side x.after a.right x.right) m.assigns p.assignments p.specification p.assigned;
-  inits = subst (All (λ c. IsEvaluable m c.expr)) (sym p.inits) (All-nil (λ (c : Condition). IsEvaluable m c.expr));
-  trans = subst (All (λ c. IsEvaluable m c.expr)) (sym p.trans) (All-nil (λ (c : Condition). IsEvaluable m c.expr));
-  constraints = subst (All (λ c. IsEvaluable m c.expr)) (sym p.constraints) (All-nil (λ (c : Condition). IsEvaluable m c.expr));
-}
 
 pub is_small : (ts : List Placed) (m : System) → Models ts m → IsWithin m → IsSmall m
 is_small ts m p w = record {
@@ -209,14 +199,6 @@ is_small ts m p w = record {
     evaluable m (greatest_depth - 1) p.specified.body p.specified.rest p.specified.term p.specified.invariant,
   );
 }
-
-pub body_propositional : (ts : List Placed) (vars : List Variable) (assigns : List Assignment) (t : Term) (line : ℕ) → Models ts (model_of vars assigns t line) → is_propositional t ≡ true
-body_propositional ts vars assigns t line p =
-    let specs : always t line ∷ [] ≡ p.condition ∷ [] = p.specs in
-    let e : always t line ≡ p.condition = cc in
-    let f : Term.Quant PathOp.AG t ≡ Term.Quant PathOp.AG p.specified.term = ap (λ (c : Condition). c.expr) e ∙ p.specified.expr in
-    let same : t ≡ p.specified.term = cc in
-    ap is_propositional same ∙ propositional vars (greatest_depth - 1) p.specified.body p.specified.rest p.specified.term p.specified.invariant
 
 -- ---- the header
 

@@ -10,6 +10,7 @@ use Rattle.kripke_model.specs.declared.models.Part.{Part}
 use Rattle.kripke_model.specs.Term.{Term}
 use Rattle.kripke_model.specs.System.{Variable, Assignment, Condition, System}
 use Rattle.kripke_model.specs.Flat.{main_name, node_total}
+use Rattle.kripke_model.specs.Static.{KeepsRules}
 use Rattle.first_form.specs.Words.{Then, BeginsOn, Each, IsEnd}
 use Rattle.first_form.specs.Written.{IsNamed, Expresses, greatest_depth}
 
@@ -104,10 +105,11 @@ pub record IsWithin (m : System) : Type 0 where
   pub once : IsOnce m.assigns
   pub nodes : node_total m ≤ most_nodes
 
--- the bytes are a file of the first form, and m is its model
+-- the bytes are a file of the first form, and m is its model, which breaks no static rule
 pub record IsFirstForm (bytes : List ℕ) (m : System) : Type 0 where
   pub size : length bytes ≤ most_bytes
   pub tokens : List Placed
   pub lexes : Lexes bytes tokens
   pub models : Models tokens m
   pub within : IsWithin m
+  pub rules : KeepsRules m

@@ -14,7 +14,7 @@ ghost use Rattle.first_form.specs.Words.{IsEnd};
 use crate::assignments::{are_once, read_assignments};
 use crate::declarations::{are_distinct, read_declarations};
 use crate::expression::{Measured, read_expression};
-use crate::model::ruled;
+use crate::model::{accepted, flat_model};
 use crate::refusals::FirstRefusal;
 use crate::tokens::{after_key, after_sign, after_word, first_line};
 use kripke_model::expressions::Expr;
@@ -146,7 +146,8 @@ pub fn read_first(alloc: Global, src: &[u8]) -> Result<Ruled, FirstRefusal>
         Err(refusal) => return Err(refused(refusal)),
     };
     let program = read_program(alloc, &tokens)?;
-    Ok(ruled(alloc, program)?)
+    let flat = flat_model(alloc, program)?;
+    accepted(alloc, flat)
 }
 
 /// A file is of one model at most.
@@ -181,8 +182,16 @@ mod tests {
 
     #[test]
     fn table(rt: HostRuntime) {
-        let rows: [(&[u8], bool); 9] = [
+        let rows: [(&[u8], bool); 11] = [
             (b"", false),
+            (
+                b"MODULE main VAR a : boolean; b : boolean; ASSIGN init(a) := b; init(b) := a; SPEC AG 1",
+                false,
+            ),
+            (
+                b"MODULE main VAR a : boolean; b : boolean; ASSIGN next(a) := b; next(b) := a; SPEC AG 1",
+                true,
+            ),
             (b"MODULE main VAR ASSIGN SPEC AG 1", true),
             (b"MODULE main VAR a : boolean; ASSIGN SPEC AG a;", true),
             (b"MODULE main VAR a : boolean; ASSIGN SPEC AF a", false),

@@ -1,56 +1,21 @@
 //! The model of a program that was read.
 
-ghost use Rattle.std.specs.Prelude.{◌≡◌, IfOk, IsTrue};
+ghost use Rattle.std.specs.Prelude.{◌≡◌, IfErr, IfOk, OnOk};
 ghost use Rattle.kripke_model.specs.Reading.{term_of};
-ghost use Rattle.kripke_model.specs.Small.{is_propositional};
-ghost use Rattle.kripke_model.specs.WellFormed.{IsWellFormed};
-ghost use Rattle.kripke_model.specs.Flat.{main_name};
+ghost use Rattle.kripke_model.specs.Flat.{IsFlat, main_name};
+ghost use Rattle.kripke_model.specs.Static.{KeepsRules};
 ghost use Rattle.kripke_model.specs.Term.{Term};
-ghost use Rattle.kripke_model.specs.Ctl.{Ctl};
-ghost use Rattle.kripke_model.specs.WellFormed.{ctl_of};
 ghost use Rattle.kripke_model.specs.declared.expressions.PathOp.{PathOp as Quantifiers};
 ghost use Rattle.first_form.specs.Reading.{model_of};
 
 use crate::first::Program;
+use crate::refusals::FirstRefusal;
 use kripke_model::Name;
-use kripke_model::expressions::{Expr, Formula, PathOp};
+use kripke_model::expressions::{Expr, PathOp};
 use kripke_model::models::{FlatModel, Item, Ruled};
+use kripke_model::refusals::StaticRefusal;
+use smv_static::accept;
 use std::alloc::{AllocError, Global};
-
-// The same expression once more.
-fn copy(alloc: Global, expr: &Expr) -> Result<Expr, AllocError>
-    requires { IsTrue (is_propositional (term_of expr.now)) }
-    ensures { IfOk result (λ e. term_of e ≡ term_of expr.now) }
-{
-    match expr {
-        Expr::Const(value) => Ok(Expr::Const(*value)),
-        Expr::Var(x) => Ok(Expr::Var(*x)),
-        Expr::Not(e) => {
-            let inner = copy(alloc, e)?;
-            Ok(Expr::Not(Box::new(alloc, inner)?))
-        }
-        Expr::Binary(op, a, b) => {
-            let left = Box::new(alloc, copy(alloc, a)?)?;
-            let right = Box::new(alloc, copy(alloc, b)?)?;
-            Ok(Expr::Binary(*op, left, right))
-        }
-        Expr::Running(_)
-        | Expr::Next(_)
-        | Expr::Braces(_)
-        | Expr::Case(_)
-        | Expr::Quant(_, _)
-        | Expr::Until(_, _, _) => unreachable!(),
-    }
-}
-
-// The formula that the expression holds always.
-fn always_formula(alloc: Global, body: &Expr) -> Result<Formula, AllocError>
-    requires { IsTrue (is_propositional (term_of body.now)) }
-    ensures { IfOk result (λ f. ctl_of f ≡ Ctl.Quant Quantifiers.AG (Ctl.Leaf (term_of body.now))) }
-{
-    let leaf = Box::new(alloc, Formula::Leaf(copy(alloc, body)?))?;
-    Ok(Formula::Quant(PathOp::AG, leaf))
-}
 
 // The specification that the expression holds always.
 fn always_item(alloc: Global, body: Expr, line: u32) -> Result<Item, AllocError>
@@ -70,19 +35,15 @@ fn main_name(alloc: Global) -> Result<Name, AllocError>
     Name::from_bytes(alloc, b"main")
 }
 
-/// The model of a program, with the formula of its specification.
-pub fn ruled(alloc: Global, program: Program) -> Result<Ruled, AllocError>
-    requires flat { IsWellFormed (model_of program.vars.items program.assigns.items (term_of program.body) program.line) }
-    requires body { IsTrue (is_propositional (term_of program.body)) }
+/// The model of a program.
+pub fn flat_model(alloc: Global, program: Program) -> Result<FlatModel, AllocError>
     ensures { IfOk result (λ m. m ≡ model_of program.vars.items program.assigns.items (term_of program.body) program.line) }
 {
-    let mut formulas = Vec::new(alloc);
-    formulas.push(always_formula(alloc, &program.body)?)?;
     let mut processes = Vec::new(alloc);
     processes.push(main_name(alloc)?)?;
     let mut specs = Vec::new(alloc);
     specs.push(always_item(alloc, program.body, program.line)?)?;
-    let flat = FlatModel {
+    Ok(FlatModel {
         symbols: Vec::new(alloc),
         vars: program.vars,
         selector: false,
@@ -92,10 +53,25 @@ pub fn ruled(alloc: Global, program: Program) -> Result<Ruled, AllocError>
         trans: Vec::new(alloc),
         constraints: Vec::new(alloc),
         specs,
-    };
-    Ok(Ruled {
-        flat,
-        formulas,
-        fair: Vec::new(alloc),
     })
+}
+
+/// The model with the formula of its specification, where it breaks no static rule.
+pub fn accepted(alloc: Global, flat: FlatModel) -> Result<Ruled, FirstRefusal>
+    requires { IsFlat flat }
+    ensures kept { IfOk result (λ m. m ≡ flat) }
+    ensures rules { OnOk result (KeepsRules flat) }
+    ensures refused { IfErr result (λ r. r ≡ FirstRefusal.NotBuilt → KeepsRules flat → ⊥) }
+{
+    match accept(alloc, flat) {
+        Ok(model) => Ok(model),
+        Err(StaticRefusal::Memory) => Err(FirstRefusal::Memory),
+        Err(
+            StaticRefusal::AssignedTwice { .. }
+            | StaticRefusal::CurrentBesideOther { .. }
+            | StaticRefusal::CircularAssignment { .. }
+            | StaticRefusal::NextNotAllowed { .. }
+            | StaticRefusal::FormulaNotAllowed { .. },
+        ) => Err(FirstRefusal::NotBuilt),
+    }
 }

@@ -2,6 +2,7 @@
 use Rattle.std.proofs.Common.{◌≡◌, ◌≢◌, ℕ, ◌+◌, ◌<◌, ◌≤◌, ◌⊎◌, inl, inr, ⊎_elim, List, [], ◌++◌, length, get_or, refl, sym, ◌∙◌, ap, subst, arith, Any}
 use Rattle.std.specs.Prelude.{Contains, All}
 use Rattle.std.specs.List.{slice_index_or}
+use Rattle.std.proofs.lemmas.Bool.{cases_lt}
 use Rattle.std.proofs.lemmas.List.{get_or_default}
 use Rattle.std.proofs.lemmas.List.Elements.{Contains-append_left, Contains-append_right, Contains-append_cases}
 use Rattle.kripke_model.specs.declared.models.Part.{Part}
@@ -118,6 +119,16 @@ module _ (m : System) (P q : ℕ) (g : Graph) (is : IsGraphOf P q g) (processes 
 
 -- ---- a process without edges of its own
 
+-- where the table of a process is empty, its next values depend on no next value
+pub free_of : (m : System) (P p : ℕ) (groups extra : List (List ℕ)) → IsGrouped P m.assigns groups → IsTable m.assigns (row groups p) extra → ((x y : ℕ) → Contains (row extra x) y → ⊥)
+    → (k y : ℕ) (d : Assignment) → k < length m.assigns → (get_or m.assigns k d).part ≡ Part.Next → (get_or m.assigns k d).process ≡ p → Any (λ e. Contains (variables_in e) y) (under_next (get_or m.assigns k d).right) → ⊥
+free_of m P p groups extra grouped table empty k y d below next own h =
+    let a : Assignment = get_or m.assigns k d in
+    let target : Contains (targets_of a) y = subst (λ (part : Part). Contains (targets_by part a.right) y) (sym next) (next_from y a.right h) in
+    let group : group_of P a ≡ p = ap (λ (part : Part). group_by P part a.process) next ∙ own in
+    let place : Contains (row groups p) k = subst (λ (g : ℕ). Contains (row groups g) k) group (grouped.complete k d below) in
+    empty a.var y (table.complete k y d place target)
+
 module _ (m : System) (p : ℕ) (free : (k y : ℕ) (d : Assignment) → k < length m.assigns → (get_or m.assigns k d).part ≡ Part.Next → (get_or m.assigns k d).process ≡ p
     → Any (λ e. Contains (variables_in e) y) (under_next (get_or m.assigns k d).right) → ⊥) where
   start_leads : (k y : ℕ) (d : Assignment) → k < length m.assigns → LeadsTo (Graph.InProcess p) (get_or m.assigns k d) y → LeadsTo Graph.AtStart (get_or m.assigns k d) y
@@ -134,3 +145,11 @@ module _ (m : System) (p : ℕ) (free : (k y : ℕ) (d : Assignment) → k < len
   pub clear_as_start : (least : ℕ) → least ≤ length m.assigns → IsClear m Graph.AtStart least → IsClear m (Graph.InProcess p) least
   clear_as_start least few clear k less d c =
       clear k less d (c.0, start_leads k c.0 d (omega arith) c.1, start_way c.0 (get_or m.assigns k d).var c.2)
+
+-- what is clear in the initial graph and in those of the processes is clear in every graph
+pub clear_everywhere : (m : System) (P least : ℕ) → All (λ a. a.process < P) m.assigns → least ≤ length m.assigns → IsClear m Graph.AtStart least → ((q : ℕ) → q < P → IsClear m (Graph.InProcess q) least) → (g : Graph) → IsClear m g least
+clear_everywhere m P least processes few start passed Graph.AtStart = start
+clear_everywhere m P least processes few start passed (Graph.InProcess q) = elim (cases_lt q P) [
+  | inl l ↦ passed q l
+  | inr l ↦ clear_as_start m q (λ k y d below next own h. let known : (get_or m.assigns k d).process < P = processes k d below in omega arith) least few start
+]

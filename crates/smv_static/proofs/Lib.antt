@@ -4,5 +4,10 @@ mod NumberLemmas
 mod RowLemmas
 mod WayLemmas
 mod TargetLemmas
+mod FlatLemmas
+mod CycleFacts
 mod CircleLemmas
+mod LeastLemmas
+mod SideLemmas
 mod FormulaLemmas
+mod RuleLemmas

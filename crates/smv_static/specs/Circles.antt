@@ -3,6 +3,8 @@ use Rattle.std.specs.Prelude.{◌≡◌, ◌⊎◌, ℕ, ◌+◌, ◌<◌, ◌�
 use Rattle.std.specs.List.{slice_index_or}
 use Rattle.kripke_model.specs.System.{System, Assignment}
 use Rattle.kripke_model.specs.Static.{Graph, LeadsTo, HasWay, IsOnCycle}
+use Rattle.smv_static.specs.Numbers.{row}
+use Rattle.smv_static.specs.Groups.{IsGrouped, IsTable}
 use Rattle.smv_static.specs.Targets.{targets_of}
 use Rattle.smv_static.specs.Ways.{IsReached}
 
@@ -42,3 +44,10 @@ IsClear m g least = (k : ℕ) → k < least → HoldsOf (λ a. IsOnCycleOf m g a
 -- least is the bound, or the place of an assignment that lies on a cycle
 abbrev pub IsFound : System → ℕ → ℕ → Type 0
 IsFound m bound least = (least ≡ bound) ⊎ (least < length m.assigns) × HoldsOf (IsOnCycle m) m.assigns least
+
+-- the tables that the graphs of the model are read from
+pub record HasTables (m : System) (groups base : List (List ℕ)) (processes variables : ℕ) : Type 0 where
+  pub processes_are : processes ≡ length m.processes
+  pub variables_are : variables ≡ length m.vars
+  pub grouped : IsGrouped processes m.assigns groups
+  pub table : IsTable m.assigns (row groups processes) base

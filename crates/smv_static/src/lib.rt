@@ -1,6 +1,9 @@
 //! The static rules of flat models, and the formulas of those that keep them.
 #![tactic(auto)]
 
+mod acceptance;
+mod assignments;
+mod cycles;
 mod formulas;
 mod groups;
 mod numbers;
@@ -9,3 +12,5 @@ mod parts;
 mod search;
 mod sections;
 mod targets;
+
+pub use acceptance::accept;

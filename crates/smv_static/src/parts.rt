@@ -57,3 +57,9 @@ pub fn line_of(item: &Item) -> u32
 {
     item.line
 }
+
+pub fn var_of(assign: &Assign) -> u32
+    ensures { result ≡ assign.now.var }
+{
+    assign.var
+}

@@ -7,12 +7,8 @@ use Rattle.smv_static.specs.Groups.{group_by, group_of}
 use Rattle.smv_static.specs.Numbers.{row}
 use Rattle.smv_static.proofs.NumberLemmas.{only_member}
 use Rattle.smv_static.proofs.RowLemmas.{appended_cases, appended_old, appended_new}
+use Rattle.smv_static.proofs.SideLemmas.{group_known}
 use Rattle.smv_static.proofs.groups.grouped.Goals as goal
-
-group_known : (processes process : ℕ) (part : Part) → process < processes → group_by processes part process < processes + 2
-group_known processes process Part.Init l = omega arith
-group_known processes process Part.Now l = omega arith
-group_known processes process Part.Next l = omega arith
 
 pub loop-k-preserved : goal.loop-k-preserved
 loop-k-preserved c =

@@ -1,0 +1,235 @@
+//! Circular assignments.
+//!
+//! The edges of the initial graph are those of the initial and of the current values, and the edges of a process's
+//! graph are those of its next values and of the current values. So the edges of the current values are kept in one
+//! table for all graphs, and a process whose next values depend on no next value has no graph of its own to search.
+
+ghost use Rattle.std.specs.Prelude.{◌≡◌, ◌⊎◌, ◌↔◌, ◌+◌, ◌++◌, ◌<◌, ◌≤◌, ℕ, length, true, All, Contains, IfOk, IfErr, OnOk, IsTrue};
+ghost use Rattle.kripke_model.specs.Flat.{IsFlat};
+ghost use Rattle.kripke_model.specs.Refusing.{Silent};
+ghost use Rattle.kripke_model.specs.Static.{Graph, circular_assignment};
+ghost use Rattle.smv_static.specs.Circles.{IsCircular, IsLeastAmong, IsFirstCircular, IsFound, IsClear, HasTables};
+ghost use Rattle.smv_static.specs.Groups.{IsTable};
+ghost use Rattle.smv_static.specs.Numbers.{IsBelow, row};
+ghost use Rattle.smv_static.specs.Targets.{targets_of};
+
+use crate::groups::{grouped, table};
+use crate::numbers::{Row, row_at};
+use crate::parts::{assigns_of, line_of_assign, process_count, var_of, variable_count};
+use crate::search::reached;
+use crate::targets::push_targets;
+use kripke_model::models::{Assign, FlatModel};
+use kripke_model::refusals::StaticRefusal;
+use std::alloc::{AllocError, Global};
+
+/// Whether a way leads from what the assignment's variable depends on to that variable.
+fn is_circular(
+    alloc: Global,
+    assign: &Assign,
+    base: &[Row],
+    extra: &[Row],
+    variables: usize,
+) -> Result<bool, AllocError>
+    requires base { IsBelow variables base.now }
+    requires extra { IsBelow variables extra.now }
+    requires targets { All (λ x. x < variables) (targets_of assign.now) }
+    ensures { IfOk result (λ b. IsTrue b ↔ IsCircular base.now extra.now assign.now) }
+{
+    let mut from = Row::new(alloc);
+    push_targets(assign, &mut from)?;
+    let found = reached(alloc, base, extra, from.items(), variables)?;
+    Ok(found.has(var_of(assign)))
+}
+
+/// The lesser of `least` and the place k of the assignment, if that lies on a cycle.
+fn lesser(
+    alloc: Global,
+    assign: &Assign,
+    k: usize,
+    base: &[Row],
+    extra: &[Row],
+    variables: usize,
+    least: usize,
+) -> Result<usize, AllocError>
+    requires base { IsBelow variables base.now }
+    requires extra { IsBelow variables extra.now }
+    requires targets { All (λ x. x < variables) (targets_of assign.now) }
+    ensures { IfOk result (λ r. (r ≡ least) × (k < least → IsCircular base.now extra.now assign.now → ⊥) ⊎ (r ≡ k) × (k < least) × IsCircular base.now extra.now assign.now) }
+{
+    if k >= least {
+        return Ok(least);
+    }
+    if is_circular(alloc, assign, base, extra, variables)? {
+        Ok(k)
+    } else {
+        Ok(least)
+    }
+}
+
+/// The least of the bound and of those places whose assignment lies on a cycle of the graph of the two tables.
+fn least_circular(
+    alloc: Global,
+    assigns: &[Assign],
+    places: &[u32],
+    base: &[Row],
+    extra: &[Row],
+    variables: usize,
+    bound: usize,
+) -> Result<usize, AllocError>
+    requires places { All (λ k. k < length assigns.now) places.now }
+    requires base { IsBelow variables base.now }
+    requires extra { IsBelow variables extra.now }
+    requires targets { All (λ a. All (λ x. x < variables) (targets_of a)) assigns.now }
+    ensures { IfOk result (λ least. IsLeastAmong (IsCircular base.now extra.now) assigns.now places.now bound least) }
+{
+    let mut least = bound;
+    for place in places {
+        let k = *place as usize;
+        least = lesser(alloc, &assigns[k], k, base, extra, variables, least)?;
+    }
+    Ok(least)
+}
+
+/// What the graphs of a model are read from: its assignments in groups, and the edges of the current values.
+#[derive(Drop)]
+struct Tables {
+    groups: Vec<Row>,
+    base: Vec<Row>,
+    processes: u32,
+    variables: usize,
+}
+
+fn make_tables(alloc: Global, flat: &FlatModel) -> Result<Tables, AllocError>
+    requires { IsFlat flat.now }
+    ensures { IfOk result (λ t. HasTables flat.now t.groups.items t.base.items t.processes t.variables) }
+{
+    let processes = process_count(flat);
+    let variables = variable_count(flat);
+    let assigns = assigns_of(flat);
+    let groups = grouped(alloc, assigns, processes)?;
+    let base = table(alloc, assigns, row_at(&groups, processes as u32), variables)?;
+    Ok(Tables {
+        groups,
+        base,
+        processes: processes as u32,
+        variables,
+    })
+}
+
+/// The least of the bound and of the places of groups q and of the current values whose assignment lies on a cycle of
+/// the graph of these two groups.
+fn least_in_graph(
+    alloc: Global,
+    flat: &FlatModel,
+    tables: &Tables,
+    q: u32,
+    extra: &[Row],
+    bound: usize,
+) -> Result<usize, AllocError>
+    requires flat { IsFlat flat.now }
+    requires tables { HasTables flat.now tables.now.groups.items tables.now.base.items tables.now.processes tables.now.variables }
+    requires extra { IsTable flat.now.assigns (row tables.now.groups.items q) extra.now }
+    ensures { IfOk result (λ least. IsLeastAmong (IsCircular tables.now.base.items extra.now) flat.now.assigns (row tables.now.groups.items q ++ row tables.now.groups.items tables.now.processes) bound least) }
+{
+    let assigns = assigns_of(flat);
+    let own = row_at(&tables.groups, q);
+    let least = least_circular(
+        alloc,
+        assigns,
+        own,
+        &tables.base,
+        extra,
+        tables.variables,
+        bound,
+    )?;
+    let shared = row_at(&tables.groups, tables.processes);
+    least_circular(
+        alloc,
+        assigns,
+        shared,
+        &tables.base,
+        extra,
+        tables.variables,
+        least,
+    )
+}
+
+/// The place of the first assignment on a cycle of the initial graph, or how many assignments there are.
+fn least_at_start(alloc: Global, flat: &FlatModel, tables: &Tables) -> Result<usize, AllocError>
+    requires flat { IsFlat flat.now }
+    requires tables { HasTables flat.now tables.now.groups.items tables.now.base.items tables.now.processes tables.now.variables }
+    ensures at_most { IfOk result (λ least. least ≤ length flat.now.assigns) }
+    ensures found { IfOk result (λ least. IsFound flat.now (length flat.now.assigns) least) }
+    ensures clear { IfOk result (λ least. IsClear flat.now Graph.AtStart least) }
+{
+    let assigns = assigns_of(flat);
+    let q = tables.processes + 1;
+    let extra = table(alloc, assigns, row_at(&tables.groups, q), tables.variables)?;
+    least_in_graph(alloc, flat, tables, q, &extra, assigns.len())
+}
+
+/// Whether nothing is in the table.
+fn is_empty(rows: &[Row]) -> bool
+    ensures { result ≡ true → (x y : ℕ) → Contains (row rows.now x) y → ⊥ }
+{
+    for row in rows {
+        if !row.items().is_empty() {
+            return false;
+        }
+    }
+    true
+}
+
+/// The least of the bound and of the places of the assignments on a cycle of the process's graph.
+fn least_in_process(
+    alloc: Global,
+    flat: &FlatModel,
+    tables: &Tables,
+    p: u32,
+    bound: usize,
+) -> Result<usize, AllocError>
+    requires flat { IsFlat flat.now }
+    requires tables { HasTables flat.now tables.now.groups.items tables.now.base.items tables.now.processes tables.now.variables }
+    requires process { p < tables.now.processes }
+    requires bound { bound ≤ length flat.now.assigns }
+    requires clear { IsClear flat.now Graph.AtStart bound }
+    ensures at_most { IfOk result (λ least. least ≤ bound) }
+    ensures found { IfOk result (λ least. IsFound flat.now bound least) }
+    ensures clear { IfOk result (λ least. IsClear flat.now (Graph.InProcess p) least) }
+{
+    let own = row_at(&tables.groups, p);
+    let extra = table(alloc, assigns_of(flat), own, tables.variables)?;
+    if is_empty(&extra) {
+        return Ok(bound);
+    }
+    least_in_graph(alloc, flat, tables, p, &extra, bound)
+}
+
+/// The place of the first assignment on a cycle, or how many assignments there are.
+fn first_circular(alloc: Global, flat: &FlatModel) -> Result<usize, AllocError>
+    requires { IsFlat flat.now }
+    ensures { IfOk result (λ least. IsFirstCircular flat.now least) }
+{
+    let tables = make_tables(alloc, flat)?;
+    let mut least = least_at_start(alloc, flat, &tables)?;
+    for p in 0..tables.processes {
+        least = least_in_process(alloc, flat, &tables, p, least)?;
+    }
+    Ok(least)
+}
+
+/// Refuses the first assignment that lies on a cycle of one of the graphs.
+pub fn check_cycles(alloc: Global, flat: &FlatModel) -> Result<(), StaticRefusal>
+    requires { IsFlat flat.now }
+    ensures ok { OnOk result (Silent (circular_assignment flat.now)) }
+    ensures err { IfErr result (λ r. (r ≡ StaticRefusal.Memory) ⊎ circular_assignment flat.now r) }
+{
+    let assigns = assigns_of(flat);
+    let least = first_circular(alloc, flat)?;
+    if least < assigns.len() {
+        return Err(StaticRefusal::CircularAssignment {
+            line: line_of_assign(&assigns[least]),
+        });
+    }
+    Ok(())
+}
