@@ -7,6 +7,7 @@ use Rattle.std.proofs.lemmas.List.Elements.{All-nil, All-cons, All-from_recursio
 use Rattle.std.proofs.lemmas.List.Kept.{AllPairs-cons}
 use Rattle.std.proofs.lemmas.Slice.Eq.{bytes_eq-Decides}
 use Rattle.kripke_model.specs.declared.expressions.Value.{Value}
+use Rattle.kripke_model.specs.declared.expressions.Value.TheVariants.{Number, Symbol}
 use Rattle.kripke_model.specs.declared.expressions.Formula.{Formula}
 use Rattle.kripke_model.specs.declared.refusals.StaticRefusal.{StaticRefusal}
 use Rattle.kripke_model.specs.Evaluation.{same}
@@ -19,7 +20,7 @@ use Rattle.kripke_model.specs.Term.{Term}
 use Rattle.kripke_model.specs.WellFormed.{IsRuled}
 use Rattle.kripke_model.proofs.FirstLemmas.{silent_then}
 use Rattle.kripke_model.proofs.SummaryLemmas.{same_self}
-use Rattle.bit_encode.specs.Rows.{model_with, unused_model, mixed_model}
+use Rattle.bit_encode.specs.Rows.{variable, model_with, unused_model, mixed_model}
 
 none : (r : StaticRefusal) → ⊥ → ⊥
 none r h = h
@@ -106,6 +107,8 @@ pub flat_unused : IsFlat unused_model
 flat_unused =
     let V : Variable → Type 0 = λ v. IsWellTyped v unused_model in
     let K : Value → Type 0 = IsKnown unused_model in
+    let x : Variable = variable (120 ∷ []) (Symbol 0 ∷ Symbol 1 ∷ Symbol 2 ∷ []) in
+    let y : Variable = variable (121 ∷ []) (Symbol 3 ∷ []) in
     flat_with unused_model.symbols unused_model.vars (lit≤ tt)
     (All-from_recursion (λ (v : Variable). length v.values ≤ 1024) unused_model.vars (lit≤ tt, (lit≤ tt, tt)))
     (All-from_recursion IsAtom unused_model.symbols (refl, (refl, (refl, (refl, tt)))))
@@ -113,22 +116,25 @@ flat_unused =
     (All-from_recursion (λ (v : Variable). IsVariableName v.name) unused_model.vars (name_of (120 ∷ []) refl, (name_of (121 ∷ []) refl, tt)))
     (distinct_by bytes_eq bytes_self (map (λ (v : Variable). v.name) unused_model.vars) refl)
     (All-from_recursion V unused_model.vars (
-      typed unused_model _ (lit< tt) (distinct_by same same_self _ refl) (All-from_recursion K _ (lit< tt, (lit< tt, (lit< tt, tt)))),
-      (typed unused_model _ (lit< tt) (distinct_by same same_self _ refl) (All-from_recursion K _ (lit< tt, tt)), tt)
+      typed unused_model x (lit< tt) (distinct_by same same_self x.values refl) (All-from_recursion K x.values (lit< tt, (lit< tt, (lit< tt, tt)))),
+      (typed unused_model y (lit< tt) (distinct_by same same_self y.values refl) (All-from_recursion K y.values (lit< tt, tt)), tt)
     ))
 
 pub flat_mixed : IsFlat mixed_model
 flat_mixed =
     let V : Variable → Type 0 = λ v. IsWellTyped v mixed_model in
     let K : Value → Type 0 = IsKnown mixed_model in
+    let flag : Variable = variable (102 ∷ 108 ∷ 97 ∷ 103 ∷ []) (Number (pos 0) ∷ Number (pos 1) ∷ []) in
+    let count : Variable = variable (99 ∷ 111 ∷ 117 ∷ 110 ∷ 116 ∷ []) (Number (pos 3) ∷ Number (pos 4) ∷ Number (pos 5) ∷ Number (pos 6) ∷ Number (pos 7) ∷ []) in
+    let y : Variable = variable (121 ∷ []) (Symbol 0 ∷ []) in
     flat_with mixed_model.symbols mixed_model.vars (lit≤ tt)
     (All-from_recursion (λ (v : Variable). length v.values ≤ 1024) mixed_model.vars (lit≤ tt, (lit≤ tt, (lit≤ tt, tt))))
     (All-from_recursion IsAtom mixed_model.symbols (refl, tt))
     (distinct_by bytes_eq bytes_self mixed_model.symbols refl)
-    (All-from_recursion (λ (v : Variable). IsVariableName v.name) mixed_model.vars (name_of (102 ∷ 108 ∷ 97 ∷ 103 ∷ []) refl, (name_of (99 ∷ 111 ∷ 117 ∷ 110 ∷ 116 ∷ []) refl, (name_of (121 ∷ []) refl, tt))))
+    (All-from_recursion (λ (v : Variable). IsVariableName v.name) mixed_model.vars (name_of flag.name refl, (name_of count.name refl, (name_of y.name refl, tt))))
     (distinct_by bytes_eq bytes_self (map (λ (v : Variable). v.name) mixed_model.vars) refl)
     (All-from_recursion V mixed_model.vars (
-      typed mixed_model _ (lit< tt) (distinct_by same same_self _ refl) (All-from_recursion K _ (tt, (tt, tt))),
-      (typed mixed_model _ (lit< tt) (distinct_by same same_self _ refl) (All-from_recursion K _ (tt, (tt, (tt, (tt, (tt, tt)))))),
-      (typed mixed_model _ (lit< tt) (distinct_by same same_self _ refl) (All-from_recursion K _ (lit< tt, tt)), tt))
+      typed mixed_model flag (lit< tt) (distinct_by same same_self flag.values refl) (All-from_recursion K flag.values (tt, (tt, tt))),
+      (typed mixed_model count (lit< tt) (distinct_by same same_self count.values refl) (All-from_recursion K count.values (tt, (tt, (tt, (tt, (tt, tt)))))),
+      (typed mixed_model y (lit< tt) (distinct_by same same_self y.values refl) (All-from_recursion K y.values (lit< tt, tt)), tt))
     ))

@@ -62,7 +62,6 @@ fn model_of(alloc: Global, symbols: Vec<Name>, vars: Vec<FlatVar>) -> Result<Rul
     })
 }
 
-#[tactic(auto, using(crate::proofs::RowLemmas::flat_unused))]
 fn with_unused_code(alloc: Global) -> Result<Ruled, AllocError>
     ensures { IfOk result (λ m. m ≡ unused_model) }
 {
@@ -76,14 +75,9 @@ fn with_unused_code(alloc: Global) -> Result<Ruled, AllocError>
         &[Value::Symbol(0), Value::Symbol(1), Value::Symbol(2)],
     )?;
     let y = variable(alloc, "y", &[Value::Symbol(3)])?;
-    model_of(
-        alloc,
-        vec![in alloc; a, b, c, only]?,
-        vec![in alloc; x, y]?,
-    )
+    model_of(alloc, vec![in alloc; a, b, c, only]?, vec![in alloc; x, y]?)
 }
 
-#[tactic(auto, using(crate::proofs::RowLemmas::flat_mixed))]
 fn with_range(alloc: Global) -> Result<Ruled, AllocError>
     ensures { IfOk result (λ m. m ≡ mixed_model) }
 {
