@@ -19,7 +19,7 @@ use Rattle.kripke_model.specs.Size.{nesting}
 use Rattle.kripke_model.specs.Term.{Term}
 use Rattle.kripke_model.specs.WellFormed.{IsRuled}
 use Rattle.kripke_model.proofs.FirstLemmas.{silent_then}
-use Rattle.kripke_model.proofs.SummaryLemmas.{same_self}
+use Rattle.kripke_model.proofs.ValueLemmas.{same_self}
 use Rattle.bit_encode.specs.Rows.{variable, model_with, unused_model, mixed_model}
 
 none : (r : StaticRefusal) → ⊥ → ⊥
