@@ -247,7 +247,7 @@ fn models_have_their_verdicts(rt: HostRuntime) -> Result<(), Fail> {
             code: 0,
             put: b"spec 1 line 1 true\ntotal 1 true 1 false 0 unknown 0\n",
         },
-        // Initial values by an expression, and by one another.
+        // Initial values by an expression; by one another they are circular.
         Model {
             text: b"MODULE main VAR a : boolean; b : boolean; ASSIGN init(a) := !b; next(a) := b; next(b) := a; SPEC AG (a | b)\n",
             code: 0,
@@ -255,8 +255,8 @@ fn models_have_their_verdicts(rt: HostRuntime) -> Result<(), Fail> {
         },
         Model {
             text: b"MODULE main VAR a : boolean; b : boolean; ASSIGN init(a) := b; init(b) := a; next(a) := a; next(b) := b; SPEC AG (a <-> b)\n",
-            code: 0,
-            put: b"spec 1 line 1 true\ntotal 1 true 1 false 0 unknown 0\n",
+            code: 3,
+            put: b"refused E0\n",
         },
         // Deep negation.
         Model {
