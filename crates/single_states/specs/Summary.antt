@@ -114,7 +114,3 @@ boolean_of x = x >>= only_boolean
 
 abbrev pub single_of : Checked Summary → Checked Value
 single_of x = x >>= only
-
--- the values with v among them
-abbrev pub pushed : Value → List Value → List Value
-pushed v vs = if among v vs then vs else vs ++ (v ∷ [])
