@@ -88,7 +88,8 @@ impl Summary {
     pub(crate) fn boolean(self) -> Result<bool, FaultKind>
         ensures { result ≡ only_boolean self }
     {
-        match self.single()? {
+        let value = self.single()?;
+        match value {
             Value::Number(0) => Ok(false),
             Value::Number(1) => Ok(true),
             _ => Err(FaultKind::NotBoolean),
