@@ -1,6 +1,5 @@
 -- Pushing the values that are not there yet gives each value once.
-use Rattle.std.proofs.Common.{◌≡◌, ℕ, List, [], ◌∷◌, ◌++◌, Bool, true, false, cond, not, ◌||◌, refl, sym, ◌∙◌, ap, append-nil, ◌+◌, ◌<◌, length, get_or, take}
-use Rattle.std.proofs.lemmas.List.{take_more}
+use Rattle.std.proofs.Common.{◌≡◌, List, [], ◌∷◌, ◌++◌, Bool, true, false, cond, not, ◌||◌, refl, sym, ◌∙◌, ap, append-nil}
 use Rattle.std.specs.Prelude.{filter}
 use Rattle.std.proofs.lemmas.List.Elements.{filter-append}
 use Rattle.kripke_model.specs.declared.expressions.Value.{Value}
@@ -16,9 +15,6 @@ same_sym_from v w false p true q = sym p ∙ ap (same v) (same-true w v q) ∙ s
 
 same_sym : (v w : Value) → same v w ≡ same w v
 same_sym v w = same_sym_from v w (same v w) refl (same w v) refl
-
-pushed : Value → List Value → List Value
-pushed x vs = cond (among x vs) vs (vs ++ (x ∷ []))
 
 pub distinct-push : (vs : List Value) (x : Value) → distinct (vs ++ (x ∷ [])) ≡ cond (among x vs) (distinct vs) (distinct vs ++ (x ∷ []))
 distinct-push [] x = refl
@@ -38,11 +34,3 @@ distinct-push (v ∷ vs) x =
 
 pub among-distinct : (x : Value) (vs : List Value) → among x (distinct vs) ≡ among x vs
 among-distinct x vs = any-distinct (same x) vs
-
-pub pushed_next : (xs : List Value) (i : ℕ) (d : Value) (out new : List Value) → i < length xs → out ≡ distinct (take i xs) → new ≡ cond (among (get_or xs i d) out) out (out ++ (get_or xs i d ∷ [])) → new ≡ distinct (take (i + 1) xs)
-pushed_next xs i d out new lt so_far e =
-    e
-    ∙ ap (λ o. cond (among (get_or xs i d) o) o (o ++ (get_or xs i d ∷ []))) so_far
-    ∙ ap (λ b. cond b (distinct (take i xs)) (distinct (take i xs) ++ (get_or xs i d ∷ []))) (among-distinct (get_or xs i d) (take i xs))
-    ∙ sym (distinct-push (take i xs) (get_or xs i d))
-    ∙ ap distinct (sym (take_more xs i d lt))

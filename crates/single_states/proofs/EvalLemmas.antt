@@ -10,7 +10,7 @@ use Rattle.kripke_model.specs.declared.expressions.FaultKind.{FaultKind}
 use Rattle.single_states.specs.declared.evaluation.Summary.{Summary}
 use Rattle.kripke_model.specs.System.{System, State, value_in}
 use Rattle.kripke_model.specs.Term.{Term, Arms, none, more, esac, arm}
-use Rattle.kripke_model.specs.Evaluable.{IsEvaluable, AreEvaluableArms}
+use Rattle.single_states.specs.Braces.{IsFilled, AreFilledArms}
 use Rattle.kripke_model.specs.Evaluation.{Checked, ◌>>=◌, same, among, distinct, truth, truth_value, single, as_number, as_boolean, number, boolean, in_range, divided, on_operands, on_numbers, on_booleans, binary, runs, eval, eval_elements, eval_arms}
 use Rattle.single_states.specs.Summary.{summary, summarized, one, joined, only, only_number, only_boolean, in_bounds, arithmetic, logic, numbers, booleans, binary_value, IsSingleValued, found, either, first_is, decided}
 use Rattle.kripke_model.proofs.ValueLemmas.{same-true}
@@ -82,7 +82,7 @@ braces_good (Ok vs) (Err kind) h = tt
 braces_good (Err kind) y h = tt
 
 mutual
-  pub eval_good : (m : System) (e : Term) (s t : State) → IsEvaluable m e → IfGood (eval m e s t)
+  pub eval_good : (m : System) (e : Term) (s t : State) → IsFilled e → IfGood (eval m e s t)
   eval_good m (Term.Const v) s t h = one_good v
   eval_good m (Term.Var x) s t h = one_good (value_in s x)
   eval_good m (Term.Running p) s t h = truth_good (runs m s p)
@@ -92,10 +92,10 @@ mutual
   eval_good m (Term.Braces none) s t h = absurd h
   eval_good m (Term.Braces (more e es)) s t h = braces_good (eval m e s t) (eval_elements m es s t) (eval_good m e s t h.0)
   eval_good m (Term.Case arms) s t h = arms_good m arms s t h
-  eval_good m (Term.Quant op e) s t h = absurd h
-  eval_good m (Term.Until all a b) s t h = absurd h
+  eval_good m (Term.Quant op e) s t h = tt
+  eval_good m (Term.Until all a b) s t h = tt
 
-  arms_good : (m : System) (arms : Arms) (s t : State) → AreEvaluableArms m arms → IfGood (eval_arms m arms s t)
+  arms_good : (m : System) (arms : Arms) (s t : State) → AreFilledArms arms → IfGood (eval_arms m arms s t)
   arms_good m esac s t h = truth_good true
   arms_good m (arm guard right rest) s t h =
       bind_good (eval m guard s t >>= boolean) _ (λ b. cond_good b _ _ (eval_good m right s t h.1) (arms_good m rest s t h.2))

@@ -1,3 +1,4 @@
+pub mod BracesLemmas
 mod SummaryLemmas
 mod EvalLemmas
 mod ValuationLemmas
@@ -5,3 +6,5 @@ mod DistinctLemmas
 mod QuotientLemmas
 mod StateLemmas
 mod StepLemmas
+mod PushLemmas
+mod OutcomeLemmas

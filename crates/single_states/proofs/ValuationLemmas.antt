@@ -10,22 +10,22 @@ use Rattle.single_states.specs.declared.evaluation.Summary.{Summary}
 use Rattle.kripke_model.specs.System.{System, State}
 use Rattle.kripke_model.specs.Term.{Term, Terms, Arms}
 use Rattle.kripke_model.specs.Reading.{term_of, terms_in, arms_in}
-use Rattle.kripke_model.specs.Evaluable.{IsEvaluable, AreEvaluable, AreEvaluableArms}
+use Rattle.single_states.specs.Braces.{IsFilled, AreFilled, AreFilledArms}
 use Rattle.kripke_model.specs.Evaluation.{Checked, ◌>>=◌, same, among, eval, eval_elements, eval_arms, boolean, as_boolean}
 use Rattle.single_states.specs.Summary.{summary, summarized, found, joined, only_boolean}
 use Rattle.single_states.proofs.EvalLemmas.{IfGood, eval_good, tested, join_values}
 
--- ---- each element and each arm can be evaluated
+-- ---- no braces are empty in each element and each arm
 
-pub evaluable_at : (m : System) (es : List Expr) (i : ℕ) (d : Expr) → i < length es → AreEvaluable m (terms_in es) → IsEvaluable m (term_of (get_or es i d))
-evaluable_at m [] i d h k = absurd (omega arith)
-evaluable_at m (e ∷ es) zero d h k = k.0
-evaluable_at m (e ∷ es) (suc i) d h k = evaluable_at m es i d (omega arith) k.1
+pub filled_at : (es : List Expr) (i : ℕ) (d : Expr) → i < length es → AreFilled (terms_in es) → IsFilled (term_of (get_or es i d))
+filled_at [] i d h k = absurd (omega arith)
+filled_at (e ∷ es) zero d h k = k.0
+filled_at (e ∷ es) (suc i) d h k = filled_at es i d (omega arith) k.1
 
-pub arm_evaluable_at : (m : System) (arms : List Arm) (i : ℕ) (d : Arm) → i < length arms → AreEvaluableArms m (arms_in arms) → IsEvaluable m (term_of (get_or arms i d).guard) × IsEvaluable m (term_of (get_or arms i d).right)
-arm_evaluable_at m [] i d h k = absurd (omega arith)
-arm_evaluable_at m (a ∷ arms) zero d h k = (k.0, k.1)
-arm_evaluable_at m (a ∷ arms) (suc i) d h k = arm_evaluable_at m arms i d (omega arith) k.2
+pub arm_filled_at : (arms : List Arm) (i : ℕ) (d : Arm) → i < length arms → AreFilledArms (arms_in arms) → IsFilled (term_of (get_or arms i d).guard) × IsFilled (term_of (get_or arms i d).right)
+arm_filled_at [] i d h k = absurd (omega arith)
+arm_filled_at (a ∷ arms) zero d h k = (k.0, k.1)
+arm_filled_at (a ∷ arms) (suc i) d h k = arm_filled_at arms i d (omega arith) k.2
 
 -- ---- the elements before i have the values vs, so far
 
@@ -58,12 +58,12 @@ err_values (Err k) kind p = cc
 abbrev pub SoFar : System → State → State → List Expr → ℕ → Summary → Type 0
 SoFar m s t es i all = (v : Value) × (vs : List Value) × (all ≡ summary (v ∷ vs)) × (elements m s t es ≡ (elements m s t (drop i es) >>= λ ws. Ok ((v ∷ vs) ++ ws)))
 
-module _ (m : System) (s t : State) (es : List Expr) (i : ℕ) (d : Expr) (lt : i < length es) (good : AreEvaluable m (terms_in es)) where
+module _ (m : System) (s t : State) (es : List Expr) (i : ℕ) (d : Expr) (lt : i < length es) (good : AreFilled (terms_in es)) where
   abbrev value_of : Checked (List Value)
   value_of = eval m (term_of (get_or es i d)) s t
 
   abbrev is_good : IfGood value_of
-  is_good = eval_good m (term_of (get_or es i d)) s t (evaluable_at m es i d lt good)
+  is_good = eval_good m (term_of (get_or es i d)) s t (filled_at es i d lt good)
 
   abbrev split : elements m s t (drop i es) ≡ (value_of >>= λ vs. elements m s t (drop (suc i) es) >>= λ ws. Ok (vs ++ ws))
   split = elements_at m s t es i d lt
@@ -120,7 +120,7 @@ choice_past m s t (a ∷ arms) (suc i) h = choice_past m s t arms i (omega arith
 abbrev pub PassedOver : System → State → State → List Arm → ℕ → Type 0
 PassedOver m s t arms i = choice m s t arms ≡ choice m s t (drop i arms)
 
-module _ (m : System) (s t : State) (arms : List Arm) (i : ℕ) (d : Arm) (lt : i < length arms) (good : AreEvaluableArms m (arms_in arms)) (passed : PassedOver m s t arms i) where
+module _ (m : System) (s t : State) (arms : List Arm) (i : ℕ) (d : Arm) (lt : i < length arms) (good : AreFilledArms (arms_in arms)) (passed : PassedOver m s t arms i) where
   abbrev guard_of : Checked (List Value)
   guard_of = eval m (term_of (get_or arms i d).guard) s t
 
@@ -128,7 +128,7 @@ module _ (m : System) (s t : State) (arms : List Arm) (i : ℕ) (d : Arm) (lt : 
   chosen o e =
       passed ∙ choice_at m s t arms i d lt
       ∙ ap (λ (c : Checked Bool). c >>= λ b. cond b (eval m (term_of (get_or arms i d).right) s t) (choice m s t (drop (suc i) arms)))
-      (tested as_boolean guard_of (eval_good m (term_of (get_or arms i d).guard) s t (arm_evaluable_at m arms i d lt good).0) ∙ e)
+      (tested as_boolean guard_of (eval_good m (term_of (get_or arms i d).guard) s t (arm_filled_at arms i d lt good).0) ∙ e)
 
   pub arm_chosen : (summarized guard_of >>= only_boolean) ≡ Ok true → choice m s t arms ≡ eval m (term_of (get_or arms i d).right) s t
   arm_chosen e = chosen (Ok true) e
@@ -142,6 +142,13 @@ module _ (m : System) (s t : State) (arms : List Arm) (i : ℕ) (d : Arm) (lt : 
 -- v is among the values of the elements before i where the flag is set
 abbrev pub FoundSoFar : System → State → State → List Expr → Value → ℕ → Bool → Type 0
 FoundSoFar m s t es v i seen = found v (elements m s t es) ≡ (found v (elements m s t (drop i es)) >>= λ b. Ok (seen || b))
+
+pub found_start : (m : System) (s t : State) (es : List Expr) (v : Value) → FoundSoFar m s t es v 0 false
+found_start m s t es v = unchanged (found v (elements m s t es))
+  where
+    unchanged : (c : Checked Bool) → c ≡ (c >>= λ b. Ok (false || b))
+    unchanged (Ok b) = refl
+    unchanged (Err kind) = refl
 
 pub found_none : (m : System) (s t : State) (es : List Expr) (v : Value) → FoundSoFar m s t es v 0 false
 found_none m s t es v = by (found v (elements m s t es))
@@ -221,6 +228,6 @@ arm_weight_at [] i d h = absurd (omega arith)
 arm_weight_at (a ∷ arms) zero d h = omega arith
 arm_weight_at (a ∷ arms) (suc i) d h = omega (arith, arm_weight_at arms i d (omega arith))
 
-pub elements_evaluable : (m : System) (es : List Expr) → IsEvaluable m (Term.Braces (terms_in es)) → (0 < length es) × AreEvaluable m (terms_in es)
-elements_evaluable m [] h = absurd h
-elements_evaluable m (e ∷ es) h = (omega arith, h)
+pub elements_filled : (es : List Expr) → IsFilled (Term.Braces (terms_in es)) → (0 < length es) × AreFilled (terms_in es)
+elements_filled [] h = absurd h
+elements_filled (e ∷ es) h = (omega arith, h)

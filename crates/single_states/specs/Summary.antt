@@ -1,5 +1,5 @@
 -- What the tests of states keep of a list of values: the first one, and whether another one differs from it.
-use Rattle.std.specs.Prelude.{Bool, true, false, not, ◌||◌, ◌&&◌, if◌then◌else◌, List, [], ◌∷◌, ◌++◌, ℤ, pos, negsuc, int_lt, int_le, int_div, int_rem, ◌+ℤ◌, ◌-ℤ◌, ◌*ℤ◌, Ok, Err}
+use Rattle.std.specs.Prelude.{Bool, false, not, ◌||◌, ◌&&◌, if◌then◌else◌, List, [], ◌∷◌, ℤ, pos, negsuc, int_lt, int_le, int_div, int_rem, ◌+ℤ◌, ◌-ℤ◌, ◌*ℤ◌, Ok, Err}
 use Rattle.std.specs.Ordering.{int_eq}
 use Rattle.std.specs.List.{list_any}
 use Rattle.kripke_model.specs.declared.expressions.Value.{Value}
@@ -114,7 +114,3 @@ boolean_of x = x >>= only_boolean
 
 abbrev pub single_of : Checked Summary → Checked Value
 single_of x = x >>= only
-
--- the values with v among them
-abbrev pub pushed : Value → List Value → List Value
-pushed v vs = if among v vs then vs else vs ++ (v ∷ [])

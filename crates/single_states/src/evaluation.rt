@@ -1,15 +1,13 @@
-//! The values of operators, and the test of states. Nothing but `distinct_values` takes memory.
+//! The values of operators, and the test of states. Nothing here takes memory.
 
-ghost use Rattle.std.specs.Prelude.{◌≡◌, ◌<◌, ◌↔◌, IsTrue, Contains, IfOk, OnOk};
+ghost use Rattle.std.specs.Prelude.{◌≡◌, ◌↔◌, IsTrue, Contains};
 ghost use Rattle.kripke_model.specs.Step.{IsState};
-ghost use Rattle.kripke_model.specs.Evaluation.{runs, distinct, truth_value};
-ghost use Rattle.single_states.specs.Summary.{pushed};
+ghost use Rattle.kripke_model.specs.Evaluation.{runs, truth_value};
 ghost use Rattle.single_states.specs.Summary.{one, joined, only, only_number, only_boolean, in_bounds, arithmetic, logic, binary_value, IsSingleValued, negated, united, combined, decided, either, first_is, boolean_of, single_of};
 
 use kripke_model::expressions::{BinOp, FaultKind, Value};
 use kripke_model::models::{FlatVar, Ruled};
 use kripke_model::states::State;
-use std::alloc::{AllocError, Global};
 
 /// Whether the value is one of the variable's type.
 fn is_of_type(var: &FlatVar, value: Value) -> bool
@@ -90,7 +88,8 @@ impl Summary {
     pub(crate) fn boolean(self) -> Result<bool, FaultKind>
         ensures { result ≡ only_boolean self }
     {
-        match self.single()? {
+        let value = self.single()?;
+        match value {
             Value::Number(0) => Ok(false),
             Value::Number(1) => Ok(true),
             _ => Err(FaultKind::NotBoolean),
@@ -244,26 +243,4 @@ pub(crate) fn first_is(x: Result<Summary, FaultKind>, v: Value) -> Result<bool, 
 {
     let x = x?;
     Ok(v == x.first)
-}
-
-/// Pushes the value where it is not there yet.
-fn push_distinct(values: &mut Vec<Value>, value: Value) -> Result<(), AllocError>
-    ensures { OnOk result (values.new.items ≡ pushed value values.old.items) }
-{
-    if values.contains(&value) {
-        return Ok(());
-    }
-    values.push(value)?;
-    Ok(())
-}
-
-/// Each value once, at its first place.
-pub(crate) fn distinct_values(alloc: Global, values: &[Value]) -> Result<Vec<Value>, AllocError>
-    ensures { IfOk result (λ v. v.items ≡ distinct values.now) }
-{
-    let mut once = Vec::new(alloc);
-    for value in values {
-        push_distinct(&mut once, *value)?;
-    }
-    Ok(once)
 }

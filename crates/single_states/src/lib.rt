@@ -2,6 +2,7 @@
 #![tactic(auto)]
 
 pub mod evaluation;
+pub mod outcomes;
 pub mod steps;
 #[cfg(test)]
 mod tests;

@@ -10,6 +10,7 @@ ghost use Rattle.kripke_model.specs.Step.{IsValueOf, IsCurrent, Assigned, IsDriv
 ghost use Rattle.kripke_model.specs.Path.{IsPath};
 ghost use Rattle.kripke_model.specs.Truth.{IsFair};
 ghost use Rattle.kripke_model.specs.System.{value_in};
+ghost use Rattle.single_states.specs.Braces.{IsFilled};
 
 use crate::evaluation::{is_state, runs, single_of};
 use crate::valuation::{has, summarize};
@@ -25,7 +26,7 @@ fn is_one(value: Value) -> bool
 
 /// Whether the expression is the one value 1 at the state s with the next state t. A fault is no value.
 pub fn holds(model: &Ruled, expr: &Expr, s: &State, t: &State) -> bool
-    requires { IsEvaluable model.now (term_of expr.now) }
+    requires { IsFilled (term_of expr.now) }
     ensures { IsTrue result ↔ Holds model.now (term_of expr.now) s.now t.now }
 {
     match single_of(summarize(model, expr, s, t)) {
@@ -36,7 +37,7 @@ pub fn holds(model: &Ruled, expr: &Expr, s: &State, t: &State) -> bool
 
 /// Whether v is among the values of the expression.
 fn admits(model: &Ruled, expr: &Expr, s: &State, t: &State, v: Value) -> bool
-    requires { IsEvaluable model.now (term_of expr.now) }
+    requires { IsFilled (term_of expr.now) }
     ensures { IsTrue result ↔ IsValueOf model.now (term_of expr.now) s.now t.now v }
 {
     match has(model, expr, s, t, v) {
@@ -46,6 +47,7 @@ fn admits(model: &Ruled, expr: &Expr, s: &State, t: &State, v: Value) -> bool
 }
 
 /// Whether the item's expression is the one value 1.
+#[tactic(auto, using(crate::proofs::BracesLemmas::evaluable_filled))]
 pub fn item_holds(model: &Ruled, item: &Item, s: &State, t: &State) -> bool
     requires { IsEvaluable model.now item.now.expr }
     ensures { IsTrue result ↔ Holds model.now item.now.expr s.now t.now }
@@ -66,6 +68,7 @@ fn all_hold(model: &Ruled, items: &[Item], s: &State, t: &State) -> bool
 }
 
 /// Whether the value of the assigned variable in u is among those of the right side at s and t.
+#[tactic(auto, using(crate::proofs::BracesLemmas::evaluable_filled))]
 fn meets(model: &Ruled, a: &Assign, s: &State, t: &State, u: &State) -> bool
     requires { IsEvaluable model.now a.now.right }
     ensures { IsTrue result ↔ IsValueOf model.now a.now.right s.now t.now (value_in u.now a.now.var) }

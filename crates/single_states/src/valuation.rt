@@ -3,7 +3,7 @@
 ghost use Rattle.std.specs.Prelude.{◌≡◌, ◌<◌, length};
 ghost use Rattle.kripke_model.specs.Evaluation.{eval, eval_elements, eval_arms};
 ghost use Rattle.single_states.specs.Summary.{summarized, found};
-ghost use Rattle.kripke_model.specs.Evaluable.{IsEvaluable, AreEvaluable, AreEvaluableArms};
+ghost use Rattle.single_states.specs.Braces.{IsFilled, AreFilled, AreFilledArms};
 ghost use Rattle.kripke_model.specs.Reading.{term_of, terms_in, arms_in};
 
 use crate::evaluation::{
@@ -22,7 +22,7 @@ pub(crate) fn summarize(
     s: &State,
     t: &State,
 ) -> Result<Summary, FaultKind>
-    requires { IsEvaluable model.now (term_of expr.now) }
+    requires { IsFilled (term_of expr.now) }
     ensures { result ≡ summarized (eval model.now (term_of expr.now) s.now t.now) }
 {
     match expr {
@@ -53,7 +53,7 @@ pub(crate) fn summarize_elements(
     t: &State,
 ) -> Result<Summary, FaultKind>
     requires some { 0 < length elements.now }
-    requires evaluable { AreEvaluable model.now (terms_in elements.now) }
+    requires filled { AreFilled (terms_in elements.now) }
     ensures { result ≡ summarized (eval_elements model.now (terms_in elements.now) s.now t.now) }
 {
     let mut all = summarize(model, &elements[0], s, t)?;
@@ -71,7 +71,7 @@ pub(crate) fn summarize_arms(
     s: &State,
     t: &State,
 ) -> Result<Summary, FaultKind>
-    requires { AreEvaluableArms model.now (arms_in arms.now) }
+    requires { AreFilledArms (arms_in arms.now) }
     ensures { result ≡ summarized (eval_arms model.now (arms_in arms.now) s.now t.now) }
 {
     for arm in arms {
@@ -92,7 +92,7 @@ pub(crate) fn has(
     t: &State,
     v: Value,
 ) -> Result<bool, FaultKind>
-    requires { IsEvaluable model.now (term_of expr.now) }
+    requires { IsFilled (term_of expr.now) }
     ensures { result ≡ found v (eval model.now (term_of expr.now) s.now t.now) }
 {
     match expr {
@@ -120,7 +120,7 @@ pub(crate) fn has_in_elements(
     t: &State,
     v: Value,
 ) -> Result<bool, FaultKind>
-    requires { AreEvaluable model.now (terms_in elements.now) }
+    requires { AreFilled (terms_in elements.now) }
     ensures { result ≡ found v (eval_elements model.now (terms_in elements.now) s.now t.now) }
 {
     let mut seen = false;
@@ -140,7 +140,7 @@ pub(crate) fn has_in_arms(
     t: &State,
     v: Value,
 ) -> Result<bool, FaultKind>
-    requires { AreEvaluableArms model.now (arms_in arms.now) }
+    requires { AreFilledArms (arms_in arms.now) }
     ensures { result ≡ found v (eval_arms model.now (arms_in arms.now) s.now t.now) }
 {
     for arm in arms {

@@ -6,18 +6,18 @@ use Rattle.kripke_model.specs.Term.{Term}
 use Rattle.kripke_model.specs.Reading.{term_of, terms_in, arms_in}
 use Rattle.kripke_model.specs.System.{value_in}
 use Rattle.kripke_model.specs.Evaluation.{eval, eval_elements, eval_arms, runs, truth, boolean, ◌>>=◌}
-use Rattle.kripke_model.specs.Evaluable.{IsEvaluable}
+use Rattle.single_states.specs.Braces.{IsFilled}
 use Rattle.single_states.specs.Summary.{summarized, found, negated, united, combined, either, first_is, decided, single_of, boolean_of}
 use Rattle.kripke_model.proofs.ReadingLemmas.{braces_term, case_term}
 use Rattle.single_states.proofs.EvalLemmas.{eval_good, not-summary, union-summary, binary-summary, braces-summary, braces_found, union_found, first_found_at, binary_one, single_valued, member_ok, member_fails, truth_one, bind_one}
-use Rattle.single_states.proofs.ValuationLemmas.{evaluable_at, arm_evaluable_at, elements_evaluable, weight, weight_at, arm_weight_at, first_element, next_element, arm_chosen, arm_passed, arm_fails, found_next, PassedOver, FoundSoFar}
+use Rattle.single_states.proofs.ValuationLemmas.{filled_at, arm_filled_at, elements_filled, weight, weight_at, arm_weight_at, first_element, next_element, arm_chosen, arm_passed, arm_fails, found_start, found_next, found_element_fails, PassedOver, FoundSoFar}
 use Rattle.single_states.proofs.valuation.+evaluate.Goals as goal
 use Rattle.single_states.proofs.valuation.+evaluate.Goals.{has_in_elements-then-branch, has_in_elements-else-branch}
 
 pub summarize-returns-in-Not : goal.summarize-returns-in-Not
 summarize-returns-in-Not t c =
     let e : Expr = c.in-Not.e.value in
-    let good : IsEvaluable c.args.model.now (term_of e) = rw c.in-Not.is at c.requires in
+    let good : IsFilled (term_of e) = rw c.in-Not.is at c.requires in
     c.negated.ensures
     ∙ ap negated (c.summarize-in-Not.ensures ∙ ap (λ (x : Expr). summarized (eval c.args.model.now (term_of x) c.args.s.now c.args.t.now)) c.deref-in-Not.ensures)
     ∙ sym (not-summary (eval c.args.model.now (term_of e) c.args.s.now c.args.t.now) (eval_good c.args.model.now (term_of e) c.args.s.now c.args.t.now good))
@@ -55,79 +55,79 @@ pub has-has_in_elements-requires : goal.has-has_in_elements-requires
 has-has_in_elements-requires t c =
     let e : term_of c.args.expr.now ≡ Term.Braces (terms_in c.deref-in-Braces.result.now) = ap term_of c.in-Braces.is ∙ braces_term c.in-Braces.elements ∙ ap (λ (x : List Expr). Term.Braces (terms_in x)) (sym c.deref-in-Braces.ensures.value) in
     let w = ap weight e in
-    (omega (arith, w), (elements_evaluable c.args.model.now _ (subst (λ (x : Term). IsEvaluable c.args.model.now x) e c.requires)).1)
+    (omega (arith, w), (elements_filled _ (subst (λ (x : Term). IsFilled x) e c.requires)).1)
 
 pub has-has_in_arms-requires : goal.has-has_in_arms-requires
 has-has_in_arms-requires t c =
     let e : term_of c.args.expr.now ≡ Term.Case (arms_in c.deref-in-Case.result.now) = ap term_of c.in-Case.is ∙ case_term c.in-Case.arms ∙ ap (λ (x : List Arm). Term.Case (arms_in x)) (sym c.deref-in-Case.ensures.value) in
     let w = ap weight e in
-    (omega (arith, w), subst (λ (x : Term). IsEvaluable c.args.model.now x) e c.requires)
+    (omega (arith, w), subst (λ (x : Term). IsFilled x) e c.requires)
 
 pub summarize-summarize_elements-requires : goal.summarize-summarize_elements-requires
 summarize-summarize_elements-requires t c =
     let e : term_of c.args.expr.now ≡ Term.Braces (terms_in c.deref-in-Braces.result.now) = ap term_of c.in-Braces.is ∙ braces_term c.in-Braces.elements ∙ ap (λ (x : List Expr). Term.Braces (terms_in x)) (sym c.deref-in-Braces.ensures.value) in
     let w = ap weight e in
-    (omega (arith, w), (elements_evaluable c.args.model.now _ (subst (λ (x : Term). IsEvaluable c.args.model.now x) e c.requires)))
+    (omega (arith, w), (elements_filled _ (subst (λ (x : Term). IsFilled x) e c.requires)))
 
 pub summarize-summarize_arms-requires : goal.summarize-summarize_arms-requires
 summarize-summarize_arms-requires t c =
     let e : term_of c.args.expr.now ≡ Term.Case (arms_in c.deref-in-Case.result.now) = ap term_of c.in-Case.is ∙ case_term c.in-Case.arms ∙ ap (λ (x : List Arm). Term.Case (arms_in x)) (sym c.deref-in-Case.ensures.value) in
     let w = ap weight e in
-    (omega (arith, w), subst (λ (x : Term). IsEvaluable c.args.model.now x) e c.requires)
+    (omega (arith, w), subst (λ (x : Term). IsFilled x) e c.requires)
 
 pub has_in_arms-summarize-requires : goal.has_in_arms-summarize-requires
 has_in_arms-summarize-requires t c =
     let e = c.arm-item.is in
     let w = arm_weight_at c.args.arms.now c.loop-arm.arm-index c.arm-item.result c.loop-arm-test.true in
     let u = ap (λ (a : Arm). weight (term_of a.guard)) e in
-    (omega (arith, w, u), subst (λ (a : Arm). IsEvaluable c.args.model.now (term_of a.guard)) (sym e) (arm_evaluable_at c.args.model.now c.args.arms.now c.loop-arm.arm-index c.arm-item.result c.loop-arm-test.true c.requires).0)
+    (omega (arith, w, u), subst (λ (a : Arm). IsFilled (term_of a.guard)) (sym e) (arm_filled_at c.args.arms.now c.loop-arm.arm-index c.arm-item.result c.loop-arm-test.true c.requires).0)
 
 pub has_in_arms-has-requires : goal.has_in_arms-has-requires
 has_in_arms-has-requires t c =
     let e = c.arm-item.is in
     let w = arm_weight_at c.args.arms.now c.loop-arm.arm-index c.arm-item.result c.loop-arm-test.true in
     let u = ap (λ (a : Arm). weight (term_of a.right)) e in
-    (omega (arith, w, u), subst (λ (a : Arm). IsEvaluable c.args.model.now (term_of a.right)) (sym e) (arm_evaluable_at c.args.model.now c.args.arms.now c.loop-arm.arm-index c.arm-item.result c.loop-arm-test.true c.requires).1)
+    (omega (arith, w, u), subst (λ (a : Arm). IsFilled (term_of a.right)) (sym e) (arm_filled_at c.args.arms.now c.loop-arm.arm-index c.arm-item.result c.loop-arm-test.true c.requires).1)
 
 pub summarize_arms-summarize-requires : goal.summarize_arms-summarize-requires
 summarize_arms-summarize-requires t c =
     let e = c.arm-item.is in
     let w = arm_weight_at c.args.arms.now c.loop-arm.arm-index c.arm-item.result c.loop-arm-test.true in
     let u = ap (λ (a : Arm). weight (term_of a.guard)) e in
-    (omega (arith, w, u), subst (λ (a : Arm). IsEvaluable c.args.model.now (term_of a.guard)) (sym e) (arm_evaluable_at c.args.model.now c.args.arms.now c.loop-arm.arm-index c.arm-item.result c.loop-arm-test.true c.requires).0)
+    (omega (arith, w, u), subst (λ (a : Arm). IsFilled (term_of a.guard)) (sym e) (arm_filled_at c.args.arms.now c.loop-arm.arm-index c.arm-item.result c.loop-arm-test.true c.requires).0)
 
 pub summarize_arms-summarize-requires-then-chosen : goal.summarize_arms-summarize-requires-then-chosen
 summarize_arms-summarize-requires-then-chosen t c =
     let e = c.arm-item.is in
     let w = arm_weight_at c.args.arms.now c.loop-arm.arm-index c.arm-item.result c.loop-arm-test.true in
     let u = ap (λ (a : Arm). weight (term_of a.right)) e in
-    (omega (arith, w, u), subst (λ (a : Arm). IsEvaluable c.args.model.now (term_of a.right)) (sym e) (arm_evaluable_at c.args.model.now c.args.arms.now c.loop-arm.arm-index c.arm-item.result c.loop-arm-test.true c.requires).1)
+    (omega (arith, w, u), subst (λ (a : Arm). IsFilled (term_of a.right)) (sym e) (arm_filled_at c.args.arms.now c.loop-arm.arm-index c.arm-item.result c.loop-arm-test.true c.requires).1)
 
 pub has_in_elements-has-requires : goal.has_in_elements-has-requires
 has_in_elements-has-requires t c =
     let e = c.e-item.is in
     let w = weight_at c.args.elements.now c.loop-e.e-index c.e-item.result c.loop-e-test.true in
     let u = ap (λ (x : Expr). weight (term_of x)) e in
-    (omega (arith, w, u), subst (λ (x : Expr). IsEvaluable c.args.model.now (term_of x)) (sym e) (evaluable_at c.args.model.now c.args.elements.now c.loop-e.e-index c.e-item.result c.loop-e-test.true c.requires))
+    (omega (arith, w, u), subst (λ (x : Expr). IsFilled (term_of x)) (sym e) (filled_at c.args.elements.now c.loop-e.e-index c.e-item.result c.loop-e-test.true c.requires))
 
 pub summarize_elements-summarize-requires-in-loop-i : goal.summarize_elements-summarize-requires-in-loop-i
 summarize_elements-summarize-requires-in-loop-i t c =
     let e = c.index-elements-i.is in
     let w = weight_at c.args.elements.now c.loop-i.i c.index-elements-i.result c.loop-i-test.true in
     let u = ap (λ (x : Expr). weight (term_of x)) e in
-    (omega (arith, w, u), subst (λ (x : Expr). IsEvaluable c.args.model.now (term_of x)) (sym e) (evaluable_at c.args.model.now c.args.elements.now c.loop-i.i c.index-elements-i.result c.loop-i-test.true c.requires.evaluable))
+    (omega (arith, w, u), subst (λ (x : Expr). IsFilled (term_of x)) (sym e) (filled_at c.args.elements.now c.loop-i.i c.index-elements-i.result c.loop-i-test.true c.requires.filled))
 
 pub summarize_elements-loop-i-init : goal.summarize_elements-loop-i-init
 summarize_elements-loop-i-init t c =
     let e = c.index-elements-0.is in
-    first_element c.args.model.now c.args.s.now c.args.t.now c.args.elements.now 0 c.index-elements-0.result c.requires.some c.requires.evaluable c.in_ok-all.all refl
+    first_element c.args.model.now c.args.s.now c.args.t.now c.args.elements.now 0 c.index-elements-0.result c.requires.some c.requires.filled c.in_ok-all.all refl
     (ap (λ (x : Expr). summarized (eval c.args.model.now (term_of x) c.args.s.now c.args.t.now)) (sym e) ∙ sym c.summarize.ensures ∙ c.in_ok-all.was)
 
 pub summarize_elements-loop-i-preserved : goal.summarize_elements-loop-i-preserved
 summarize_elements-loop-i-preserved t c =
     let e = c.index-elements-i.is in
     rw (add-one, c.join-all.ensures)
-    (next_element c.args.model.now c.args.s.now c.args.t.now c.args.elements.now c.loop-i.i c.index-elements-i.result c.loop-i-test.true c.requires.evaluable c.loop-i.all c.in_ok-next.next c.loop-i.invariant
+    (next_element c.args.model.now c.args.s.now c.args.t.now c.args.elements.now c.loop-i.i c.index-elements-i.result c.loop-i-test.true c.requires.filled c.loop-i.all c.in_ok-next.next c.loop-i.invariant
     (ap (λ (x : Expr). summarized (eval c.args.model.now (term_of x) c.args.s.now c.args.t.now)) (sym e) ∙ sym c.summarize-in-loop-i.ensures ∙ c.in_ok-next.was))
 
 pub summarize-returns-in-Union : goal.summarize-returns-in-Union
@@ -136,7 +136,7 @@ summarize-returns-in-Union t c =
     let b : Term = term_of c.in-Binary.b.value in
     let read : term_of c.args.expr.now ≡ Term.Binary c.in-Binary.op a b = ap term_of c.in-Binary.is in
     let e : term_of c.args.expr.now ≡ Term.Binary BinOp.Union a b = subst (λ (o : BinOp). term_of c.args.expr.now ≡ Term.Binary o a b) c.in-Union.is read in
-    let good : IsEvaluable c.args.model.now a × IsEvaluable c.args.model.now b = subst (λ (x : Term). IsEvaluable c.args.model.now x) e c.requires in
+    let good : IsFilled a × IsFilled b = subst (λ (x : Term). IsFilled x) e c.requires in
     c.united.ensures
     ∙ (λ i. united ((c.summarize-in-Union.ensures ∙ ap (λ (x : Expr). summarized (eval c.args.model.now (term_of x) c.args.s.now c.args.t.now)) c.deref-in-Union.ensures) i) ((c.summarize-in-Union-2.ensures ∙ ap (λ (x : Expr). summarized (eval c.args.model.now (term_of x) c.args.s.now c.args.t.now)) c.deref-in-Union-2.ensures) i))
     ∙ sym (union-summary (eval c.args.model.now a c.args.s.now c.args.t.now) (eval c.args.model.now b c.args.s.now c.args.t.now) (eval_good c.args.model.now a c.args.s.now c.args.t.now good.0) (eval_good c.args.model.now b c.args.s.now c.args.t.now good.1))
@@ -148,7 +148,7 @@ has-returns-in-Union t c =
     let b : Term = term_of c.in-Binary.b.value in
     let read : term_of c.args.expr.now ≡ Term.Binary c.in-Binary.op a b = ap term_of c.in-Binary.is in
     let e : term_of c.args.expr.now ≡ Term.Binary BinOp.Union a b = subst (λ (o : BinOp). term_of c.args.expr.now ≡ Term.Binary o a b) c.in-Union.is read in
-    let good : IsEvaluable c.args.model.now a × IsEvaluable c.args.model.now b = subst (λ (x : Term). IsEvaluable c.args.model.now x) e c.requires in
+    let good : IsFilled a × IsFilled b = subst (λ (x : Term). IsFilled x) e c.requires in
     c.either.ensures
     ∙ (λ i. either ((c.has-in-Union.ensures ∙ ap (λ (x : Expr). found c.args.v (eval c.args.model.now (term_of x) c.args.s.now c.args.t.now)) c.deref-in-Union.ensures) i) ((c.has-in-Union-2.ensures ∙ ap (λ (x : Expr). found c.args.v (eval c.args.model.now (term_of x) c.args.s.now c.args.t.now)) c.deref-in-Union-2.ensures) i))
     ∙ sym (union_found c.args.v (eval c.args.model.now a c.args.s.now c.args.t.now) (eval c.args.model.now b c.args.s.now c.args.t.now))
@@ -160,7 +160,7 @@ summarize-returns-in_default t c =
     let b : Term = term_of c.in-Binary.b.value in
     let read : term_of c.args.expr.now ≡ Term.Binary c.in-Binary.op a b = ap term_of c.in-Binary.is in
     let e : term_of c.args.expr.now ≡ Term.Binary c.in-Binary.op a b = read in
-    let good : IsEvaluable c.args.model.now a × IsEvaluable c.args.model.now b = subst (λ (x : Term). IsEvaluable c.args.model.now x) e c.requires in
+    let good : IsFilled a × IsFilled b = subst (λ (x : Term). IsFilled x) e c.requires in
     c.combined.ensures
     ∙ (λ i. combined c.in-Binary.op ((c.summarize-in_default.ensures ∙ ap (λ (x : Expr). summarized (eval c.args.model.now (term_of x) c.args.s.now c.args.t.now)) c.deref-in_default.ensures) i) ((c.summarize-in_default-2.ensures ∙ ap (λ (x : Expr). summarized (eval c.args.model.now (term_of x) c.args.s.now c.args.t.now)) c.deref-in_default-2.ensures) i))
     ∙ sym (binary-summary (eval c.args.model.now a c.args.s.now c.args.t.now) (eval c.args.model.now b c.args.s.now c.args.t.now) (eval_good c.args.model.now a c.args.s.now c.args.t.now good.0) (eval_good c.args.model.now b c.args.s.now c.args.t.now good.1) c.in-Binary.op (single_valued c.in-Binary.op c.in_default.not-Union c.in_default.not-Member))
@@ -172,7 +172,7 @@ summarize-returns-in_ok-v-in-Member t c =
     let b : Term = term_of c.in-Binary.b.value in
     let read : term_of c.args.expr.now ≡ Term.Binary c.in-Binary.op a b = ap term_of c.in-Binary.is in
     let e : term_of c.args.expr.now ≡ Term.Binary BinOp.Member a b = subst (λ (o : BinOp). term_of c.args.expr.now ≡ Term.Binary o a b) c.in-Member.is read in
-    let good : IsEvaluable c.args.model.now a × IsEvaluable c.args.model.now b = subst (λ (x : Term). IsEvaluable c.args.model.now x) e c.requires in
+    let good : IsFilled a × IsFilled b = subst (λ (x : Term). IsFilled x) e c.requires in
     let p : single_of (summarized (eval c.args.model.now a c.args.s.now c.args.t.now)) ≡ Ok c.in_ok-v-in-Member.v = ap (λ (x : Expr). single_of (summarized (eval c.args.model.now (term_of x) c.args.s.now c.args.t.now))) (sym c.deref-in-Member.ensures) ∙ ap single_of (sym c.summarize-in-Member.ensures) ∙ sym c.single_of.ensures ∙ c.in_ok-v-in-Member.was in
     c.decided.ensures
     ∙ ap decided (c.has.ensures ∙ ap (λ (x : Expr). found c.in_ok-v-in-Member.v (eval c.args.model.now (term_of x) c.args.s.now c.args.t.now)) c.deref-in-Member-2.ensures)
@@ -185,7 +185,7 @@ summarize-returns-in_err-v-in-Member t c =
     let b : Term = term_of c.in-Binary.b.value in
     let read : term_of c.args.expr.now ≡ Term.Binary c.in-Binary.op a b = ap term_of c.in-Binary.is in
     let e : term_of c.args.expr.now ≡ Term.Binary BinOp.Member a b = subst (λ (o : BinOp). term_of c.args.expr.now ≡ Term.Binary o a b) c.in-Member.is read in
-    let good : IsEvaluable c.args.model.now a × IsEvaluable c.args.model.now b = subst (λ (x : Term). IsEvaluable c.args.model.now x) e c.requires in
+    let good : IsFilled a × IsFilled b = subst (λ (x : Term). IsFilled x) e c.requires in
     let p : single_of (summarized (eval c.args.model.now a c.args.s.now c.args.t.now)) ≡ Err c.in_err-v-in-Member.field-0.0 = ap (λ (x : Expr). single_of (summarized (eval c.args.model.now (term_of x) c.args.s.now c.args.t.now))) (sym c.deref-in-Member.ensures) ∙ ap single_of (sym c.summarize-in-Member.ensures) ∙ sym c.single_of.ensures ∙ c.in_err-v-in-Member.was in
     let k : summarized (eval c.args.model.now (term_of c.args.expr.now) c.args.s.now c.args.t.now) ≡ Err c.in_err-v-in-Member.field-0.0 = ap (λ (x : Term). summarized (eval c.args.model.now x c.args.s.now c.args.t.now)) e ∙ member_fails (eval c.args.model.now a c.args.s.now c.args.t.now) (eval c.args.model.now b c.args.s.now c.args.t.now) (eval_good c.args.model.now a c.args.s.now c.args.t.now good.0) c.in_err-v-in-Member.field-0.0 p in
     search rules
@@ -257,3 +257,11 @@ has_in_elements-loop-e-preserved t c =
       | has_in_elements-then-branch w ↦ subst (λ (b : Bool). FoundSoFar c.args.model.now c.args.s.now c.args.t.now c.args.elements.now c.args.v (suc c.loop-e.e-index) b) (sym w.seen-is) (found_next c.args.model.now c.args.s.now c.args.t.now c.args.elements.now c.args.v c.loop-e.e-index c.e-item.result c.loop-e-test.true c.loop-e.seen c.loop-e.invariant true (ap (λ (x : Expr). found c.args.v (eval c.args.model.now (term_of x) c.args.s.now c.args.t.now)) (sym c.e-item.is) ∙ sym c.has.ensures ∙ c.in_ok-has.was ∙ ap Ok w.if-branch.true))
       | has_in_elements-else-branch w ↦ subst (λ (b : Bool). FoundSoFar c.args.model.now c.args.s.now c.args.t.now c.args.elements.now c.args.v (suc c.loop-e.e-index) b) (sym w.seen-is) (found_next c.args.model.now c.args.s.now c.args.t.now c.args.elements.now c.args.v c.loop-e.e-index c.e-item.result c.loop-e-test.true c.loop-e.seen c.loop-e.invariant false (ap (λ (x : Expr). found c.args.v (eval c.args.model.now (term_of x) c.args.s.now c.args.t.now)) (sym c.e-item.is) ∙ sym c.has.ensures ∙ c.in_ok-has.was ∙ ap Ok w.if-branch.false))
     ])
+
+pub has_in_elements-loop-e-init : goal.has_in_elements-loop-e-init
+has_in_elements-loop-e-init t c = found_start c.args.model.now c.args.s.now c.args.t.now c.args.elements.now c.args.v
+
+pub has_in_elements-returns-in_err-has : goal.has_in_elements-returns-in_err-has
+has_in_elements-returns-in_err-has t c =
+    let k : found c.args.v (eval_elements c.args.model.now (terms_in c.args.elements.now) c.args.s.now c.args.t.now) ≡ Err c.in_err-has.field-0.0 = found_element_fails c.args.model.now c.args.s.now c.args.t.now c.args.elements.now c.args.v c.loop-e.e-index c.e-item.result c.loop-e-test.true c.loop-e.seen c.loop-e.invariant c.in_err-has.field-0.0 (ap (λ (x : Expr). found c.args.v (eval c.args.model.now (term_of x) c.args.s.now c.args.t.now)) (sym c.e-item.is) ∙ sym c.has.ensures ∙ c.in_err-has.was) in
+    search rules
