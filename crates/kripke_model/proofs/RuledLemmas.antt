@@ -50,7 +50,7 @@ module _ {A : Type 0} (P : A → Type 0) where
 
 -- ---- expressions
 
-untrue : (b : Bool) → (IsTrue b → ⊥) → b ≡ false
+pub untrue : (b : Bool) → (IsTrue b → ⊥) → b ≡ false
 untrue false never = λ i. false
 untrue true never = absurd (never (λ i. true))
 
@@ -77,7 +77,7 @@ module _ (m : System) (flat : IsFlat m) where
   before_specs : All (λ c. IsSound m c.expr) (m.inits ++ m.trans ++ m.constraints)
   before_specs = all_front Sound (m.inits ++ m.trans ++ m.constraints) m.specs conditions_sound
 
-  constraints_sound : All (λ c. IsSound m c.expr) m.constraints
+  pub constraints_sound : All (λ c. IsSound m c.expr) m.constraints
   constraints_sound = all_back Sound (m.inits ++ m.trans) m.constraints before_specs
 
   before_constraints : All (λ c. IsSound m c.expr) (m.inits ++ m.trans)

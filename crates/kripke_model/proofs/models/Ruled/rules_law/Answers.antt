@@ -1,6 +1,11 @@
 use Rattle.std.proofs.Common.{subst}
 use Rattle.kripke_model.specs.Flat.{IsFlat}
+use Rattle.kripke_model.specs.Evaluable.{IsEvaluable}
+use Rattle.kripke_model.specs.Leaves.{IsModelLeaf}
 use Rattle.kripke_model.specs.Static.{KeepsRules}
+use Rattle.kripke_model.specs.System.{System}
+use Rattle.kripke_model.specs.Term.{Term}
+use Rattle.kripke_model.proofs.LeafLemmas.{leaf_evaluable}
 use Rattle.kripke_model.proofs.FirstLemmas.{silent_then}
 use Rattle.kripke_model.proofs.models.Ruled.rules_law.Goals as goal
 
@@ -17,3 +22,8 @@ returns-clause-inhabited c k d below = ((subst IsFlat c.self.view_is c.self.inva
 
 pub returns-clause-distinct : goal.returns-clause-distinct
 returns-clause-distinct c k d below = ((subst IsFlat c.self.view_is c.self.invariant.flat).types k d below).distinct
+
+pub returns-clause-leaves : goal.returns-clause-leaves
+returns-clause-leaves c =
+    let i = c.self.invariant in
+    subst (λ (m : System). (t : Term) → IsModelLeaf m t → IsEvaluable m t) c.self.view_is (leaf_evaluable c.self.inside.flat i.flat i.formulas_allowed)

@@ -1,0 +1,142 @@
+-- A proof as it is written: its lines in order, what each has to show, and its claim.
+use Rattle.std.specs.Prelude.{◌≡◌, ◌⊎◌, ℕ, ◌+◌, ◌<◌, ◌&&◌, ◌==◌, nat_lt, Bool, true, false, not, List, [], ◌∷◌, ◌++◌, length, All, AllPairs, IfSome, IsTrue, Option, Some, None, if◌then◌else◌}
+use Rattle.kripke_model.specs.Ctl.{Ctl}
+use Rattle.kripke_model.specs.System.{System, State}
+use Rattle.kripke_model.specs.Step.{IsState}
+use Rattle.kripke_model.specs.Truth.{Initials}
+use Rattle.kripke_model.specs.Signs.{Rule, rule_of, until_rule, node_count}
+use Rattle.path_laws.specs.StateSet.{StateSet}
+use Rattle.fair_rules.specs.SetLists.{everything, nothing}
+use Rattle.fair_rules.specs.Rules.{Layer}
+use Rattle.fair_rules.specs.Claims.{Entry, Proof, either, both, join_layers, claimed, absent_argument}
+use Rattle.fair_rules.specs.Fixpoints.{without}
+use Rattle.fair_rules.specs.Checks.{Check, AllHold, layer_lines, until_lines, reach_lines}
+
+pub record Listed : Type 0 where
+  pub node : ℕ
+  pub plus : Bool
+  pub entry : Entry
+
+-- without a state the claim is that the formula is true; with one, that it fails there
+pub record Block : Type 0 where
+  pub nonfair : List Layer
+  pub fair : StateSet
+  pub reaches : List (List StateSet)
+  pub entries : List Listed
+  pub at : Option State
+
+abbrev pub same_sign : Bool → Bool → Bool
+same_sign a b = if a then b else not b
+
+-- the entry of a node and sign
+abbrev pub entry_of : List Listed → ℕ → Bool → Entry
+entry_of [] i sign = Entry.Absent
+entry_of (e ∷ entries) i sign = if (e.node == i) && same_sign e.plus sign then e.entry else entry_of entries i sign
+
+abbrev pub proof_of : Block → Proof
+proof_of b = record { nonfair = b.nonfair; fair = b.fair; reaches = b.reaches; entries = entry_of b.entries }
+
+-- ---- the rule of a node's sign, with the sets of its arguments
+
+pub record Demand : Type 0 where
+  pub rule : Rule
+  pub first : StateSet
+  pub last : StateSet
+
+-- what is asked of node i, in a formula whose first node has number n; only temporal nodes are asked
+abbrev pub demand_at : System → Proof → Ctl → ℕ → ℕ → Bool → Option Demand
+demand_at m p (Ctl.Leaf e) n i sign = None
+demand_at m p (Ctl.Not f) n i sign = demand_at m p f (n + 1) i sign
+demand_at m p (Ctl.And f g) n i sign = if nat_lt i (n + 1 + node_count f) then demand_at m p f (n + 1) i sign else demand_at m p g (n + 1 + node_count f) i sign
+demand_at m p (Ctl.Or f g) n i sign = if nat_lt i (n + 1 + node_count f) then demand_at m p f (n + 1) i sign else demand_at m p g (n + 1 + node_count f) i sign
+demand_at m p (Ctl.Implies f g) n i sign = if nat_lt i (n + 1 + node_count f) then demand_at m p f (n + 1) i sign else demand_at m p g (n + 1 + node_count f) i sign
+demand_at m p (Ctl.Iff f g) n i sign = if nat_lt i (n + 1 + node_count f) then demand_at m p f (n + 1) i sign else demand_at m p g (n + 1 + node_count f) i sign
+demand_at m p (Ctl.Quant op f) n i sign =
+    if i == n
+    then Some (record { rule = rule_of op sign; first = absent_argument (rule_of op sign); last = claimed m p f (n + 1) sign })
+    else demand_at m p f (n + 1) i sign
+demand_at m p (Ctl.Until all f g) n i sign =
+    if i == n
+    then Some (record { rule = until_rule all sign; first = claimed m p f (n + 1) sign; last = claimed m p g (n + 1 + node_count f) sign })
+    else if nat_lt i (n + 1 + node_count f) then demand_at m p f (n + 1) i sign else demand_at m p g (n + 1 + node_count f) i sign
+
+-- the entry is one of the rule
+abbrev pub HasRule : Rule → Entry → Type 0
+HasRule Rule.EX (Entry.EX set) = Unit {0}
+HasRule Rule.AX (Entry.AX set) = Unit {0}
+HasRule Rule.EU (Entry.EU sets) = Unit {0}
+HasRule Rule.AU (Entry.AU layers) = Unit {0}
+HasRule Rule.AR (Entry.AR set) = Unit {0}
+HasRule Rule.ER (Entry.ER set reaches untils) = Unit {0}
+HasRule rule entry = ⊥
+
+-- an entry names a temporal node and has the rule of its sign
+abbrev pub IsAsked : System → Proof → Ctl → ℕ → Listed → Type 0
+IsAsked m p f n e = (d : Demand) × (demand_at m p f n e.node e.plus ≡ Some d) × HasRule d.rule e.entry
+
+-- ---- the lines
+
+-- an entry's first line has nothing to show
+abbrev pub entry_lines : List StateSet → List StateSet → Proof → Demand → Entry → List (List Check)
+entry_lines visited avoided p d Entry.Absent = []
+entry_lines visited avoided p d (Entry.EX set) = [] ∷ (Check.Leads set (both d.last p.fair) ∷ []) ∷ []
+entry_lines visited avoided p d (Entry.AX set) = [] ∷ (Check.Keeps set (either d.last (join_layers p.nonfair)) ∷ []) ∷ []
+entry_lines visited avoided p d (Entry.AR set) =
+    [] ∷ (Check.Inside set d.last ∷ Check.Keeps (without set d.first) (either set (join_layers p.nonfair)) ∷ []) ∷ []
+entry_lines visited avoided p d (Entry.EU sets) = [] ∷ until_lines d.first (both d.last p.fair) sets
+entry_lines visited avoided p d (Entry.AU layers) = [] ∷ layer_lines avoided d.first (either d.last (join_layers p.nonfair)) nothing layers
+entry_lines visited avoided p d (Entry.ER set reaches untils) =
+    [] ∷ (Check.Inside set d.last ∷ []) ∷ reach_lines set visited reaches ++ ([] ∷ until_lines d.last (both d.first (both d.last p.fair)) untils)
+
+-- an entry of no temporal node has no lines
+abbrev pub asked_lines : List StateSet → List StateSet → Proof → Option Demand → Entry → List (List Check)
+asked_lines visited avoided p None entry = []
+asked_lines visited avoided p (Some d) entry = entry_lines visited avoided p d entry
+
+abbrev pub listed_lines : System → List StateSet → List StateSet → Proof → Ctl → ℕ → List Listed → List (List Check)
+listed_lines m visited avoided p f n [] = []
+listed_lines m visited avoided p f n (e ∷ entries) =
+    asked_lines visited avoided p (demand_at m p f n e.node e.plus) e.entry ++ listed_lines m visited avoided p f n entries
+
+-- the lines of the claim, which end the block
+abbrev pub claim_lines : System → Proof → Ctl → ℕ → Option State → List (List Check)
+claim_lines m p f n None = (Check.Starts (claimed m p f n true) ∷ []) ∷ []
+claim_lines m p f n (Some s) = (Check.Begins s (claimed m p f n false) ∷ []) ∷ [] ∷ []
+
+-- all lines from `nonfair` up to the block's end
+abbrev pub block_lines : System → List StateSet → List StateSet → Block → Ctl → ℕ → List (List Check)
+block_lines m visited avoided b f n =
+    ([] ∷ layer_lines avoided everything nothing nothing b.nonfair)
+    ++ (([] ∷ reach_lines b.fair visited b.reaches)
+    ++ (listed_lines m visited avoided (proof_of b) f n b.entries ++ claim_lines m (proof_of b) f n b.at))
+
+-- the block is a proof of its claim
+pub record IsProofBlock (m : System) (visited avoided : List StateSet) (b : Block) (f : Ctl) (n : ℕ) : Type 0 where
+  pub asked : All (IsAsked m (proof_of b) f n) b.entries
+  pub lines : AllHold m (block_lines m visited avoided b f n)
+
+-- what the claim means: the formula is true, or it is not
+abbrev pub ClaimHolds : System → Ctl → Option State → Type 0
+ClaimHolds m f None = Initials m f
+ClaimHolds m f (Some s) = Initials m f → ⊥
+
+-- ---- the shape of a block
+
+-- a comes before b: by node, and `+` before `-`
+abbrev pub ComesBefore : Listed → Listed → Type 0
+ComesBefore a b = (a.node < b.node) ⊎ ((a.node ≡ b.node) × IsTrue (a.plus && not b.plus))
+
+-- numbers of constraints below `count`, and one list of reach sets for each
+abbrev pub FitsConstraints : ℕ → Entry → Type 0
+FitsConstraints count (Entry.AU layers) = All (λ l. l.avoided < count) layers
+FitsConstraints count (Entry.ER set reaches untils) = length reaches ≡ count
+FitsConstraints count entry = Unit {0}
+
+-- `count` constraints, at least one
+pub record IsInShape (m : System) (count : ℕ) (b : Block) (f : Ctl) (n : ℕ) : Type 0 where
+  pub asked : All (IsAsked m (proof_of b) f n) b.entries
+  pub rising : AllPairs ComesBefore b.entries
+  pub avoided : All (λ l. l.avoided < count) b.nonfair
+  pub reaches : length b.reaches ≡ count
+  pub fits : All (λ e. FitsConstraints count e.entry) b.entries
+  pub at_state : IfSome b.at (IsState m)

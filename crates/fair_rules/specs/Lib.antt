@@ -1,0 +1,13 @@
+pub mod SetLists
+pub mod Rules
+pub mod ConstraintSets
+pub mod Conclusions
+pub mod Claims
+pub mod WalkConditions
+pub mod LeafConstraints
+pub mod Laws
+pub mod Fixpoints
+pub mod Split
+pub mod Checks
+pub mod Block
+pub mod FreePart

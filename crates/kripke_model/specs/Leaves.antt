@@ -1,0 +1,19 @@
+-- The leaves of a model's formulas.
+use Rattle.std.specs.Prelude.{◌≡◌, ◌⊎◌, Any}
+use Rattle.kripke_model.specs.Term.{Term}
+use Rattle.kripke_model.specs.Ctl.{Ctl, formula_of}
+use Rattle.kripke_model.specs.System.{System}
+
+abbrev pub IsLeafOf : Term → Ctl → Type 0
+IsLeafOf t (Ctl.Leaf e) = t ≡ e
+IsLeafOf t (Ctl.Not f) = IsLeafOf t f
+IsLeafOf t (Ctl.And f g) = IsLeafOf t f ⊎ IsLeafOf t g
+IsLeafOf t (Ctl.Or f g) = IsLeafOf t f ⊎ IsLeafOf t g
+IsLeafOf t (Ctl.Implies f g) = IsLeafOf t f ⊎ IsLeafOf t g
+IsLeafOf t (Ctl.Iff f g) = IsLeafOf t f ⊎ IsLeafOf t g
+IsLeafOf t (Ctl.Quant op f) = IsLeafOf t f
+IsLeafOf t (Ctl.Until all f g) = IsLeafOf t f ⊎ IsLeafOf t g
+
+-- the expression is a leaf of a constraint or of a specification
+abbrev pub IsModelLeaf : System → Term → Type 0
+IsModelLeaf m t = Any (λ c. IsLeafOf t (formula_of c.expr)) m.constraints ⊎ Any (λ c. IsLeafOf t (formula_of c.expr)) m.specs
