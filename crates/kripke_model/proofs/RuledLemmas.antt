@@ -1,14 +1,14 @@
 -- What follows from the rules that every accepted model keeps.
 use Rattle.std.proofs.Common.{◌≡◌, true, false, List, [], ◌∷◌, ◌++◌, map, inl, inr, get_or}
-use Rattle.std.specs.Prelude.{Bool, IsTrue, IsFalse, ◌⊎◌, All}
+use Rattle.std.specs.Prelude.{Bool, IsTrue, All}
 use Rattle.std.proofs.lemmas.List.Elements.{All-nil, All-cons, All-head, All-tail}
 use Rattle.kripke_model.specs.declared.refusals.StaticRefusal.{StaticRefusal}
 use Rattle.kripke_model.specs.Term.{Term, has_path_operator}
 use Rattle.kripke_model.specs.System.{System, Assignment, Condition}
 use Rattle.kripke_model.specs.Evaluable.{IsEvaluable}
 use Rattle.kripke_model.specs.Refusing.{Rule, refuse, Silent, ◌then◌, First, first_of}
-use Rattle.kripke_model.specs.Static.{refused_condition, HasFormula, formula_not_allowed, is_formula}
-use Rattle.kripke_model.specs.Flat.{IsFlat, IsSound, expressions}
+use Rattle.kripke_model.specs.Static.{refused_condition, HasFormula, formula_not_allowed}
+use Rattle.kripke_model.specs.Flat.{IsFlat, IsSound}
 use Rattle.kripke_model.proofs.SoundLemmas.{evaluable}
 
 -- ---- rules that are silent

@@ -5,8 +5,8 @@ use Rattle.kripke_model.specs.Leaves.{IsModelLeaf}
 use Rattle.kripke_model.specs.Static.{KeepsRules}
 use Rattle.kripke_model.specs.System.{System}
 use Rattle.kripke_model.specs.Term.{Term}
-use Rattle.kripke_model.proofs.LeafLemmas.{leaf_evaluable}
 use Rattle.kripke_model.proofs.FirstLemmas.{silent_then}
+use Rattle.kripke_model.proofs.LeafLemmas.{leaf_evaluable}
 use Rattle.kripke_model.proofs.models.Ruled.rules_law.Goals as goal
 
 pub returns-clause-flat : goal.returns-clause-flat
