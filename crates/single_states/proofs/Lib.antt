@@ -8,3 +8,4 @@ mod StateLemmas
 mod StepLemmas
 mod PushLemmas
 mod OutcomeLemmas
+mod Sections
