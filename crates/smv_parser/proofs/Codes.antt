@@ -1,0 +1,299 @@
+-- One step of the code each, in terms of reading.
+use Rattle.std.proofs.Common.{◌≡◌, ℕ, zero, suc, ◌+◌, ◌-◌, ◌≤◌, ◌<◌, Bool, true, false, List, [], ◌∷◌, length, refl, sym, ◌∙◌, ap, subst, arith, le-leb, Option, Some, None, Result, Ok, Err}
+use Rattle.std.proofs.lemmas.Bool.{lt-leb}
+use Rattle.token_readers.specs.Reading.{Reading, ◌>>=◌, expect, enclosed, headed, both, switch, after_first, many, first_is}
+use Rattle.token_readers.specs.Reading.Reading.{found, syntax_error, too_deep}
+use Rattle.token_readers.proofs.Readers.{found-then}
+use Rattle.smv_lexer.specs.declared.keyword.Keyword.{Keyword}
+use Rattle.smv_lexer.specs.declared.sign.Sign.{Sign}
+use Rattle.smv_lexer.specs.declared.token.Token.{Token}
+use Rattle.smv_lexer.specs.Text.{Placed}
+use Rattle.smv_lexer.specs.View.{views}
+use Rattle.smv_parser.specs.declared.expressions.BinaryOperator.{BinaryOperator}
+use Rattle.smv_parser.specs.declared.expressions.PathQuantifier.{PathQuantifier}
+use Rattle.smv_parser.specs.declared.expressions.PrefixOperator.{PrefixOperator}
+use Rattle.smv_parser.specs.declared.tokens.Lead.{Lead}
+use Rattle.smv_parser.specs.Tree.{Tree, Form, on_line, depth, trees_of}
+use Rattle.smv_parser.specs.Words.{level_of, prefix_level}
+use Rattle.smv_parser.specs.Tests.{is_sign, is_key, lead_of, operator_of}
+use Rattle.smv_parser.specs.Reading.{read_until, read_arm, read_arms, arms_of, begins_expression, read_list, read_others, value_of, with_room, tail, operand_by, operand, operator_step, more, read, Stops, binary}
+use Rattle.smv_parser.specs.declared.reader.Failure.{Failure}
+use Rattle.smv_parser.specs.declared.reader.Failure.TheVariants as failures
+use Rattle.smv_parser.specs.Gives.{Gives, GivesRest, Fails, IsSyntaxError, IsTooDeep}
+
+pub expect_found : (p : Placed → Bool) (s : List Placed) (t : Placed) (v : List Placed) → s ≡ t ∷ v → p t ≡ true → expect p s ≡ found t v
+unfolding expect
+expect_found p s t v q h = rw (q, h) refl
+
+-- a failure passes through what would have been done next
+pub Fails-then : {A B : Type 0} (e : Failure) (x : Reading Placed A) (f : A → List Placed → Reading Placed B) → Fails e x → Fails e (x >>= f)
+unfolding ◌>>=◌
+Fails-then (failures.Syntax n) (found t r) f h = absurd h
+Fails-then (failures.Syntax n) (syntax_error r) f h = h
+Fails-then (failures.Syntax n) (too_deep r) f h = absurd h
+Fails-then (failures.TooDeep n) (found t r) f h = absurd h
+Fails-then (failures.TooDeep n) (syntax_error r) f h = absurd h
+Fails-then (failures.TooDeep n) (too_deep r) f h = h
+Fails-then failures.Memory x f h = tt
+
+pub both_bools : (x y : Bool) → (x ≡ true → y ≡ true) → (y ≡ true → x ≡ true) → x ≡ y
+both_bools true y f g = sym (f refl)
+both_bools false true f g = g refl
+both_bools false false f g = refl
+
+pub length-views : (ts : List Token) → length (views ts) ≡ length ts
+length-views [] = refl
+length-views (t ∷ ts) = omega (arith, length-views ts)
+
+pub enclosed_fails : {A : Type 0} (p : Placed → Bool) (run : List Placed → Reading Placed A) (s : List Placed) (e : Failure) → Fails e (run s) → Fails e (enclosed p run s)
+unfolding enclosed
+enclosed_fails p run s e h = Fails-then e (run s) (λ x r. expect p r >>= λ _ v. found x v) h
+
+pub enclosed_fails_after : {A : Type 0} (p : Placed → Bool) (run : List Placed → Reading Placed A) (s r : List Placed) (x : A) (e : Failure) → run s ≡ found x r → Fails e (expect p r) → Fails e (enclosed p run s)
+unfolding enclosed
+enclosed_fails_after p run s r x e q h =
+    subst (Fails e) (sym (found-then (run s) x r (λ x r. expect p r >>= λ _ v. found x v) q)) (Fails-then e (expect p r) (λ _ v. found x v) h)
+
+pub enclosed_found : {A : Type 0} (p : Placed → Bool) (run : List Placed → Reading Placed A) (s r v : List Placed) (x : A) (t : Placed) → run s ≡ found x r → expect p r ≡ found t v → enclosed p run s ≡ found x v
+unfolding enclosed
+enclosed_found p run s r v x t q h =
+    found-then (run s) x r (λ x r. expect p r >>= λ _ v. found x v) q ∙ found-then (expect p r) t v (λ _ v. found x v) h
+
+pub headed_is : {A : Type 0} (p : Placed → Bool) (run : List Placed → Reading Placed A) (s v : List Placed) (t : Placed) → expect p s ≡ found t v → headed p run s ≡ run v
+unfolding headed
+headed_is p run s v t h = found-then (expect p s) t v (λ _ r. run r) h
+
+pub headed_fails : {A : Type 0} (p : Placed → Bool) (run : List Placed → Reading Placed A) (s : List Placed) (e : Failure) → Fails e (expect p s) → Fails e (headed p run s)
+unfolding headed
+headed_fails p run s e h = Fails-then e (expect p s) (λ _ r. run r) h
+
+module _ (reader : ℕ → List Placed → Reading Placed Tree) (b : ℕ) (s : List Placed) (t : Placed) (v : List Placed) (first : s ≡ t ∷ v) (i : Lead) (led : lead_of t ≡ i) where
+  pub operand_is : operand reader b s ≡ operand_by reader b i (t ∷ v)
+  unfolding operand switch
+  operand_is = rw (first, led) refl
+
+  pub open_is : ((s : List Placed) → operand_by reader b i s ≡ after_first (tail reader b i) s) → operand reader b s ≡ tail reader b i t v
+  unfolding after_first
+  open_is is = operand_is ∙ is (t ∷ v)
+
+  pub gated_is : ((s : List Placed) → operand_by reader b i s ≡ with_room b (after_first (tail reader b i)) s) → 1 ≤ b → operand reader b s ≡ tail reader b i t v
+  unfolding after_first with_room
+  gated_is is h = let p = le-leb 1 b h in operand_is ∙ is (t ∷ v) ∙ rw p refl
+
+  pub gated_deep : ((s : List Placed) → operand_by reader b i s ≡ with_room b (after_first (tail reader b i)) s) → b ≡ 0 → (n : ℕ) → n ≡ length s → IsTooDeep n (operand reader b s)
+  unfolding with_room
+  gated_deep is z n l =
+      let q : operand reader b s ≡ too_deep (t ∷ v) = operand_is ∙ is (t ∷ v) ∙ rw z refl in
+      subst (λ (x : Reading Placed Tree). IsTooDeep n x) (sym q) (ap length (sym first) ∙ sym l)
+
+pub operand_empty : (reader : ℕ → List Placed → Reading Placed Tree) (b : ℕ) (s : List Placed) → length s ≡ 0 → IsSyntaxError 0 (operand reader b s)
+unfolding operand switch
+operand_empty reader b [] h = refl
+operand_empty reader b (t ∷ s) h = absurd (omega arith)
+
+pub operand_other : (reader : ℕ → List Placed → Reading Placed Tree) (b : ℕ) (s : List Placed) (t : Placed) (v : List Placed) → s ≡ t ∷ v → lead_of t ≡ Lead.Other
+    → (n : ℕ) → n ≡ length s → IsSyntaxError n (operand reader b s)
+unfolding operand_by
+operand_other reader b s t v first led n l = subst (λ (x : Reading Placed Tree). IsSyntaxError n x) (sym (operand_is reader b s t v first Lead.Other led)) (ap length (sym first) ∙ sym l)
+
+-- the alternatives as they are read
+pub running_is : (reader : ℕ → List Placed → Reading Placed Tree) (b : ℕ) (s : List Placed) (t : Placed) (v : List Placed) → s ≡ t ∷ v → lead_of t ≡ Lead.Running
+    → operand reader b s ≡ found (on_line t.line Form.running) v
+unfolding operand_by tail
+running_is reader b s t v first led = open_is reader b s t v first Lead.Running led (λ s. refl)
+
+pub truth_is : (reader : ℕ → List Placed → Reading Placed Tree) (b : ℕ) (s : List Placed) (t : Placed) (v : List Placed) (x : Bool) → s ≡ t ∷ v → lead_of t ≡ Lead.Truth x
+    → operand reader b s ≡ found (on_line t.line (Form.truth x)) v
+unfolding operand_by tail
+truth_is reader b s t v x first led = open_is reader b s t v first (Lead.Truth x) led (λ s. refl)
+
+pub parens_is : (reader : ℕ → List Placed → Reading Placed Tree) (b : ℕ) (s : List Placed) (t : Placed) (v : List Placed) → s ≡ t ∷ v → lead_of t ≡ Lead.Parens → 1 ≤ b
+    → operand reader b s ≡ (enclosed (is_sign Sign.CloseParen) (reader 1) v >>= λ e r. found (on_line t.line (Form.parens e)) r)
+unfolding operand_by tail
+parens_is reader b s t v first led h = gated_is reader b s t v first Lead.Parens led (λ s. refl) h
+
+pub parens_deep : (reader : ℕ → List Placed → Reading Placed Tree) (b : ℕ) (s : List Placed) (t : Placed) (v : List Placed) → s ≡ t ∷ v → lead_of t ≡ Lead.Parens → b ≡ 0
+    → (n : ℕ) → n ≡ length s → IsTooDeep n (operand reader b s)
+unfolding operand_by tail
+parens_deep reader b s t v first led z n l = gated_deep reader b s t v first Lead.Parens led (λ s. refl) z n l
+
+pub next_is : (reader : ℕ → List Placed → Reading Placed Tree) (b : ℕ) (s : List Placed) (t : Placed) (v : List Placed) → s ≡ t ∷ v → lead_of t ≡ Lead.Next → 1 ≤ b
+    → operand reader b s ≡ (headed (is_sign Sign.OpenParen) (enclosed (is_sign Sign.CloseParen) (reader 1)) v >>= λ e r. found (on_line t.line (Form.next e)) r)
+unfolding operand_by tail
+next_is reader b s t v first led h = gated_is reader b s t v first Lead.Next led (λ s. refl) h
+
+pub next_deep : (reader : ℕ → List Placed → Reading Placed Tree) (b : ℕ) (s : List Placed) (t : Placed) (v : List Placed) → s ≡ t ∷ v → lead_of t ≡ Lead.Next → b ≡ 0
+    → (n : ℕ) → n ≡ length s → IsTooDeep n (operand reader b s)
+unfolding operand_by tail
+next_deep reader b s t v first led z n l = gated_deep reader b s t v first Lead.Next led (λ s. refl) z n l
+
+pub prefix_is : (reader : ℕ → List Placed → Reading Placed Tree) (b : ℕ) (s : List Placed) (t : Placed) (v : List Placed) (o : PrefixOperator) → s ≡ t ∷ v → lead_of t ≡ Lead.Prefix o → 1 ≤ b
+    → operand reader b s ≡ (reader prefix_level v >>= λ e r. found (on_line t.line (Form.prefix o e)) r)
+unfolding operand_by tail
+prefix_is reader b s t v o first led h = gated_is reader b s t v first (Lead.Prefix o) led (λ s. refl) h
+
+pub prefix_deep : (reader : ℕ → List Placed → Reading Placed Tree) (b : ℕ) (s : List Placed) (t : Placed) (v : List Placed) (o : PrefixOperator) → s ≡ t ∷ v → lead_of t ≡ Lead.Prefix o → b ≡ 0
+    → (n : ℕ) → n ≡ length s → IsTooDeep n (operand reader b s)
+unfolding operand_by tail
+prefix_deep reader b s t v o first led z n l = gated_deep reader b s t v first (Lead.Prefix o) led (λ s. refl) z n l
+
+-- operators
+
+pub read_start : (b k : ℕ) (s : List Placed) → 1 ≤ b → read b k s ≡ (operand (read (b - 1)) (b - 1) s >>= more (read (b - 1)) (b - 1) (length s) k)
+unfolding read
+read_start zero k s h = absurd (omega arith)
+read_start (suc b) k s h = let p : suc b - 1 ≡ b = omega arith in rw p refl
+
+some_suc : (n m : ℕ) → suc n ≤ m → (p : ℕ) × (n ≤ p) × (m ≡ suc p)
+some_suc n zero h = absurd (omega arith)
+some_suc n (suc p) h = (p, omega arith, refl)
+
+module _ (reader : ℕ → List Placed → Reading Placed Tree) (b k : ℕ) (e : Tree) (s : List Placed) (o : BinaryOperator) (t : Placed) (v : List Placed) (first : s ≡ t ∷ v) (known : operator_of t ≡ Some o) (h : k ≤ level_of o) where
+  more_at : (p : ℕ) → depth e ≤ b → more reader b (suc p) k e s ≡ (reader (level_of o + 1) v >>= λ f r. more reader b p k (binary o e f) r)
+  unfolding more operator_step
+  more_at p i =
+      let level_is = le-leb k (level_of o) h in
+      let fits = le-leb (depth e) b i in
+      rw (first, known, level_is, fits) refl
+
+  deep_at : (p : ℕ) → b < depth e → more reader b (suc p) k e s ≡ too_deep (t ∷ v)
+  unfolding more operator_step
+  deep_at p i =
+      let level_is = le-leb k (level_of o) h in
+      let deep = lt-leb (depth e) b i in
+      rw (first, known, level_is, deep) refl
+
+  -- the next operator has level k or a higher one
+  pub more_step : (m : ℕ) → depth e ≤ b → length s ≤ m
+      → (p : ℕ) × (length v ≤ p) × (more reader b m k e s ≡ (reader (level_of o + 1) v >>= λ f r. more reader b p k (binary o e f) r))
+  more_step m i j =
+      let q = some_suc (length v) m (omega (arith, ap length first)) in
+      (q.0, q.1, ap (λ (n : ℕ). more reader b n k e s) q.2 ∙ more_at q.0 i)
+
+  pub more_too_deep : (m : ℕ) → b < depth e → length s ≤ m → (n : ℕ) → n ≡ length s → IsTooDeep n (more reader b m k e s)
+  more_too_deep m i j n l =
+      let q = some_suc (length v) m (omega (arith, ap length first)) in
+      subst (λ (x : Reading Placed Tree). IsTooDeep n x) (sym (ap (λ (n : ℕ). more reader b n k e s) q.2 ∙ deep_at q.0 i)) (ap length (sym first) ∙ sym l)
+
+no_operator : (reader : ℕ → List Placed → Reading Placed Tree) (b k : ℕ) (e : Tree) (t : Placed) (s : List Placed) (next : Tree → List Placed → Reading Placed Tree) (o : Option BinaryOperator)
+    → operator_of t ≡ o → Stops k (t ∷ s) → operator_step reader b k e t s next o ≡ found e (t ∷ s)
+unfolding operator_step
+no_operator reader b k e t s next None i st = refl
+no_operator reader b k e t s next (Some o) i st = let f = lt-leb k (level_of o) (st o i) in rw f refl
+
+pub more_stops : (reader : ℕ → List Placed → Reading Placed Tree) (b m k : ℕ) (e : Tree) (r : List Placed) → Stops k r → more reader b m k e r ≡ found e r
+unfolding more
+more_stops reader b zero k e r st = refl
+more_stops reader b (suc m) k e [] st = refl
+more_stops reader b (suc m) k e (t ∷ s) st = no_operator reader b k e t s (more reader b m k) (operator_of t) refl st
+
+module _ {A B : Type 0} (one : List Placed → Reading Placed A) (two : List Placed → Reading Placed B) (s : List Placed) where
+  pub both_fails : (e : Failure) → Fails e (one s) → Fails e (both one two s)
+  unfolding both
+  both_fails e h = Fails-then e (one s) (λ x r. two r >>= λ y v. found (x, y) v) h
+
+  pub both_fails_after : (x : A) (r : List Placed) (e : Failure) → one s ≡ found x r → Fails e (two r) → Fails e (both one two s)
+  unfolding both
+  both_fails_after x r e q h =
+      subst (Fails e) (sym (found-then (one s) x r (λ x r. two r >>= λ y v. found (x, y) v) q)) (Fails-then e (two r) (λ y v. found (x, y) v) h)
+
+  pub both_found : (x : A) (r : List Placed) (y : B) (v : List Placed) → one s ≡ found x r → two r ≡ found y v → both one two s ≡ found (x, y) v
+  unfolding both
+  both_found x r y v q h =
+      found-then (one s) x r (λ x r. two r >>= λ y v. found (x, y) v) q ∙ found-then (two r) y v (λ y v. found (x, y) v) h
+
+pub until_found : (reader : ℕ → List Placed → Reading Placed Tree) (b : ℕ) (s : List Placed) → read_until reader b s ≡ both (enclosed (is_key Keyword.Until) (reader 1)) (enclosed (is_sign Sign.CloseBracket) (reader 1)) s
+unfolding read_until
+until_found reader b s = refl
+
+pub number_is : (reader : ℕ → List Placed → Reading Placed Tree) (b : ℕ) (s : List Placed) (t : Placed) (v : List Placed) → s ≡ t ∷ v → lead_of t ≡ Lead.Number
+    → operand reader b s ≡ found (on_line t.line (Form.number (value_of t))) v
+unfolding operand_by tail
+number_is reader b s t v first led = open_is reader b s t v first Lead.Number led (λ s. refl)
+
+pub until_is : (reader : ℕ → List Placed → Reading Placed Tree) (b : ℕ) (s : List Placed) (t : Placed) (v : List Placed) (w : PathQuantifier) → s ≡ t ∷ v → lead_of t ≡ Lead.Until w → 1 ≤ b
+    → operand reader b s ≡ (headed (is_sign Sign.OpenBracket) (read_until reader b) v >>= λ es r. found (on_line t.line (Form.until w es.0 es.1)) r)
+unfolding operand_by tail
+until_is reader b s t v w first led h = gated_is reader b s t v first (Lead.Until w) led (λ s. refl) h
+
+pub until_deep : (reader : ℕ → List Placed → Reading Placed Tree) (b : ℕ) (s : List Placed) (t : Placed) (v : List Placed) (w : PathQuantifier) → s ≡ t ∷ v → lead_of t ≡ Lead.Until w → b ≡ 0
+    → (n : ℕ) → n ≡ length s → IsTooDeep n (operand reader b s)
+unfolding operand_by tail
+until_deep reader b s t v w first led z n l = gated_deep reader b s t v first (Lead.Until w) led (λ s. refl) z n l
+
+-- items as long as the first token passes p, and k of them
+module _ {A B : Type 0} (p : Placed → Bool) (item : List Placed → Reading Placed A) where
+  unfoldable pub rest_of : ℕ → List Placed → (List A → B) → Reading Placed B
+  rest_of m s k = many p item m s >>= λ xs v. found (k xs) v
+
+  pub rest_stops : (m : ℕ) (s : List Placed) (k : List A → B) → first_is p s ≡ false → rest_of m s k ≡ found (k []) s
+  unfolding rest_of many ◌>>=◌
+  rest_stops zero s k h = refl
+  rest_stops (suc m) s k h = rw h refl
+
+  rest_step : (m : ℕ) (s r : List Placed) (x : A) (k : List A → B) → first_is p s ≡ true → item s ≡ found x r → rest_of (suc m) s k ≡ rest_of m r (λ xs. k (x ∷ xs))
+  unfolding rest_of many ◌>>=◌
+  rest_step m s r x k h i = rw (h, i) (joined (many p item m r))
+    where
+      joined : (y : Reading Placed (List A)) → ((y >>= λ xs v. found (x ∷ xs) v) >>= λ xs v. found (k xs) v) ≡ (y >>= λ xs v. found (k (x ∷ xs)) v)
+      joined (found xs v) = refl
+      joined (syntax_error v) = refl
+      joined (too_deep v) = refl
+
+  pub rest_more : (m : ℕ) (s r : List Placed) (x : A) (k : List A → B) → first_is p s ≡ true → item s ≡ found x r → length s ≤ m → length r < length s
+      → (n : ℕ) × (length r ≤ n) × (rest_of m s k ≡ rest_of n r (λ xs. k (x ∷ xs)))
+  rest_more m s r x k h i l short =
+      let q = some_suc (length r) m (omega arith) in
+      (q.0, q.1, ap (λ (n : ℕ). rest_of n s k) q.2 ∙ rest_step q.0 s r x k h i)
+
+  rest_failing : (m : ℕ) (s : List Placed) (k : List A → B) (e : Failure) → first_is p s ≡ true → Fails e (item s) → Fails e (rest_of (suc m) s k)
+  unfolding rest_of many
+  rest_failing m s k e h f = rw h (Fails-then e (item s >>= λ x r. many p item m r >>= λ xs v. found (x ∷ xs) v) (λ xs v. found (k xs) v)
+      (Fails-then e (item s) (λ x r. many p item m r >>= λ xs v. found (x ∷ xs) v) f))
+
+  pub rest_fails : (m : ℕ) (s : List Placed) (k : List A → B) (e : Failure) → first_is p s ≡ true → Fails e (item s) → length s ≤ m → 1 ≤ length s → Fails e (rest_of m s k)
+  rest_fails m s k e h f l some =
+      let q = some_suc 0 m (omega arith) in
+      subst (λ (n : ℕ). Fails e (rest_of n s k)) (sym q.2) (rest_failing q.0 s k e h f)
+
+pub list_start : (reader : ℕ → List Placed → Reading Placed Tree) (b : ℕ) (s r : List Placed) (x : Tree) → reader 1 s ≡ found x r
+    → read_list reader b s ≡ rest_of (is_sign Sign.Comma) (headed (is_sign Sign.Comma) (reader 1)) (length r) r (λ xs. (x, xs))
+unfolding read_list read_others both rest_of
+list_start reader b s r x h = found-then (reader 1 s) x r (λ x r. many (is_sign Sign.Comma) (headed (is_sign Sign.Comma) (reader 1)) (length r) r >>= λ y v. found (x, y) v) h
+
+pub list_fails : (reader : ℕ → List Placed → Reading Placed Tree) (b : ℕ) (s : List Placed) (e : Failure) → Fails e (reader 1 s) → Fails e (read_list reader b s)
+unfolding read_list read_others both
+list_fails reader b s e h = Fails-then e (reader 1 s) (λ x r. many (is_sign Sign.Comma) (headed (is_sign Sign.Comma) (reader 1)) (length r) r >>= λ y v. found (x, y) v) h
+
+pub braces_is : (reader : ℕ → List Placed → Reading Placed Tree) (b : ℕ) (s : List Placed) (t : Placed) (v : List Placed) → s ≡ t ∷ v → lead_of t ≡ Lead.Braces → 1 ≤ b
+    → operand reader b s ≡ (enclosed (is_sign Sign.CloseBrace) (read_list reader b) v >>= λ es r. found (on_line t.line (Form.braces (trees_of (es.0 ∷ es.1)))) r)
+unfolding operand_by tail
+braces_is reader b s t v first led h = gated_is reader b s t v first Lead.Braces led (λ s. refl) h
+
+pub braces_deep : (reader : ℕ → List Placed → Reading Placed Tree) (b : ℕ) (s : List Placed) (t : Placed) (v : List Placed) → s ≡ t ∷ v → lead_of t ≡ Lead.Braces → b ≡ 0
+    → (n : ℕ) → n ≡ length s → IsTooDeep n (operand reader b s)
+unfolding operand_by tail
+braces_deep reader b s t v first led z n l = gated_deep reader b s t v first Lead.Braces led (λ s. refl) z n l
+
+pub first_some : (p : Placed → Bool) (s : List Placed) → first_is p s ≡ true → 1 ≤ length s
+first_some p [] h = absurd cc
+first_some p (t ∷ s) h = omega arith
+
+pub arm_found : (reader : ℕ → List Placed → Reading Placed Tree) (b : ℕ) (s : List Placed) → read_arm reader b s ≡ both (enclosed (is_sign Sign.Colon) (reader 1)) (enclosed (is_sign Sign.Semicolon) (reader 1)) s
+unfolding read_arm
+arm_found reader b s = refl
+
+pub arms_start : (reader : ℕ → List Placed → Reading Placed Tree) (b : ℕ) (s r : List Placed) (x : Tree × Tree) → read_arm reader b s ≡ found x r
+    → both (read_arm reader b) (read_arms reader b) s ≡ rest_of begins_expression (read_arm reader b) (length r) r (λ xs. (x, xs))
+unfolding read_arms both rest_of
+arms_start reader b s r x h = found-then (read_arm reader b s) x r (λ x r. many begins_expression (read_arm reader b) (length r) r >>= λ y v. found (x, y) v) h
+
+pub case_is : (reader : ℕ → List Placed → Reading Placed Tree) (b : ℕ) (s : List Placed) (t : Placed) (v : List Placed) → s ≡ t ∷ v → lead_of t ≡ Lead.Case → 1 ≤ b
+    → operand reader b s ≡ (enclosed (is_key Keyword.Esac) (both (read_arm reader b) (read_arms reader b)) v >>= λ arms r. found (on_line t.line (Form.cases (arms_of (arms.0 ∷ arms.1)))) r)
+unfolding operand_by tail
+case_is reader b s t v first led h = gated_is reader b s t v first Lead.Case led (λ s. refl) h
+
+pub case_deep : (reader : ℕ → List Placed → Reading Placed Tree) (b : ℕ) (s : List Placed) (t : Placed) (v : List Placed) → s ≡ t ∷ v → lead_of t ≡ Lead.Case → b ≡ 0
+    → (n : ℕ) → n ≡ length s → IsTooDeep n (operand reader b s)
+unfolding operand_by tail
+case_deep reader b s t v first led z n l = gated_deep reader b s t v first Lead.Case led (λ s. refl) z n l

@@ -1,0 +1,381 @@
+//! The reader of expressions.
+
+ghost use Rattle.std.specs.Prelude.{◌≡◌, ◌≤◌, ◌<◌, ◌+◌, ◌∷◌, ℕ, List, length, map, max, IfOk, IfSome, IfNone, Some};
+ghost use Rattle.token_readers.specs.Reading.{both, enclosed, first_is};
+ghost use Rattle.smv_lexer.specs.Text.{Placed};
+ghost use Rattle.smv_lexer.specs.View.{views};
+ghost use Rattle.smv_parser.specs.Gives.{Gives};
+ghost use Rattle.smv_lexer.specs.View as tokens;
+ghost use Rattle.smv_parser.specs.Reading as reading;
+ghost use Rattle.smv_parser.specs.Reading.{Stops, arms_of, arms_pair_of, begins_expression, leads, operand, pair_of, read, value_of};
+ghost use Rattle.smv_parser.specs.Tests.{is_sign, operator_of};
+ghost use Rattle.smv_parser.specs.Tree;
+ghost use Rattle.smv_parser.specs.View.{arm_pair, tree_of};
+ghost use Rattle.smv_parser.specs.Words.{level_of};
+
+use crate::expressions::{Arm, BinaryOperator, Expr, ExprKind};
+use crate::reader::{Failure, after_key, after_sign, begins_with_sign};
+use crate::tokens::{Lead, level, token_lead, token_operator};
+use smv_lexer::{Keyword, Sign, Token, TokenKind};
+use std::alloc::Global;
+
+/// An expression with its depth.
+#[derive(Drop)]
+pub struct Part {
+    pub expr: Expr,
+    pub depth: u32,
+    ghost depth_is: { depth ≡ Tree.depth (tree_of expr) },
+}
+
+/// Expressions with the depth of the deepest.
+#[derive(Drop)]
+pub struct Parts {
+    pub items: Vec<Expr>,
+    pub depth: u32,
+    ghost depth_is: { depth ≡ Tree.trees_depth (Tree.trees_of (map tree_of items.items)) },
+}
+
+/// Arms with the depth of the deepest.
+#[derive(Drop)]
+pub struct ArmParts {
+    pub items: Vec<Arm>,
+    pub depth: u32,
+    ghost depth_is: { depth ≡ Tree.arms_depth (arms_of (map arm_pair items.items)) },
+}
+
+/// The value of a number's token, which is never negative.
+fn number(token: &Token) -> u32
+    ensures { result ≡ value_of (tokens.view token.now) }
+{
+    match &token.kind {
+        TokenKind::Number(n) => { if *n >= 0 { *n as u32 } else { 0 } }
+        TokenKind::Word(_) | TokenKind::Key(_) | TokenKind::Sign(_) => 0,
+    }
+}
+
+fn deeper(left: u32, right: u32) -> u32
+    ensures { result ≡ max left right }
+{
+    left.max(right)
+}
+
+/// Whether the first token begins an operand.
+fn begins_operand(tokens: &[Token]) -> bool
+    ensures { result ≡ first_is begins_expression (views tokens.now) }
+{
+    match tokens.split_first() {
+        None => false,
+        Some((token, _)) => is_lead(token_lead(token)),
+    }
+}
+
+fn is_lead(lead: Lead) -> bool
+    ensures { result ≡ leads lead }
+{
+    match lead {
+        Lead::Other => false,
+        Lead::Name
+        | Lead::Number
+        | Lead::Truth(_)
+        | Lead::Running
+        | Lead::Next
+        | Lead::Parens
+        | Lead::Braces
+        | Lead::Case
+        | Lead::Until(_)
+        | Lead::Prefix(_) => true,
+    }
+}
+
+/// The operator that comes next, if it has at least this level, with the tokens after it.
+fn next_operator(tokens: &[Token], least: u32) -> Option<(BinaryOperator, &[Token])>
+    ensures some { IfSome result (λ x. (t : Placed) × (views tokens.now ≡ t ∷ views x.1.now) × (operator_of t ≡ Some x.0) × (least ≤ level_of x.0)) }
+    ensures none { IfNone result (Stops least (views tokens.now)) }
+{
+    let (token, rest) = tokens.split_first()?;
+    let operator = token_operator(token)?;
+    if level(operator) >= least {
+        Some((operator, rest))
+    } else {
+        None
+    }
+}
+
+/// An expression and the sign that closes it.
+#[cycle(reading)]
+fn read_closed(
+    alloc: Global,
+    tokens: &[Token],
+    sign: Sign,
+    most: u32,
+) -> Result<(Part, &[Token]), Failure>
+    requires some { 1 ≤ most }
+    requires bounded { most < 1000 }
+    ensures reads { Gives (λ x. tree_of x.0.expr) (λ x. views x.1.now) result (enclosed (is_sign sign) (read most 1) (views tokens.now)) }
+    ensures depth { IfOk result (λ x. x.0.depth ≤ most) }
+    ensures shorter { IfOk result (λ x. length x.1.now < length tokens.now) }
+{
+    let (part, rest) = read_expression(alloc, tokens, 1, most)?;
+    let rest = after_sign(rest, sign)?;
+    Ok((part, rest))
+}
+
+/// The expressions between braces, with a comma between two.
+#[cycle(reading)]
+fn read_list(alloc: Global, tokens: &[Token], most: u32) -> Result<(Parts, &[Token]), Failure>
+    requires some { 1 ≤ most }
+    requires bounded { most < 1000 }
+    ensures reads { Gives (λ x. pair_of (map tree_of x.0.items.items)) (λ x. views x.1.now) result (reading.read_list (read most) most (views tokens.now)) }
+    ensures some { IfOk result (λ x. 1 ≤ length x.0.items.items) }
+    ensures depth { IfOk result (λ x. x.0.depth ≤ most) }
+    ensures shorter { IfOk result (λ x. length x.1.now < length tokens.now) }
+{
+    let (first, mut rest) = read_expression(alloc, tokens, 1, most)?;
+    let mut items = Vec::new(alloc);
+    let mut depth = first.depth;
+    items.push(first.expr)?;
+    while begins_with_sign(rest, Sign::Comma) {
+        let after = after_sign(rest, Sign::Comma)?;
+        let (next, after) = read_expression(alloc, after, 1, most)?;
+        items.push(next.expr)?;
+        depth = depth.max(next.depth);
+        rest = after;
+    }
+    Ok((Parts { items, depth }, rest))
+}
+
+/// The two expressions of an arm.
+#[cycle(reading)]
+fn read_arm(alloc: Global, tokens: &[Token], most: u32) -> Result<(Part, Part, &[Token]), Failure>
+    requires some { 1 ≤ most }
+    requires bounded { most < 1000 }
+    ensures reads { Gives (λ x. (tree_of x.0.expr, tree_of x.1.expr)) (λ x. views x.2.now) result (reading.read_arm (read most) most (views tokens.now)) }
+    ensures depth { IfOk result (λ x. (x.0.depth ≤ most) × (x.1.depth ≤ most)) }
+    ensures shorter { IfOk result (λ x. length x.2.now < length tokens.now) }
+{
+    let (guard, rest) = read_closed(alloc, tokens, Sign::Colon, most)?;
+    let (right, rest) = read_closed(alloc, rest, Sign::Semicolon, most)?;
+    Ok((guard, right, rest))
+}
+
+/// The arms of a `case`, at least one.
+#[cycle(reading)]
+fn read_arms(alloc: Global, tokens: &[Token], most: u32) -> Result<(ArmParts, &[Token]), Failure>
+    requires some { 1 ≤ most }
+    requires bounded { most < 1000 }
+    ensures reads { Gives (λ x. arms_pair_of (map arm_pair x.0.items.items)) (λ x. views x.1.now) result (both (reading.read_arm (read most) most) (reading.read_arms (read most) most) (views tokens.now)) }
+    ensures some { IfOk result (λ x. 1 ≤ length x.0.items.items) }
+    ensures depth { IfOk result (λ x. x.0.depth ≤ most) }
+    ensures shorter { IfOk result (λ x. length x.1.now < length tokens.now) }
+{
+    let (guard, right, mut rest) = read_arm(alloc, tokens, most)?;
+    let mut items = Vec::new(alloc);
+    let mut depth = deeper(guard.depth, right.depth);
+    items.push(Arm {
+        guard: guard.expr,
+        right: right.expr,
+    })?;
+    while begins_operand(rest) {
+        let (next, value, after) = read_arm(alloc, rest, most)?;
+        items.push(Arm {
+            guard: next.expr,
+            right: value.expr,
+        })?;
+        depth = depth.max(deeper(next.depth, value.depth));
+        rest = after;
+    }
+    Ok((ArmParts { items, depth }, rest))
+}
+
+/// The two expressions of an until, behind the opening bracket.
+#[cycle(reading)]
+fn read_until(alloc: Global, tokens: &[Token], most: u32) -> Result<(Part, Part, &[Token]), Failure>
+    requires some { 1 ≤ most }
+    requires bounded { most < 1000 }
+    ensures reads { Gives (λ x. (tree_of x.0.expr, tree_of x.1.expr)) (λ x. views x.2.now) result (reading.read_until (read most) most (views tokens.now)) }
+    ensures depth { IfOk result (λ x. (x.0.depth ≤ most) × (x.1.depth ≤ most)) }
+    ensures shorter { IfOk result (λ x. length x.2.now < length tokens.now) }
+{
+    let (left, rest) = read_expression(alloc, tokens, 1, most)?;
+    let rest = after_key(rest, Keyword::Until)?;
+    let (right, rest) = read_closed(alloc, rest, Sign::CloseBracket, most)?;
+    Ok((left, right, rest))
+}
+
+/// What stands left of the first operator, its parts within depth `most`.
+#[cycle(reading)]
+fn read_operand(alloc: Global, tokens: &[Token], most: u32) -> Result<(Part, &[Token]), Failure>
+    requires { most < 1000 }
+    ensures reads { Gives (λ x. tree_of x.0.expr) (λ x. views x.1.now) result (operand (read most) most (views tokens.now)) }
+    ensures depth { IfOk result (λ x. x.0.depth ≤ most + 1) }
+    ensures shorter { IfOk result (λ x. length x.1.now < length tokens.now) }
+{
+    let Some((token, rest)) = tokens.split_first() else {
+        return Err(Failure::Syntax(0));
+    };
+    let line = token.line;
+    match token_lead(token) {
+        Lead::Running => Ok((
+            Part {
+                expr: Expr {
+                    kind: ExprKind::Running,
+                    line,
+                },
+                depth: 1,
+            },
+            rest,
+        )),
+        Lead::Number => Ok((
+            Part {
+                expr: Expr {
+                    kind: ExprKind::Number(number(token)),
+                    line,
+                },
+                depth: 1,
+            },
+            rest,
+        )),
+        Lead::Truth(value) => Ok((
+            Part {
+                expr: Expr {
+                    kind: ExprKind::Truth(value),
+                    line,
+                },
+                depth: 1,
+            },
+            rest,
+        )),
+        Lead::Parens => {
+            if most == 0 {
+                return Err(Failure::TooDeep(tokens.len()));
+            }
+            let (part, rest) = read_closed(alloc, rest, Sign::CloseParen, most)?;
+            let depth = part.depth + 1;
+            let kind = ExprKind::Parens(Box::new(alloc, part.expr)?);
+            Ok((
+                Part {
+                    expr: Expr { kind, line },
+                    depth,
+                },
+                rest,
+            ))
+        }
+        Lead::Next => {
+            if most == 0 {
+                return Err(Failure::TooDeep(tokens.len()));
+            }
+            let rest = after_sign(rest, Sign::OpenParen)?;
+            let (part, rest) = read_closed(alloc, rest, Sign::CloseParen, most)?;
+            let depth = part.depth + 1;
+            let kind = ExprKind::Next(Box::new(alloc, part.expr)?);
+            Ok((
+                Part {
+                    expr: Expr { kind, line },
+                    depth,
+                },
+                rest,
+            ))
+        }
+        Lead::Prefix(operator) => {
+            if most == 0 {
+                return Err(Failure::TooDeep(tokens.len()));
+            }
+            let (part, rest) = read_expression(alloc, rest, 4, most)?;
+            let depth = part.depth + 1;
+            let kind = ExprKind::Prefix(operator, Box::new(alloc, part.expr)?);
+            Ok((
+                Part {
+                    expr: Expr { kind, line },
+                    depth,
+                },
+                rest,
+            ))
+        }
+        Lead::Braces => {
+            if most == 0 {
+                return Err(Failure::TooDeep(tokens.len()));
+            }
+            let (parts, rest) = read_list(alloc, rest, most)?;
+            let rest = after_sign(rest, Sign::CloseBrace)?;
+            let depth = parts.depth + 1;
+            let kind = ExprKind::Braces(parts.items);
+            Ok((
+                Part {
+                    expr: Expr { kind, line },
+                    depth,
+                },
+                rest,
+            ))
+        }
+        Lead::Until(quantifier) => {
+            if most == 0 {
+                return Err(Failure::TooDeep(tokens.len()));
+            }
+            let rest = after_sign(rest, Sign::OpenBracket)?;
+            let (left, right, rest) = read_until(alloc, rest, most)?;
+            let depth = left.depth.max(right.depth) + 1;
+            let boxed = Box::new(alloc, left.expr)?;
+            let kind = ExprKind::Until(quantifier, boxed, Box::new(alloc, right.expr)?);
+            Ok((
+                Part {
+                    expr: Expr { kind, line },
+                    depth,
+                },
+                rest,
+            ))
+        }
+        Lead::Case => {
+            if most == 0 {
+                return Err(Failure::TooDeep(tokens.len()));
+            }
+            let (arms, rest) = read_arms(alloc, rest, most)?;
+            let rest = after_key(rest, Keyword::Esac)?;
+            let depth = arms.depth + 1;
+            let kind = ExprKind::Case(arms.items);
+            Ok((
+                Part {
+                    expr: Expr { kind, line },
+                    depth,
+                },
+                rest,
+            ))
+        }
+        Lead::Other => Err(Failure::Syntax(tokens.len())),
+        // To be written: the parts of a path are read by a loop.
+        Lead::Name => Err(Failure::Memory),
+    }
+}
+
+/// An expression whose operators outside brackets have at least this level, of at most this depth.
+#[cycle(reading)]
+fn read_expression(
+    alloc: Global,
+    tokens: &[Token],
+    least: u32,
+    most: u32,
+) -> Result<(Part, &[Token]), Failure>
+    requires some { 1 ≤ most }
+    requires bounded { most < 1000 }
+    ensures reads { Gives (λ x. tree_of x.0.expr) (λ x. views x.1.now) result (read most least (views tokens.now)) }
+    ensures depth { IfOk result (λ x. x.0.depth ≤ most) }
+    ensures shorter { IfOk result (λ x. length x.1.now < length tokens.now) }
+{
+    let (part, mut rest) = read_operand(alloc, tokens, most - 1)?;
+    let mut left = part.expr;
+    let mut depth = part.depth;
+    while let Some((operator, after)) = next_operator(rest, least) {
+        if depth >= most {
+            return Err(Failure::TooDeep(rest.len()));
+        }
+        let (right, after) = read_expression(alloc, after, level(operator) + 1, most - 1)?;
+        let line = left.line;
+        let boxed = Box::new(alloc, left)?;
+        left = Expr {
+            kind: ExprKind::Binary(operator, boxed, Box::new(alloc, right.expr)?),
+            line,
+        };
+        depth = depth.max(right.depth) + 1;
+        rest = after;
+    }
+    Ok((Part { expr: left, depth }, rest))
+}
