@@ -1,22 +1,24 @@
 -- One step of the code each, in terms of reading.
 use Rattle.std.proofs.Common.{◌≡◌, ℕ, zero, suc, ◌+◌, ◌-◌, ◌≤◌, ◌<◌, Bool, true, false, List, [], ◌∷◌, length, refl, sym, ◌∙◌, ap, subst, arith, le-leb, Option, Some, None, Result, Ok, Err}
 use Rattle.std.proofs.lemmas.Bool.{lt-leb}
-use Rattle.token_readers.specs.Reading.{Reading, ◌>>=◌, expect, enclosed, headed, both, switch, after_first, many, first_is}
+use Rattle.token_readers.specs.Reading.{Reading, ◌>>=◌, accept, accepted, expect, enclosed, headed, both, switch, after_first, many, first_is}
 use Rattle.token_readers.specs.Reading.Reading.{found, syntax_error, too_deep}
 use Rattle.token_readers.proofs.Readers.{found-then}
 use Rattle.smv_lexer.specs.declared.keyword.Keyword.{Keyword}
 use Rattle.smv_lexer.specs.declared.sign.Sign.{Sign}
 use Rattle.smv_lexer.specs.declared.token.Token.{Token}
 use Rattle.smv_lexer.specs.Text.{Placed}
+use Rattle.smv_lexer.specs.Text.Kind.{word}
 use Rattle.smv_lexer.specs.View.{views}
 use Rattle.smv_parser.specs.declared.expressions.BinaryOperator.{BinaryOperator}
 use Rattle.smv_parser.specs.declared.expressions.PathQuantifier.{PathQuantifier}
 use Rattle.smv_parser.specs.declared.expressions.PrefixOperator.{PrefixOperator}
 use Rattle.smv_parser.specs.declared.tokens.Lead.{Lead}
-use Rattle.smv_parser.specs.Tree.{Tree, Form, on_line, depth, trees_of}
+use Rattle.smv_parser.specs.Tree.{Tree, Form, PathTree, Part, field_part, index_part, parts_of, path_on, on_line, depth, trees_of, arms_of}
 use Rattle.smv_parser.specs.Words.{level_of, prefix_level}
-use Rattle.smv_parser.specs.Tests.{is_sign, is_key, lead_of, operator_of}
-use Rattle.smv_parser.specs.Reading.{read_until, read_arm, read_arms, arms_of, begins_expression, read_list, read_others, value_of, with_room, tail, operand_by, operand, operator_step, more, read, Stops, binary}
+use Rattle.smv_parser.specs.Tests.{is_sign, is_key, word_in, name_of, lead_of, operator_of}
+use Rattle.smv_parser.proofs.TokenTests.{LeadIs, lead_is}
+use Rattle.smv_parser.specs.Reading.{is_dot, is_bracket, begins_part, part_tail, index_tail, part_by, read_part, read_parts, read_path, path_line, front_line, text_of, read_until, read_arm, read_arms, begins_expression, read_list, read_others, value_of, with_room, tail, operand_by, operand, operator_step, more, read, Stops, binary}
 use Rattle.smv_parser.specs.declared.reader.Failure.{Failure}
 use Rattle.smv_parser.specs.declared.reader.Failure.TheVariants as failures
 use Rattle.smv_parser.specs.Gives.{Gives, GivesRest, Fails, IsSyntaxError, IsTooDeep}
@@ -297,3 +299,95 @@ pub case_deep : (reader : ℕ → List Placed → Reading Placed Tree) (b : ℕ)
     → (n : ℕ) → n ≡ length s → IsTooDeep n (operand reader b s)
 unfolding operand_by tail
 case_deep reader b s t v first led z n l = gated_deep reader b s t v first Lead.Case led (λ s. refl) z n l
+
+-- paths
+
+module _ (reader : ℕ → List Placed → Reading Placed Tree) (b : ℕ) (s : List Placed) where
+  pub part_empty : length s ≡ 0 → IsSyntaxError 0 (read_part reader b s)
+  unfolding read_part switch
+  part_empty h = at_end s h
+    where
+      at_end : (v : List Placed) → length v ≡ 0 → IsSyntaxError 0 (read_part reader b v)
+      at_end [] h = refl
+      at_end (t ∷ v) h = absurd (omega arith)
+
+  module _ (t : Placed) (v : List Placed) (first : s ≡ t ∷ v) where
+    pub field_is : is_sign Sign.Dot t ≡ true → read_part reader b s ≡ (accept name_of v >>= λ n r. found (field_part n) r)
+    unfolding read_part switch part_by after_first part_tail
+    field_is dot = rw (first, dot) refl
+
+    pub index_is : is_sign Sign.Dot t ≡ false → is_sign Sign.OpenBracket t ≡ true → 1 ≤ b → read_part reader b s ≡ (enclosed (is_sign Sign.CloseBracket) (reader 1) v >>= λ e r. found (index_part e) r)
+    unfolding read_part switch part_by with_room after_first index_tail
+    index_is dot bracket h = let p = le-leb 1 b h in rw (first, dot, bracket, p) refl
+
+    index_too_deep : is_sign Sign.Dot t ≡ false → is_sign Sign.OpenBracket t ≡ true → b ≡ 0 → read_part reader b s ≡ too_deep (t ∷ v)
+    unfolding read_part switch part_by with_room
+    index_too_deep dot bracket z = rw (first, dot, bracket, z) refl
+
+    pub index_deep : is_sign Sign.Dot t ≡ false → is_sign Sign.OpenBracket t ≡ true → b ≡ 0 → (n : ℕ) → n ≡ length s → IsTooDeep n (read_part reader b s)
+    index_deep dot bracket z n l = subst (λ (x : Reading Placed Part). IsTooDeep n x) (sym (index_too_deep dot bracket z)) (ap length (sym first) ∙ sym l)
+
+    no_part_here : is_sign Sign.Dot t ≡ false → is_sign Sign.OpenBracket t ≡ false → read_part reader b s ≡ syntax_error (t ∷ v)
+    unfolding read_part switch part_by
+    no_part_here dot bracket = rw (first, dot, bracket) refl
+
+    pub part_other : is_sign Sign.Dot t ≡ false → is_sign Sign.OpenBracket t ≡ false → (n : ℕ) → n ≡ length s → IsSyntaxError n (read_part reader b s)
+    part_other dot bracket n l = subst (λ (x : Reading Placed Part). IsSyntaxError n x) (sym (no_part_here dot bracket)) (ap length (sym first) ∙ sym l)
+
+  pub parts_start : read_parts reader b s ≡ rest_of begins_part (read_part reader b) (length s) s (λ xs. xs)
+  unfolding read_parts rest_of ◌>>=◌
+  parts_start = same (many begins_part (read_part reader b) (length s) s)
+    where
+      same : (y : Reading Placed (List Part)) → y ≡ (y >>= λ xs v. found xs v)
+      same (found xs v) = refl
+      same (syntax_error v) = refl
+      same (too_deep v) = refl
+
+  pub path_fails : (e : Failure) → Fails e (accept name_of s) → Fails e (read_path reader b s)
+  unfolding read_path
+  path_fails e h = Fails-then e (both (accept name_of) (read_parts reader b) s) (λ z r. found (path_on (front_line s) z.0 (parts_of z.1)) r) (both_fails (accept name_of) (read_parts reader b) s e h)
+
+  pub path_fails_after : (n : List ℕ) (r : List Placed) (e : Failure) → accept name_of s ≡ found n r → Fails e (read_parts reader b r) → Fails e (read_path reader b s)
+  unfolding read_path
+  path_fails_after n r e q h =
+      Fails-then e (both (accept name_of) (read_parts reader b) s) (λ z r. found (path_on (front_line s) z.0 (parts_of z.1)) r) (both_fails_after (accept name_of) (read_parts reader b) s n r e q h)
+
+  pub path_found : (n : List ℕ) (r : List Placed) (ps : List Part) (v : List Placed) → accept name_of s ≡ found n r → read_parts reader b r ≡ found ps v
+      → read_path reader b s ≡ found (path_on (front_line s) n (parts_of ps)) v
+  unfolding read_path
+  path_found n r ps v q h =
+      found-then (both (accept name_of) (read_parts reader b) s) (n, ps) v (λ z r. found (path_on (front_line s) z.0 (parts_of z.1)) r) (both_found (accept name_of) (read_parts reader b) s n r ps v q h)
+
+-- an operand that begins with a name is a path
+module _ (reader : ℕ → List Placed → Reading Placed Tree) (b : ℕ) (s : List Placed) (t : Placed) (v : List Placed) (first : s ≡ t ∷ v) where
+  as_expression : Reading Placed PathTree → Reading Placed Tree
+  as_expression y = y >>= λ p r. found (on_line (path_line p) (Form.path p)) r
+
+  joined : (n : List ℕ) (y : Reading Placed (List Part))
+      → as_expression ((y >>= λ ps w. (let z : List ℕ × List Part = (n, ps) in found z w)) >>= λ z r. found (path_on t.line z.0 (parts_of z.1)) r) ≡ (y >>= λ ps r. found (on_line t.line (Form.path (path_on t.line n (parts_of ps)))) r)
+  unfolding ◌>>=◌ as_expression
+  joined n (found xs w) = refl
+  joined n (syntax_error w) = refl
+  joined n (too_deep w) = refl
+
+  accepts : (n : List ℕ) → t.kind ≡ word n → accept name_of (t ∷ v) ≡ found n v
+  unfolding accept accepted
+  accepts n k = rw k refl
+
+  named : (n : List ℕ) → t.kind ≡ word n → as_expression (read_path reader b s) ≡ (read_parts reader b v >>= λ ps r. found (on_line t.line (Form.path (path_on t.line n (parts_of ps)))) r)
+  unfolding read_path both
+  named n k =
+      ap (λ (l : List Placed). as_expression (read_path reader b l)) first
+      ∙ ap (λ (y : Reading Placed (List ℕ × List Part)). as_expression (y >>= λ z r. found (path_on t.line z.0 (parts_of z.1)) r))
+      (found-then (accept name_of (t ∷ v)) n v (λ m r. read_parts reader b r >>= λ ps w. let z : List ℕ × List Part = (m, ps) in found z w) (accepts n k))
+      ∙ joined n (read_parts reader b v)
+
+  said : (n : List ℕ) → t.kind ≡ word n → text_of t ≡ n
+  said n k = rw k refl
+
+  pub name_is : lead_of t ≡ Lead.Name → operand reader b s ≡ (read_path reader b s >>= λ p r. found (on_line (path_line p) (Form.path p)) r)
+  unfolding operand_by tail as_expression
+  name_is led =
+      let w : LeadIs t.kind Lead.Name = subst (LeadIs t.kind) led (lead_is t.kind) in
+      open_is reader b s t v first Lead.Name led (λ s. refl)
+      ∙ ap (λ (n : List ℕ). read_parts reader b v >>= λ ps r. found (on_line t.line (Form.path (path_on t.line n (parts_of ps)))) r) (said w.0 w.1) ∙ sym (named w.0 w.1)

@@ -5,7 +5,7 @@ use Rattle.token_readers.specs.Reading.{first_is}
 use Rattle.token_readers.proofs.Readers.{SameHead}
 use Rattle.smv_lexer.specs.Text.{Kind, Placed}
 use Rattle.smv_parser.specs.declared.expressions.BinaryOperator.{BinaryOperator}
-use Rattle.smv_parser.specs.Tree.{Tree, Form, on_line, depth, form_depth}
+use Rattle.smv_parser.specs.Tree.{Tree, Form, PathTree, on_line, depth, form_depth}
 use Rattle.smv_parser.specs.Words.{level_of, prefix_level, binary_word, BeginsOn, Is}
 use Rattle.smv_lexer.specs.declared.sign.Sign.{Sign}
 use Rattle.smv_parser.specs.Tests.{operator_of, sign_is, sign_number}
@@ -37,6 +37,10 @@ EndsInPath _ = ⊥
 abbrev pub Follows : Tree → List Placed → Type 0
 Follows e r = ((o : BinaryOperator) → operator_at r ≡ Some o → IsLevel (level_of o) e × (prefix_level ≤ level_of o → EndsInPrefix e → ⊥))
     × (EndsInPath e → first_is begins_part r ≡ false)
+
+-- no part follows a path
+abbrev pub PathEnds : PathTree → List Placed → Type 0
+PathEnds p r = first_is begins_part r ≡ false
 
 -- how an expression of level k ends
 abbrev pub Ends : ℕ → Tree → List Placed → Type 0

@@ -4,7 +4,7 @@ use Rattle.std.proofs.lemmas.Bool.Decides.{leb_tells}
 use Rattle.token_readers.specs.Reading.{Reading, ◌>>=◌, accept, switch, many, after_first, headed, enclosed, both, first_is}
 use Rattle.token_readers.specs.Reading.Reading.{found, syntax_error, too_deep}
 use Rattle.token_readers.proofs.Readers.{SameHead, Outcome, Completes, Reads, EachOf, EachFits, LastEnds, ManyEnds, many_reads}
-use Rattle.token_readers.proofs.More.{map_reads, renamed_reads, accept_reads, IsKnown, Headed, Enclosed, Both, BothFit, headed_reads, enclosed_reads, both_reads, list_reads, AnyOf, Alternative, give_reads, all_end, decide_both, decide_each, reads_alternative, no_alternative, tail_alternative, deep_alternative, switch_reads}
+use Rattle.token_readers.proofs.More.{map_reads, renamed_reads, accept_reads, IsKnown, Headed, Enclosed, Both, BothFit, headed_reads, enclosed_reads, both_reads, list_reads, AnyOf, Alternative, give_reads, all_end, decide_both, decide_each, reads_alternative, no_alternative, tail_alternative, deep_alternative, switch_reads, line_reads}
 use Rattle.smv_lexer.specs.declared.keyword.Keyword.{Keyword}
 use Rattle.smv_lexer.specs.declared.sign.Sign.{Sign}
 use Rattle.smv_lexer.specs.Text.{Kind, Placed}
@@ -13,13 +13,13 @@ use Rattle.smv_parser.specs.declared.expressions.BinaryOperator.{BinaryOperator}
 use Rattle.smv_parser.specs.declared.expressions.PathQuantifier.{PathQuantifier}
 use Rattle.smv_parser.specs.declared.expressions.PrefixOperator.{PrefixOperator}
 use Rattle.smv_parser.specs.declared.tokens.Lead.{Lead}
-use Rattle.smv_parser.specs.Tree.{Tree, Form, Trees, Arms, Parts, on_line, path_on, depth, trees_of, trees_depth, arms_depth, parts_depth}
+use Rattle.smv_parser.specs.Tree.{Tree, Form, PathTree, path_depth, Trees, Arms, Parts, on_line, path_on, depth, trees_of, trees_depth, arms_depth, parts_depth, Part, field_part, index_part, parts_of, arms_of}
 use Rattle.smv_parser.specs.Words.{level_of, prefix_level}
 use Rattle.smv_parser.specs.Tests.{is_sign, is_key, sign_is, key_is, sign_number, key_number, name_of, lead_of, kind_lead, operator_of, kind_operator}
 use Rattle.smv_parser.specs.Grammar.{Derives}
-use Rattle.smv_parser.specs.Reading.{Part, field_part, index_part, parts_of, arms_of, text_of, value_of, begins_part, PartLead, dot, bracket, neither, part_lead, leads, is_dot, is_bracket, begins_expression, with_room, part_tail, index_tail, part_by, read_part, read_parts, read_others, read_list, read_arm, read_arms, read_until, tail, operand_by, operand, Stops}
+use Rattle.smv_parser.specs.Reading.{text_of, value_of, begins_part, PartLead, dot, bracket, neither, part_lead, leads, is_dot, is_bracket, begins_expression, with_room, part_tail, index_tail, part_by, read_part, read_parts, read_path, front_line, read_others, read_list, read_arm, read_arms, read_until, tail, operand_by, operand, Stops}
 use Rattle.smv_parser.proofs.TokenTests.{sign_is-kind, key_is-kind}
-use Rattle.smv_parser.proofs.Follow.{Follows, Ends, depth_pos, Derives-level}
+use Rattle.smv_parser.proofs.Follow.{Follows, Ends, PathEnds, depth_pos, Derives-level}
 use Rattle.smv_parser.proofs.Leads.{first_leads}
 use Rattle.smv_parser.proofs.Operators.{some_name, some_tree, some_derived}
 
@@ -48,6 +48,13 @@ PartTail neither u p = ⊥
 
 abbrev pub PartIs : PartLead → List Placed → Part → Type 0
 PartIs i ts p = (t : Placed) × (u : List Placed) × (ts ≡ t ∷ u) × (part_lead t ≡ i) × PartTail i u p
+
+-- a name with the parts that follow it, and the same as a path with its line
+abbrev pub NamedIs : List Placed → List ℕ × List Part → Type 0
+NamedIs = Both (IsKnown name_of) (EachOf (AnyOf PartIs))
+
+abbrev pub PathIs : List Placed → PathTree → Type 0
+PathIs ts p = (x : List ℕ × List Part) × (p ≡ path_on (front_line ts) x.0 (parts_of x.1)) × NamedIs ts x
 
 abbrev pub ListIs : List Placed → Tree × List Tree → Type 0
 ListIs = Both (Derives false 1) (EachOf (Headed (is_sign Sign.Comma) (Derives false 1)))
@@ -324,16 +331,32 @@ module _ (reader : ℕ → List Placed → Reading Placed Tree) (b : ℕ) (parts
   unfolding read_part PartFits
   part_reads = switch_reads part_lead PartIs (PartFits reader b) (λ _ _. Unit {0}) (part_by reader b) (sign_token Sign.Dot ∷ some_name ∷ [], field_part [], some_part, tt) part_alternative
 
-  path_reads : Reads (EachOf (AnyOf PartIs)) (EachFits (PartFits reader b)) (ManyEnds begins_part (λ _ _. Unit {0})) (read_parts reader b)
+  parts_reads : Reads (EachOf (AnyOf PartIs)) (EachFits (PartFits reader b)) (ManyEnds begins_part (λ _ _. Unit {0})) (read_parts reader b)
   unfolding read_parts
-  path_reads = many_reads begins_part (AnyOf PartIs) (PartFits reader b) (λ _ _. Unit {0}) (read_part reader b) part_reads part_begins (λ x r h. tt) (decide_part reader b)
+  parts_reads = many_reads begins_part (AnyOf PartIs) (PartFits reader b) (λ _ _. Unit {0}) (read_part reader b) part_reads part_begins (λ x r h. tt) (decide_part reader b)
 
   name_reads : (t : Placed) → Reads (Tail Lead.Name t) (λ e. depth e ≤ suc b) Follows (tail reader b Lead.Name t)
   unfolding tail Tail
-  name_reads t = map_reads (EachOf (AnyOf PartIs)) (EachFits (PartFits reader b)) (ManyEnds begins_part (λ _ _. Unit {0})) (read_parts reader b) path_reads
+  name_reads t = map_reads (EachOf (AnyOf PartIs)) (EachFits (PartFits reader b)) (ManyEnds begins_part (λ _ _. Unit {0})) (read_parts reader b) parts_reads
       (λ ps. on_line t.line (Form.path (path_on t.line (text_of t) (parts_of ps)))) (Tail Lead.Name t) (λ e. depth e ≤ suc b) Follows
       (λ a ps d. (ps, refl, d)) (λ a y d. d) (λ ps h. omega (arith, parts_fit reader b ps h)) (λ ps h. parts_fit' reader b ps (omega arith))
       (λ a ps r d e. ((λ o i. (tt, λ h z. z)), λ z. e.0)) (λ a ps r d e. (e.1 tt, all_end (λ _ _. Unit {0}) r (λ x. tt) ps))
+
+  named_reads : Reads NamedIs (BothFit (λ _. Unit {0}) (EachFits (PartFits reader b))) (λ z r. ManyEnds begins_part (λ _ _. Unit {0}) z.1 r) (both (accept name_of) (read_parts reader b))
+  named_reads = both_reads (IsKnown name_of) (λ _. Unit {0}) (λ _ _. Unit {0}) (accept name_of) (accept_reads name_of some_name [] refl)
+      (EachOf (AnyOf PartIs)) (EachFits (PartFits reader b)) (ManyEnds begins_part (λ _ _. Unit {0})) (read_parts reader b) parts_reads
+      (λ z r. ManyEnds begins_part (λ _ _. Unit {0}) z.1 r) (λ x b' y r d e1 e2. e2) (λ x b' y r d e. tt) (λ x b' y r d e. e) (λ x. inl tt)
+
+  named_begins : (a : List Placed) (x : List ℕ × List Part) → NamedIs a x → (t : Placed) × (u : List Placed) × (a ≡ t ∷ u)
+  named_begins a x (y, z, q, (t, r, k), d) = (t, z, q ∙ ap (λ (l : List Placed). l ++ z) r)
+
+  -- a path is read exactly
+  pub path_reads : Reads PathIs (λ p. path_depth p ≤ suc b) PathEnds (read_path reader b)
+  unfolding read_path
+  path_reads = line_reads (λ t. t.line) NamedIs (BothFit (λ _. Unit {0}) (EachFits (PartFits reader b))) (λ z r. ManyEnds begins_part (λ _ _. Unit {0}) z.1 r) (both (accept name_of) (read_parts reader b)) named_reads named_begins
+      (λ l z. path_on l z.0 (parts_of z.1)) (λ p. path_depth p ≤ suc b) PathEnds
+      (λ l x h. omega (arith, parts_fit reader b x.1 h.1)) (λ l x h. (tt, parts_fit' reader b x.1 (omega arith)))
+      (λ l x r e. e.0) (λ l x r e. (e, all_end (λ _ _. Unit {0}) r (λ y. tt) x.1))
 
   number_reads : (t : Placed) → Reads (Tail Lead.Number t) (λ e. depth e ≤ suc b) Follows (tail reader b Lead.Number t)
   unfolding tail Tail

@@ -9,14 +9,14 @@ use Rattle.smv_lexer.specs.Text.{Kind, Placed}
 use Rattle.smv_lexer.specs.Text.Kind.{word, key, mark}
 use Rattle.smv_parser.specs.declared.expressions.BinaryOperator.{BinaryOperator}
 use Rattle.smv_parser.specs.declared.tokens.Lead.{Lead}
-use Rattle.smv_parser.specs.Tree.{Tree, Form, Trees, Arms, Parts, on_line, path_on, no_parts, no_trees, no_arms, depth, trees_of}
+use Rattle.smv_parser.specs.Tree.{Tree, Form, PathTree, path_depth, Trees, Arms, Parts, on_line, path_on, no_parts, no_trees, no_arms, depth, trees_of, Part, field_part, index_part, parts_of, arms_of}
 use Rattle.smv_parser.specs.Words.{level_of, prefix_level, prefix_word, quantifier_word, truth_word, Is, BeginsOn}
 use Rattle.smv_parser.specs.Tests.{is_sign, is_key, sign_is, key_is, sign_number, key_number, word_in, number_in, name_of, number_of, kind_lead, lead_of}
 use Rattle.smv_parser.specs.Grammar.{Derives, DerivesPath, DerivesParts, DerivesSome, DerivesOthers, DerivesArms}
-use Rattle.smv_parser.specs.Reading.{Part, field_part, index_part, parts_of, arms_of, line_of, text_of, value_of, some_or, PartLead, dot, bracket, neither, part_lead, is_dot, is_bracket, operand}
+use Rattle.smv_parser.specs.Reading.{front_line, read_path, line_of, text_of, value_of, some_or, PartLead, dot, bracket, neither, part_lead, is_dot, is_bracket, operand}
 use Rattle.smv_parser.proofs.TokenTests.{sign_is-kind, key_is-kind, kind_is-sign, kind_is-key, word_in-kind, lead_is, LeadIs, prefix_lead, truth_lead, quantifier_lead}
-use Rattle.smv_parser.proofs.Follow.{Follows, Ends, begins_line}
-use Rattle.smv_parser.proofs.Operands.{PartTail, PartIs, ListIs, ArmIs, UntilIs, Tail, LedBy, led_reads}
+use Rattle.smv_parser.proofs.Follow.{Follows, Ends, PathEnds}
+use Rattle.smv_parser.proofs.Operands.{PartTail, PartIs, PathIs, path_reads, ListIs, ArmIs, UntilIs, Tail, LedBy, led_reads}
 
 is_it : (s : Sign) (t : Placed) → Is (mark s) t → is_sign s t ≡ true
 is_it s t h = kind_is-sign s t.kind h
@@ -99,6 +99,21 @@ parts_from u (index_part e ∷ l) (x, y, q, (bracket, (t, v, q', h, (f, p, (c, z
   parts_from y l rest,
 )
 parts_from u (index_part e ∷ l) (x, y, q, (neither, (t, v, q', h, d)), rest) = absurd d
+
+-- paths
+
+pub path_to : (ts : List Placed) (p : PathTree) → DerivesPath ts p → PathIs ts p
+path_to ts (path_on l n ps) (t, a, q, i, j, d) =
+    let w = parts_to a ps d in (
+      (n, w.0),
+      ap (λ (k : ℕ). path_on k n ps) (sym j ∙ sym (ap front_line q)) ∙ ap (path_on (front_line ts) n) w.1,
+      (t ∷ [], a, q, (t, refl, ap word_in i), w.2),
+    )
+
+pub path_from : (ts : List Placed) (p : PathTree) → PathIs ts p → DerivesPath ts p
+path_from ts p (x, e, (a, u, q, (t, r, k), d)) =
+    let whole : ts ≡ t ∷ u = q ∙ ap (λ (s : List Placed). s ++ u) r in
+    subst (DerivesPath ts) (sym e) (t, u, whole, word_in-kind t.kind x.0 k, sym (ap front_line whole), parts_from u x.1 d)
 
 -- lists of expressions
 
@@ -312,3 +327,6 @@ unshape ts e (i, (t, u, q, h, d)) = subst (λ (s : List Placed). Derives false 1
 module _ (reader : ℕ → List Placed → Reading Placed Tree) (b : ℕ) (parts : 1 ≤ b → (k : ℕ) → Reads (Derives false k) (λ e. depth e ≤ b) (Ends k) (reader k)) where
   pub operand_reads : Reads (Derives false 11) (λ e. depth e ≤ suc b) Follows (operand reader b)
   operand_reads = renamed_reads (AnyOf LedBy) (λ e. depth e ≤ suc b) Follows (operand reader b) (led_reads reader b parts) (Derives false 11) Follows unshape shape (λ a x r d e. e) (λ a x r d e. e)
+
+  pub path_derives : Reads DerivesPath (λ p. path_depth p ≤ suc b) PathEnds (read_path reader b)
+  path_derives = renamed_reads PathIs (λ p. path_depth p ≤ suc b) PathEnds (read_path reader b) (path_reads reader b parts) DerivesPath PathEnds path_from path_to (λ a x r d e. e) (λ a x r d e. e)

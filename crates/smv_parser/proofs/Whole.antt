@@ -14,17 +14,21 @@ use Rattle.smv_parser.specs.declared.expressions.PrefixOperator.{PrefixOperator}
 use Rattle.smv_parser.specs.Tests.{sign_number}
 use Rattle.token_readers.proofs.Readers.{Reads}
 use Rattle.smv_lexer.specs.Text.{Placed}
-use Rattle.smv_parser.specs.Tree.{Tree, Form, on_line, path_on, no_parts, depth}
-use Rattle.smv_parser.specs.Grammar.{Derives}
-use Rattle.smv_parser.specs.Reading.{read, operand, operand_by, with_room, tail, more, operator_step, read_parts, read_arm}
-use Rattle.smv_parser.proofs.Follow.{Ends, depth_pos}
+use Rattle.smv_parser.specs.Tree.{Tree, Form, on_line, path_on, no_parts, depth, path_depth}
+use Rattle.smv_parser.specs.Grammar.{Derives, DerivesPath}
+use Rattle.smv_parser.specs.Reading.{read, operand, operand_by, with_room, tail, more, operator_step, read_parts, read_path, read_arm}
+use Rattle.smv_parser.proofs.Follow.{Ends, PathEnds, depth_pos}
 use Rattle.smv_parser.proofs.Operators.{level_reads}
-use Rattle.smv_parser.proofs.Shapes.{operand_reads}
+use Rattle.smv_parser.proofs.Shapes.{operand_reads, path_derives}
 
 pub expression_reads : (b : ℕ) → 1 ≤ b → (k : ℕ) → Reads (Derives false k) (λ e. depth e ≤ b) (Ends k) (read b k)
 unfolding read
 expression_reads zero h k = absurd (omega arith)
 expression_reads (suc b) h k = level_reads (read b) b (operand_reads (read b) b (λ pos. expression_reads b pos)) (λ pos. expression_reads b pos) k
+
+-- paths whose indexes have at most depth b
+pub path_reads : (b : ℕ) → Reads DerivesPath (λ p. path_depth p ≤ suc b) PathEnds (read_path (read b) b)
+path_reads b = path_derives (read b) b (λ pos. expression_reads b pos)
 
 no_more : (e : Tree) → Ends 1 e []
 no_more e = (((λ o i. absurd cc), λ z. refl), λ o i. absurd cc)

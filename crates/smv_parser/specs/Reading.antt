@@ -1,32 +1,25 @@
 -- Reading an expression from left to right, within a depth.
 use Rattle.std.specs.Prelude.{◌≡◌, ◌<◌, ℕ, zero, suc, ◌+◌, cond, nat_le, Bool, true, false, length, List, [], ◌∷◌, Option, Some, None, map}
-use Rattle.token_readers.specs.Reading.{Reading, ◌>>=◌, accept, switch, many, after_first, headed, enclosed, both}
+use Rattle.token_readers.specs.Reading.{Reading, ◌>>=◌, accept, switch, many, first_line, after_first, headed, enclosed, both}
 use Rattle.token_readers.specs.Reading.Reading.{found, syntax_error, too_deep}
 use Rattle.smv_lexer.specs.declared.keyword.Keyword.{Keyword}
 use Rattle.smv_lexer.specs.declared.sign.Sign.{Sign}
 use Rattle.smv_lexer.specs.Text.{Kind, Placed}
 use Rattle.smv_parser.specs.declared.expressions.BinaryOperator.{BinaryOperator}
 use Rattle.smv_parser.specs.declared.tokens.Lead.{Lead}
-use Rattle.smv_parser.specs.Tree.{Tree, Form, Parts, Arms, on_line, path_on, no_parts, no_arms, depth, trees_of}
+use Rattle.smv_parser.specs.Tree.{Tree, Form, PathTree, Part, on_line, path_on, field_part, index_part, depth, parts_of, trees_of, arms_of}
 use Rattle.smv_parser.specs.Words.{level_of, prefix_level}
 use Rattle.smv_parser.specs.Tests.{is_sign, is_key, lead_of, operator_of, name_of, number_of}
-
--- a part of a path
-pub data Part : Type 0 where
-  field_part : List ℕ → Part
-  index_part : Tree → Part
-
-abbrev pub parts_of : List Part → Parts
-parts_of [] = no_parts
-parts_of (field_part n ∷ ps) = Parts.field n (parts_of ps)
-parts_of (index_part e ∷ ps) = Parts.index e (parts_of ps)
 
 abbrev pub line_of : Tree → ℕ
 line_of (on_line line form) = line
 
-abbrev pub arms_of : List (Tree × Tree) → Arms
-arms_of [] = no_arms
-arms_of (a ∷ rest) = Arms.arm a.0 a.1 (arms_of rest)
+abbrev pub path_line : PathTree → ℕ
+path_line (path_on line first parts) = line
+
+-- the line of the first token
+abbrev pub front_line : List Placed → ℕ
+front_line s = first_line (λ (t : Placed). t.line) s
 
 abbrev pub binary : BinaryOperator → Tree → Tree → Tree
 binary o e f = on_line (line_of e) (Form.binary o e f)
@@ -97,6 +90,10 @@ module _ (reader : ℕ → List Placed → Reading Placed Tree) (b : ℕ) where
 
   unfoldable pub read_parts : List Placed → Reading Placed (List Part)
   read_parts s = many begins_part read_part (length s) s
+
+  -- a path whose indexes are read by reader
+  unfoldable pub read_path : List Placed → Reading Placed PathTree
+  read_path s = both (accept name_of) read_parts s >>= λ z r. found (path_on (front_line s) z.0 (parts_of z.1)) r
 
   unfoldable pub read_others : List Placed → Reading Placed (List Tree)
   read_others s = many (is_sign Sign.Comma) (headed (is_sign Sign.Comma) (reader 1)) (length s) s

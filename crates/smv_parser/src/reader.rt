@@ -1,14 +1,16 @@
 //! What readers of tokens share.
 
 ghost use Rattle.std.specs.Prelude.{◌≡◌, ◌<◌, length, map, IfOk};
-ghost use Rattle.token_readers.specs.Reading.{expect, first_is};
+ghost use Rattle.token_readers.specs.Reading.{accept, expect, first_is};
 ghost use Rattle.smv_lexer.specs.View as tokens;
 ghost use Rattle.smv_lexer.specs.View.{views};
-ghost use Rattle.smv_parser.specs.Gives.{GivesRest};
-ghost use Rattle.smv_parser.specs.Tests.{is_sign, is_key};
+ghost use Rattle.smv_parser.specs.Gives.{Gives, GivesRest};
+ghost use Rattle.smv_parser.specs.Reading.{front_line};
+ghost use Rattle.smv_parser.specs.Tests.{is_sign, is_key, name_of};
 
+use kripke_model::Name;
 use smv_lexer::{Keyword, Sign, Token, TokenKind};
-use std::alloc::{AllocError, AllocFailed};
+use std::alloc::{AllocError, AllocFailed, Global};
 
 /// Why reading stops, with the number of tokens that are left there.
 #[derive(Debug, Drop)]
@@ -92,6 +94,34 @@ pub fn after_key(tokens: &[Token], key: Keyword) -> Result<&[Token], Failure>
     }
 }
 
+/// The name that comes first, with the tokens after it.
+#[tactic(auto, unfolding(token_readers::specs::Reading::accept, token_readers::specs::Reading::accepted))]
+pub fn after_name(alloc: Global, tokens: &[Token]) -> Result<(Name, &[Token]), Failure>
+    ensures reads { Gives (λ x. x.0) (λ x. views x.1.now) result (accept name_of (views tokens.now)) }
+    ensures shorter { IfOk result (λ x. length x.1.now < length tokens.now) }
+{
+    match tokens.split_first() {
+        None => Err(Failure::Syntax(0)),
+        Some((token, rest)) => match &token.kind {
+            TokenKind::Word(name) => Ok((name.copy(alloc)?, rest)),
+            TokenKind::Number(_) | TokenKind::Key(_) | TokenKind::Sign(_) => {
+                Err(Failure::Syntax(tokens.len()))
+            }
+        },
+    }
+}
+
+/// The line of the first token, and 0 where there is none.
+pub fn first_line(tokens: &[Token]) -> u32
+    ensures { result ≡ front_line (views tokens.now) }
+{
+    match tokens.split_first() {
+        None => 0,
+        Some((token, _)) => token.line,
+    }
+}
+
+/// Whether this sign comes next.
 pub fn begins_with_sign(tokens: &[Token], sign: Sign) -> bool
     ensures { result ≡ first_is (is_sign sign) (views tokens.now) }
 {

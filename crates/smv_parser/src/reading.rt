@@ -7,14 +7,17 @@ ghost use Rattle.smv_lexer.specs.View.{views};
 ghost use Rattle.smv_parser.specs.Gives.{Gives};
 ghost use Rattle.smv_lexer.specs.View as tokens;
 ghost use Rattle.smv_parser.specs.Reading as reading;
-ghost use Rattle.smv_parser.specs.Reading.{Stops, arms_of, arms_pair_of, begins_expression, leads, operand, pair_of, read, value_of};
+ghost use Rattle.smv_parser.specs.Reading.{Stops, arms_pair_of, begins_expression, begins_part, leads, operand, pair_of, read, value_of};
 ghost use Rattle.smv_parser.specs.Tests.{is_sign, operator_of};
 ghost use Rattle.smv_parser.specs.Tree;
-ghost use Rattle.smv_parser.specs.View.{arm_pair, tree_of};
+ghost use Rattle.smv_parser.specs.Tree.{arms_of, part_depth, parts_of};
+ghost use Rattle.smv_parser.specs.View.{arm_pair, part_of, path_of, tree_of};
 ghost use Rattle.smv_parser.specs.Words.{level_of};
 
-use crate::expressions::{Arm, BinaryOperator, Expr, ExprKind};
-use crate::reader::{Failure, after_key, after_sign, begins_with_sign};
+use crate::expressions::{Arm, BinaryOperator, Expr, ExprKind, Path, PathPart};
+use crate::reader::{
+    Failure, after_key, after_name, after_sign, begins_with_sign, first_line, token_is_sign,
+};
 use crate::tokens::{Lead, level, token_lead, token_operator};
 use smv_lexer::{Keyword, Sign, Token, TokenKind};
 use std::alloc::Global;
@@ -41,6 +44,22 @@ pub struct ArmParts {
     pub items: Vec<Arm>,
     pub depth: u32,
     ghost depth_is: { depth ≡ Tree.arms_depth (arms_of (map arm_pair items.items)) },
+}
+
+/// What follows the first name of a path, with the depth of the deepest index, and 0 where there is none.
+#[derive(Drop)]
+pub struct PathParts {
+    pub items: Vec<PathPart>,
+    pub depth: u32,
+    ghost depth_is: { depth ≡ Tree.parts_depth (parts_of (map part_of items.items)) },
+}
+
+/// A path with its depth.
+#[derive(Drop)]
+pub struct WholePath {
+    pub path: Path,
+    pub depth: u32,
+    ghost depth_is: { depth ≡ Tree.path_depth (path_of path) },
 }
 
 /// The value of a number's token, which is never negative.
@@ -84,6 +103,18 @@ fn is_lead(lead: Lead) -> bool
         | Lead::Case
         | Lead::Until(_)
         | Lead::Prefix(_) => true,
+    }
+}
+
+/// Whether the first token goes on with a path.
+fn goes_on_path(tokens: &[Token]) -> bool
+    ensures { result ≡ first_is begins_part (views tokens.now) }
+{
+    match tokens.split_first() {
+        None => false,
+        Some((token, _)) => {
+            token_is_sign(token, Sign::Dot) || token_is_sign(token, Sign::OpenBracket)
+        }
     }
 }
 
@@ -200,6 +231,79 @@ fn read_until(alloc: Global, tokens: &[Token], most: u32) -> Result<(Part, Part,
     let rest = after_key(rest, Keyword::Until)?;
     let (right, rest) = read_closed(alloc, rest, Sign::CloseBracket, most)?;
     Ok((left, right, rest))
+}
+
+/// A dot and a name, or an index of at most depth `most`; with the depth of the index, and 0 for a name.
+#[cycle(reading)]
+fn read_part(
+    alloc: Global,
+    tokens: &[Token],
+    most: u32,
+) -> Result<(PathPart, u32, &[Token]), Failure>
+    requires { most < 1000 }
+    ensures reads { Gives (λ x. part_of x.0) (λ x. views x.2.now) result (reading.read_part (read most) most (views tokens.now)) }
+    ensures depth { IfOk result (λ x. (x.1 ≡ part_depth (part_of x.0)) × (x.1 ≤ most)) }
+    ensures shorter { IfOk result (λ x. length x.2.now < length tokens.now) }
+{
+    let Some((token, rest)) = tokens.split_first() else {
+        return Err(Failure::Syntax(0));
+    };
+    if token_is_sign(token, Sign::Dot) {
+        let (name, rest) = after_name(alloc, rest)?;
+        return Ok((PathPart::Field(name), 0, rest));
+    }
+    if !token_is_sign(token, Sign::OpenBracket) {
+        return Err(Failure::Syntax(tokens.len()));
+    }
+    if most == 0 {
+        return Err(Failure::TooDeep(tokens.len()));
+    }
+    let (index, rest) = read_closed(alloc, rest, Sign::CloseBracket, most)?;
+    Ok((PathPart::Index(index.expr), index.depth, rest))
+}
+
+/// What follows the first name of a path, each index of at most depth `most`.
+#[cycle(reading)]
+fn read_parts(alloc: Global, tokens: &[Token], most: u32) -> Result<(PathParts, &[Token]), Failure>
+    requires { most < 1000 }
+    ensures reads { Gives (λ x. map part_of x.0.items.items) (λ x. views x.1.now) result (reading.read_parts (read most) most (views tokens.now)) }
+    ensures depth { IfOk result (λ x. x.0.depth ≤ most) }
+    ensures within { IfOk result (λ x. length x.1.now ≤ length tokens.now) }
+{
+    let mut items = Vec::new(alloc);
+    let mut depth: u32 = 0;
+    let mut rest = tokens;
+    while goes_on_path(rest) {
+        let (part, its_depth, after) = read_part(alloc, rest, most)?;
+        items.push(part)?;
+        depth = depth.max(its_depth);
+        rest = after;
+    }
+    Ok((PathParts { items, depth }, rest))
+}
+
+/// A path whose indexes have at most depth `most`.
+#[cycle(reading)]
+pub fn read_path(
+    alloc: Global,
+    tokens: &[Token],
+    most: u32,
+) -> Result<(WholePath, &[Token]), Failure>
+    requires { most < 1000 }
+    ensures reads { Gives (λ x. path_of x.0.path) (λ x. views x.1.now) result (reading.read_path (read most) most (views tokens.now)) }
+    ensures depth { IfOk result (λ x. x.0.depth ≤ most + 1) }
+    ensures shorter { IfOk result (λ x. length x.1.now < length tokens.now) }
+{
+    let line = first_line(tokens);
+    let (first, rest) = after_name(alloc, tokens)?;
+    let (parts, rest) = read_parts(alloc, rest, most)?;
+    let depth = parts.depth + 1;
+    let path = Path {
+        first,
+        parts: parts.items,
+        line,
+    };
+    Ok((WholePath { path, depth }, rest))
 }
 
 /// What stands left of the first operator, its parts within depth `most`.
@@ -341,14 +445,24 @@ fn read_operand(alloc: Global, tokens: &[Token], most: u32) -> Result<(Part, &[T
             ))
         }
         Lead::Other => Err(Failure::Syntax(tokens.len())),
-        // To be written: the parts of a path are read by a loop.
-        Lead::Name => Err(Failure::Memory),
+        Lead::Name => {
+            let (whole, rest) = read_path(alloc, tokens, most)?;
+            let line = whole.path.line;
+            let kind = ExprKind::Path(whole.path);
+            Ok((
+                Part {
+                    expr: Expr { kind, line },
+                    depth: whole.depth,
+                },
+                rest,
+            ))
+        }
     }
 }
 
 /// An expression whose operators outside brackets have at least this level, of at most this depth.
 #[cycle(reading)]
-fn read_expression(
+pub fn read_expression(
     alloc: Global,
     tokens: &[Token],
     least: u32,

@@ -1,5 +1,5 @@
 use Rattle.std.proofs.Common.{rules, ◌≡◌, ◌≤◌, ◌<◌, ◌+◌, ◌-◌, ℕ, List, [], ◌∷◌, ◌++◌, map, length, refl, sym, ◌∙◌, ap, subst, arith, append-nil, append_assoc, length-append, max}
-use Rattle.smv_parser.proofs.Views.{case_arms, case_form, arms_whole, arms_depth-push, pairs-pushed, length-pairs, braces_form, braces_trees, pair_whole, trees_depth-push, map-push, map-pushed, length-trees}
+use Rattle.smv_parser.proofs.Views.{case_arms, case_form, arms_whole, arms_depth-push, braces_form, braces_trees, pair_whole, trees_depth-push, map-last, map-last-more, length-mapped, path_parts, path_form, parts_depth-push}
 use Rattle.std.proofs.lemmas.Result.{err_from_is_err_and}
 use Rattle.smv_lexer.specs.declared.sign.Sign.{Sign}
 use Rattle.smv_lexer.specs.View as tokens
@@ -9,11 +9,11 @@ use Rattle.token_readers.specs.Reading.{enclosed, headed, both}
 use Rattle.smv_lexer.specs.declared.keyword.Keyword.{Keyword}
 use Rattle.token_readers.proofs.Readers.{found-then}
 use Rattle.smv_parser.specs.Tests.{is_sign, is_key}
-use Rattle.smv_parser.specs.Tree.{Tree, Form, on_line, depth, trees_depth, trees_of, arms_depth}
-use Rattle.smv_parser.specs.Reading.{read, operand, more, read_until, read_list, pair_of, read_arm, read_arms, arms_of, arms_pair_of, begins_expression}
-use Rattle.smv_parser.specs.View.{tree_of, arm_pair}
+use Rattle.smv_parser.specs.Tree.{Tree, Form, Part, parts_of, parts_depth, path_on, on_line, depth, trees_depth, trees_of, arms_depth, arms_of}
+use Rattle.smv_parser.specs.Reading.{begins_part, read_part, read_parts, read, operand, more, read_until, read_list, pair_of, read_arm, read_arms, arms_pair_of, begins_expression}
+use Rattle.smv_parser.specs.View.{tree_of, arm_pair, part_of}
 use Rattle.smv_parser.proofs.Follow.{depth_pos}
-use Rattle.smv_parser.proofs.Codes.{arm_found, arms_start, case_is, case_deep, first_some, rest_stops, rest_more, rest_fails, list_start, list_fails, braces_is, braces_deep, both_fails, both_fails_after, both_found, until_found, number_is, until_is, until_deep, Fails-then, length-views, enclosed_fails, enclosed_fails_after, enclosed_found, headed_is, headed_fails, operand_empty, operand_other, running_is, truth_is, parens_is, parens_deep, next_is, next_deep, prefix_is, prefix_deep, read_start, more_step, more_too_deep, more_stops}
+use Rattle.smv_parser.proofs.Codes.{part_empty, field_is, index_is, index_deep, part_other, parts_start, path_fails, path_fails_after, path_found, name_is, arm_found, arms_start, case_is, case_deep, first_some, rest_stops, rest_more, rest_fails, list_start, list_fails, braces_is, braces_deep, both_fails, both_fails_after, both_found, until_found, number_is, until_is, until_deep, Fails-then, length-views, enclosed_fails, enclosed_fails_after, enclosed_found, headed_is, headed_fails, operand_empty, operand_other, running_is, truth_is, parens_is, parens_deep, next_is, next_deep, prefix_is, prefix_deep, read_start, more_step, more_too_deep, more_stops}
 use Rattle.smv_parser.proofs.reading.+reading.Goals as goal
 
 pub read_closed-returns-in_err-part-clause-reads : goal.read_closed-returns-in_err-part-clause-reads
@@ -280,7 +280,7 @@ read_list-loop-alloc-preserved t c =
     let e2 : c.push-in-loop-alloc.new.self.items ≡ c.loop-alloc.items.items ++ c.in_ok-next.next.expr ∷ [] = c.in_ok-push-2.ensures.items in
     let d = trees_depth-push (map tree_of c.loop-alloc.items.items) (tree_of c.in_ok-next.next.expr) in
     let g : trees_depth (trees_of (map tree_of c.push-in-loop-alloc.new.self.items)) ≡ trees_depth (trees_of (map tree_of c.loop-alloc.items.items ++ tree_of c.in_ok-next.next.expr ∷ []))
-    = ap (λ (l : List _). trees_depth (trees_of (map tree_of l))) e2 ∙ ap (λ (l : List _). trees_depth (trees_of l)) (map-pushed c.loop-alloc.items.items c.in_ok-next.next.expr) in (
+    = ap (λ (l : List _). trees_depth (trees_of (map tree_of l))) e2 ∙ ap (λ (l : List _). trees_depth (trees_of l)) (map-last tree_of c.loop-alloc.items.items c.in_ok-next.next.expr) in (
       omega (arith, i.0, c.in_ok-next.ensures.depth, c.max-depth.ensures),
       omega (arith, c.max-depth.ensures, i.1, c.in_ok-next.next.depth_is, d, g),
       omega (arith, ap length e2, length-append c.loop-alloc.items.items (c.in_ok-next.next.expr ∷ [])),
@@ -288,7 +288,7 @@ read_list-loop-alloc-preserved t c =
       q.0,
       (λ xs. i.5 (tree_of c.in_ok-next.next.expr ∷ xs)),
       q.1,
-      (λ xs. i.7 (tree_of c.in_ok-next.next.expr ∷ xs) ∙ ap pair_of (sym (map-push c.loop-alloc.items.items c.in_ok-next.next.expr xs)) ∙ ap (λ (l : List _). pair_of (map tree_of l ++ xs)) (sym e2)),
+      (λ xs. i.7 (tree_of c.in_ok-next.next.expr ∷ xs) ∙ ap pair_of (map-last-more tree_of c.loop-alloc.items.items c.in_ok-next.next.expr xs) ∙ ap (λ (l : List _). pair_of (map tree_of l ++ xs)) (sym e2)),
       i.8 ∙ q.2,
     )
 
@@ -329,7 +329,7 @@ read_operand-returns-in_ok-rest-in-Braces-clause-reads t c =
     ∙ found-then _ _ _ _ (enclosed_found (is_sign Sign.CloseBrace) (read_list (read c.args.most) c.args.most) (views c.in-Some.rest.now) (views c.in_ok-parts-in-Braces.rest.now) (views c.in_ok-rest-in-Braces.rest.now)
     (pair_of (map tree_of c.in_ok-parts-in-Braces.parts.items.items)) c.in_ok-rest-in-Braces.ensures.reads.0 c.in_ok-parts-in-Braces.ensures.reads c.in_ok-rest-in-Braces.ensures.reads.1)
     ∙ ap (λ (es : List Tree). found (on_line c.in-Some.token.now.line (Form.braces (trees_of es))) (views c.in_ok-rest-in-Braces.rest.now))
-    (pair_whole (map tree_of c.in_ok-parts-in-Braces.parts.items.items) (omega (arith, c.in_ok-parts-in-Braces.ensures.some, length-trees c.in_ok-parts-in-Braces.parts.items.items)))
+    (pair_whole (map tree_of c.in_ok-parts-in-Braces.parts.items.items) (omega (arith, c.in_ok-parts-in-Braces.ensures.some, length-mapped tree_of c.in_ok-parts-in-Braces.parts.items.items)))
     ∙ ap (λ (x : Form). found (on_line c.in-Some.token.now.line x) (views c.in_ok-rest-in-Braces.rest.now)) (sym (braces_form c.in_ok-parts-in-Braces.parts.items))
 
 pub read_arm-returns-in_err-guard-clause-reads : goal.read_arm-returns-in_err-guard-clause-reads
@@ -362,7 +362,7 @@ read_arms-loop-alloc-init t c =
     let d : arms_depth (arms_of (map arm_pair c.push.new.self.items)) ≡ max (depth a.0) (depth a.1) = (let w = ap (λ (l : List (Tree × Tree)). arms_depth (arms_of l)) e1 in omega (arith, w)) in (
       omega (arith, c.in_ok-guard.ensures.depth.0, c.in_ok-guard.ensures.depth.1, c.deeper-depth.ensures),
       omega (arith, d, c.deeper-depth.ensures, c.in_ok-guard.guard.depth_is, c.in_ok-guard.right.depth_is),
-      omega (arith, ap length e1, length-pairs c.push.new.self.items),
+      omega (arith, ap length e1, length-mapped arm_pair c.push.new.self.items),
       c.in_ok-guard.ensures.shorter,
       length (views c.in_ok-guard.rest.now),
       (λ xs. (a, xs)),
@@ -389,7 +389,7 @@ read_arms-loop-alloc-preserved t c =
     let q = rest_more begins_expression (read_arm (read c.args.most) c.args.most) i.4 (views c.loop-alloc.rest.now) (views c.in_ok-next.after.now) a i.5 f c.in_ok-next.ensures.reads i.6 short in
     let e2 : c.push-in-loop-alloc.new.self.items ≡ c.loop-alloc.items.items ++ record { guard = c.in_ok-next.next.expr; right = c.in_ok-next.value.expr } ∷ [] = c.in_ok-push-2.ensures.items in
     let e3 : map arm_pair c.push-in-loop-alloc.new.self.items ≡ map arm_pair c.loop-alloc.items.items ++ a ∷ []
-    = ap (λ (l : List _). map arm_pair l) e2 ∙ pairs-pushed c.loop-alloc.items.items (record { guard = c.in_ok-next.next.expr; right = c.in_ok-next.value.expr }) in
+    = ap (λ (l : List _). map arm_pair l) e2 ∙ map-last arm_pair c.loop-alloc.items.items (record { guard = c.in_ok-next.next.expr; right = c.in_ok-next.value.expr }) in
     let d = arms_depth-push (map arm_pair c.loop-alloc.items.items) a in
     let g : arms_depth (arms_of (map arm_pair c.push-in-loop-alloc.new.self.items)) ≡ arms_depth (arms_of (map arm_pair c.loop-alloc.items.items ++ a ∷ [])) = ap (λ (l : List (Tree × Tree)). arms_depth (arms_of l)) e3 in (
       omega (arith, i.0, c.in_ok-next.ensures.depth.0, c.in_ok-next.ensures.depth.1, c.max-depth.ensures, c.deeper.ensures),
@@ -440,5 +440,120 @@ read_operand-returns-in_ok-rest-in-Case-clause-reads t c =
     ∙ found-then _ _ _ _ (enclosed_found (is_key Keyword.Esac) (both (read_arm (read c.args.most) c.args.most) (read_arms (read c.args.most) c.args.most)) (views c.in-Some.rest.now) (views c.in_ok-arms-in-Case.rest.now) (views c.in_ok-rest-in-Case.rest.now)
     (arms_pair_of (map arm_pair c.in_ok-arms-in-Case.arms.items.items)) c.in_ok-rest-in-Case.ensures.reads.0 c.in_ok-arms-in-Case.ensures.reads c.in_ok-rest-in-Case.ensures.reads.1)
     ∙ ap (λ (es : List (Tree × Tree)). found (on_line c.in-Some.token.now.line (Form.cases (arms_of es))) (views c.in_ok-rest-in-Case.rest.now))
-    (arms_whole (map arm_pair c.in_ok-arms-in-Case.arms.items.items) (omega (arith, c.in_ok-arms-in-Case.ensures.some, length-pairs c.in_ok-arms-in-Case.arms.items.items)))
+    (arms_whole (map arm_pair c.in_ok-arms-in-Case.arms.items.items) (omega (arith, c.in_ok-arms-in-Case.ensures.some, length-mapped arm_pair c.in_ok-arms-in-Case.arms.items.items)))
     ∙ ap (λ (x : Form). found (on_line c.in-Some.token.now.line x) (views c.in_ok-rest-in-Case.rest.now)) (sym (case_form c.in_ok-arms-in-Case.arms.items))
+
+pub read_operand-returns-in_err-whole-in-Name-clause-reads : goal.read_operand-returns-in_err-whole-in-Name-clause-reads
+read_operand-returns-in_err-whole-in-Name-clause-reads t c =
+    let q = name_is (read c.args.most) c.args.most (views c.args.tokens.now) (tokens.view c.in-Some.token.now) (views c.in-Some.rest.now) (ap views c.in-Some.ensures.cases.0)
+    (sym c.token_lead.ensures ∙ c.in-Name.is) in
+    let p = err_from_is_err_and c.from_residual-in_err-whole-in-Name.result c.from_residual-in_err-whole-in-Name.ensures.1 in
+    rw (p.1, p.2) (rw q (Fails-then c.in_err-whole-in-Name.field-0.0 _ _ c.in_err-whole-in-Name.ensures.reads))
+
+pub read_operand-invariant_of-result-in-Name : goal.read_operand-invariant_of-result-in-Name
+read_operand-invariant_of-result-in-Name t c =
+    record { depth_is = let w = ap parts_depth (path_parts c.in_ok-whole-in-Name.whole.path.parts) in omega (arith, c.in_ok-whole-in-Name.whole.depth_is, w) }
+
+pub read_operand-returns-in_ok-whole-in-Name-clause-reads : goal.read_operand-returns-in_ok-whole-in-Name-clause-reads
+read_operand-returns-in_ok-whole-in-Name-clause-reads t c =
+    name_is (read c.args.most) c.args.most (views c.args.tokens.now) (tokens.view c.in-Some.token.now) (views c.in-Some.rest.now) (ap views c.in-Some.ensures.cases.0)
+    (sym c.token_lead.ensures ∙ c.in-Name.is)
+    ∙ found-then _ _ _ _ c.in_ok-whole-in-Name.ensures.reads
+    ∙ ap (λ (x : Form). found (on_line c.in_ok-whole-in-Name.whole.path.line x) (views c.in_ok-whole-in-Name.rest.now)) (sym (path_form c.in_ok-whole-in-Name.whole.path))
+
+pub read_part-returns-in_default-clause-reads : goal.read_part-returns-in_default-clause-reads
+read_part-returns-in_default-clause-reads t c =
+    part_empty (read c.args.most) c.args.most (views c.args.tokens.now) (length-views c.args.tokens.now ∙ c.in_default.ensures.cases)
+
+pub read_part-returns-in_err-name-clause-reads : goal.read_part-returns-in_err-name-clause-reads
+read_part-returns-in_err-name-clause-reads t c =
+    let q = field_is (read c.args.most) c.args.most (views c.args.tokens.now) (tokens.view c.in-Some.token.now) (views c.in-Some.rest.now) (ap views c.in-Some.ensures.cases.0) (sym c.if-token_is_sign.ensures) in
+    let p = err_from_is_err_and c.from_residual.result c.from_residual.ensures.1 in
+    rw (p.1, p.2) (rw q (Fails-then c.in_err-name.field-0.0 _ _ c.in_err-name.ensures.reads))
+
+pub read_part-returns-then-token_is_sign-clause-reads : goal.read_part-returns-then-token_is_sign-clause-reads
+read_part-returns-then-token_is_sign-clause-reads t c =
+    field_is (read c.args.most) c.args.most (views c.args.tokens.now) (tokens.view c.in-Some.token.now) (views c.in-Some.rest.now) (ap views c.in-Some.ensures.cases.0) (sym c.if-token_is_sign.ensures) ∙ found-then _ _ _ _ c.in_ok-name.ensures.reads
+
+pub read_part-returns-then-not-token_is_sign-clause-reads : goal.read_part-returns-then-not-token_is_sign-clause-reads
+read_part-returns-then-not-token_is_sign-clause-reads t c =
+    part_other (read c.args.most) c.args.most (views c.args.tokens.now) (tokens.view c.in-Some.token.now) (views c.in-Some.rest.now) (ap views c.in-Some.ensures.cases.0) (sym c.if-token_is_sign.ensures) (sym c.token_is_sign-2.ensures ∙ c.if-not-token_is_sign.true) (length c.args.tokens.now) (sym (length-views c.args.tokens.now))
+
+pub read_part-returns-then-most-eq0-clause-reads : goal.read_part-returns-then-most-eq0-clause-reads
+read_part-returns-then-most-eq0-clause-reads t c =
+    index_deep (read c.args.most) c.args.most (views c.args.tokens.now) (tokens.view c.in-Some.token.now) (views c.in-Some.rest.now) (ap views c.in-Some.ensures.cases.0) (sym c.if-token_is_sign.ensures) (sym c.token_is_sign-2.ensures ∙ c.if-not-token_is_sign.false) c.if-most-eq0.true (length c.args.tokens.now) (sym (length-views c.args.tokens.now))
+
+pub read_part-returns-in_err-index-clause-reads : goal.read_part-returns-in_err-index-clause-reads
+read_part-returns-in_err-index-clause-reads t c =
+    let q = index_is (read c.args.most) c.args.most (views c.args.tokens.now) (tokens.view c.in-Some.token.now) (views c.in-Some.rest.now) (ap views c.in-Some.ensures.cases.0) (sym c.if-token_is_sign.ensures) (sym c.token_is_sign-2.ensures ∙ c.if-not-token_is_sign.false) (omega (arith, c.if-most-eq0.false)) in
+    let p = err_from_is_err_and c.from_residual-in_err-index.result c.from_residual-in_err-index.ensures.1 in
+    rw (p.1, p.2) (rw q (Fails-then c.in_err-index.field-0.0 _ _ c.in_err-index.ensures.reads))
+
+pub read_part-returns-clause-reads : goal.read_part-returns-clause-reads
+read_part-returns-clause-reads t c =
+    index_is (read c.args.most) c.args.most (views c.args.tokens.now) (tokens.view c.in-Some.token.now) (views c.in-Some.rest.now) (ap views c.in-Some.ensures.cases.0) (sym c.if-token_is_sign.ensures) (sym c.token_is_sign-2.ensures ∙ c.if-not-token_is_sign.false) (omega (arith, c.if-most-eq0.false))
+    ∙ found-then _ _ _ _ c.in_ok-index.ensures.reads
+
+pub read_parts-loop-alloc-init : goal.read_parts-loop-alloc-init
+read_parts-loop-alloc-init t c =
+    let e0 : c.new-items.result.items ≡ [] = c.new-items.ensures.items in (
+      omega arith,
+      ap (λ (l : List _). parts_depth (parts_of (map part_of l))) (sym e0),
+      omega arith,
+      length (views c.args.tokens.now),
+      (λ xs. xs),
+      omega arith,
+      (λ xs. ap (λ (l : List _). map part_of l ++ xs) (sym e0)),
+      parts_start (read c.args.most) c.args.most (views c.args.tokens.now),
+    )
+
+pub read_parts-returns-in_err-part-clause-reads : goal.read_parts-returns-in_err-part-clause-reads
+read_parts-returns-in_err-part-clause-reads t c =
+    let i = c.loop-alloc.invariant in
+    let f = sym c.loop-alloc-test.ensures in
+    let p = err_from_is_err_and c.from_residual.result c.from_residual.ensures.1 in
+    rw (p.1, p.2) (rw i.7 (rest_fails begins_part (read_part (read c.args.most) c.args.most) i.3 (views c.loop-alloc.rest.now) i.4 c.in_err-part.field-0.0 f
+    c.in_err-part.ensures.reads i.5 (first_some begins_part (views c.loop-alloc.rest.now) f)))
+
+pub read_parts-loop-alloc-preserved : goal.read_parts-loop-alloc-preserved
+read_parts-loop-alloc-preserved t c =
+    let i = c.loop-alloc.invariant in
+    let f = sym c.loop-alloc-test.ensures in
+    let a : Part = part_of c.in_ok-part.part in
+    let short : length (views c.in_ok-part.after.now) < length (views c.loop-alloc.rest.now)
+    = omega (arith, c.in_ok-part.ensures.shorter, length-views c.in_ok-part.after.now, length-views c.loop-alloc.rest.now) in
+    let q = rest_more begins_part (read_part (read c.args.most) c.args.most) i.3 (views c.loop-alloc.rest.now) (views c.in_ok-part.after.now) a i.4 f c.in_ok-part.ensures.reads i.5 short in
+    let e2 : c.push.new.self.items ≡ c.loop-alloc.items.items ++ c.in_ok-part.part ∷ [] = c.in_ok-push.ensures.items in
+    let d = parts_depth-push (map part_of c.loop-alloc.items.items) a in
+    let g : parts_depth (parts_of (map part_of c.push.new.self.items)) ≡ parts_depth (parts_of (map part_of c.loop-alloc.items.items ++ a ∷ []))
+    = ap (λ (l : List _). parts_depth (parts_of (map part_of l))) e2 ∙ ap (λ (l : List Part). parts_depth (parts_of l)) (map-last part_of c.loop-alloc.items.items c.in_ok-part.part) in (
+      omega (arith, i.0, c.in_ok-part.ensures.depth.1, c.max-depth.ensures),
+      omega (arith, c.max-depth.ensures, i.1, c.in_ok-part.ensures.depth.0, d, g),
+      omega (arith, i.2, c.in_ok-part.ensures.shorter),
+      q.0,
+      (λ xs. i.4 (a ∷ xs)),
+      q.1,
+      (λ xs. i.6 (a ∷ xs) ∙ map-last-more part_of c.loop-alloc.items.items c.in_ok-part.part xs ∙ ap (λ (l : List _). map part_of l ++ xs) (sym e2)),
+      i.7 ∙ q.2,
+    )
+
+pub read_parts-returns-clause-reads : goal.read_parts-returns-clause-reads
+read_parts-returns-clause-reads t c =
+    let i = c.loop-alloc.invariant in
+    i.7 ∙ rest_stops begins_part (read_part (read c.args.most) c.args.most) i.3 (views c.loop-alloc.rest.now) i.4 (sym c.loop-alloc-test.ensures)
+    ∙ ap (λ (z : _). found z (views c.loop-alloc.rest.now)) (i.6 [] ∙ append-nil (map part_of c.loop-alloc.items.items))
+
+pub read_path-returns-in_err-first-clause-reads : goal.read_path-returns-in_err-first-clause-reads
+read_path-returns-in_err-first-clause-reads t c =
+    let p = err_from_is_err_and c.from_residual.result c.from_residual.ensures.1 in
+    rw (p.1, p.2) (path_fails (read c.args.most) c.args.most (views c.args.tokens.now) c.in_err-first.field-0.0 c.in_err-first.ensures.reads)
+
+pub read_path-returns-in_err-parts-clause-reads : goal.read_path-returns-in_err-parts-clause-reads
+read_path-returns-in_err-parts-clause-reads t c =
+    let p = err_from_is_err_and c.from_residual-in_err-parts.result c.from_residual-in_err-parts.ensures.1 in
+    rw (p.1, p.2) (path_fails_after (read c.args.most) c.args.most (views c.args.tokens.now) c.in_ok-first.first (views c.in_ok-first.rest.now) c.in_err-parts.field-0.0 c.in_ok-first.ensures.reads c.in_err-parts.ensures.reads)
+
+pub read_path-returns-clause-reads : goal.read_path-returns-clause-reads
+read_path-returns-clause-reads t c =
+    path_found (read c.args.most) c.args.most (views c.args.tokens.now) c.in_ok-first.first (views c.in_ok-first.rest.now) (map part_of c.in_ok-parts.parts.items.items) (views c.in_ok-parts.rest.now) c.in_ok-first.ensures.reads c.in_ok-parts.ensures.reads
+    ∙ ap (λ (l : ℕ). found (path_on l c.in_ok-first.first (parts_of (map part_of c.in_ok-parts.parts.items.items))) (views c.in_ok-parts.rest.now)) (sym c.first_line-line.ensures)

@@ -2,11 +2,11 @@ use Rattle.std.proofs.Common.{◌≡◌, ◌≤◌, ◌<◌, ◌+◌, ◌*◌, �
 use Rattle.token_readers.specs.Reading.{both, headed}
 use Rattle.smv_lexer.specs.declared.sign.Sign.{Sign}
 use Rattle.smv_lexer.specs.View.{views}
-use Rattle.smv_parser.specs.Reading.{read, more, read_list, pair_of, read_arm, read_arms, arms_of, arms_pair_of, begins_expression}
-use Rattle.smv_parser.specs.Tree.{Tree, depth, trees_depth, trees_of, arms_depth}
+use Rattle.smv_parser.specs.Reading.{begins_part, read_part, read_parts, read, more, read_list, pair_of, read_arm, read_arms, arms_pair_of, begins_expression}
+use Rattle.smv_parser.specs.Tree.{Tree, Part, parts_of, parts_depth, depth, trees_depth, trees_of, arms_depth, arms_of}
 use Rattle.smv_parser.specs.Tests.{is_sign}
 use Rattle.smv_parser.proofs.Codes.{rest_of}
-use Rattle.smv_parser.specs.View.{tree_of, arm_pair}
+use Rattle.smv_parser.specs.View.{tree_of, arm_pair, part_of}
 use Rattle.smv_parser.proofs.reading.+reading.Given as goal
 
 abbrev pub decreases-read_closed : goal.decreases-read_closed
@@ -61,3 +61,23 @@ invariant-read_arms-loop-alloc l =
 
 abbrev pub decreases-read_arms-loop-alloc : goal.decreases-read_arms-loop-alloc
 decreases-read_arms-loop-alloc l = length l.rest
+
+abbrev pub decreases-read_part : goal.decreases-read_part
+decreases-read_part l = 6 * l.most + 2
+
+abbrev pub decreases-read_parts : goal.decreases-read_parts
+decreases-read_parts l = 6 * l.most + 3
+
+-- what was read so far, and the reading of the rest, are the reading of all
+abbrev pub invariant-read_parts-loop-alloc : goal.invariant-read_parts-loop-alloc
+invariant-read_parts-loop-alloc l =
+    (l.depth ≤ l.most) × (l.depth ≡ parts_depth (parts_of (map part_of l.items.items))) × (length l.rest ≤ length l.fn.tokens)
+    × (m : ℕ) × (k : List Part → List Part) × (length (views l.rest) ≤ m)
+    × ((xs : List Part) → k xs ≡ map part_of l.items.items ++ xs)
+    × (read_parts (read l.most) l.most (views l.fn.tokens) ≡ rest_of begins_part (read_part (read l.most) l.most) m (views l.rest) k)
+
+abbrev pub decreases-read_parts-loop-alloc : goal.decreases-read_parts-loop-alloc
+decreases-read_parts-loop-alloc l = length l.rest
+
+abbrev pub decreases-read_path : goal.decreases-read_path
+decreases-read_path l = 6 * l.most + 4
