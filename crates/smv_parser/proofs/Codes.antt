@@ -18,7 +18,7 @@ use Rattle.smv_parser.specs.Tree.{Tree, Form, PathTree, Part, field_part, index_
 use Rattle.smv_parser.specs.Words.{level_of, prefix_level}
 use Rattle.smv_parser.specs.Tests.{is_sign, is_key, word_in, name_of, lead_of, operator_of}
 use Rattle.smv_parser.proofs.TokenTests.{LeadIs, lead_is}
-use Rattle.smv_parser.specs.Reading.{is_dot, is_bracket, begins_part, part_tail, index_tail, part_by, read_part, read_parts, read_path, path_line, front_line, text_of, read_until, read_arm, read_arms, begins_expression, read_list, read_others, value_of, with_room, tail, operand_by, operand, operator_step, more, read, Stops, binary}
+use Rattle.smv_parser.specs.Reading.{is_dot, is_bracket, begins_part, part_tail, index_tail, part_by, read_part, read_parts, read_path, path_line, front_line, text_of, read_until, read_arm, read_arms, begins_expression, read_list, read_others, value_of, opens, constant_by, constant_form, with_room, tail, operand_by, operand, operator_step, more, read, Stops, binary}
 use Rattle.smv_parser.specs.declared.reader.Failure.{Failure}
 use Rattle.smv_parser.specs.declared.reader.Failure.TheVariants as failures
 use Rattle.smv_parser.specs.Gives.{Gives, GivesRest, Fails, IsSyntaxError, IsTooDeep}
@@ -93,51 +93,78 @@ unfolding operand switch
 operand_empty reader b [] h = refl
 operand_empty reader b (t ∷ s) h = absurd (omega arith)
 
-pub operand_other : (reader : ℕ → List Placed → Reading Placed Tree) (b : ℕ) (s : List Placed) (t : Placed) (v : List Placed) → s ≡ t ∷ v → lead_of t ≡ Lead.Other
-    → (n : ℕ) → n ≡ length s → IsSyntaxError n (operand reader b s)
-unfolding operand_by
-operand_other reader b s t v first led n l = subst (λ (x : Reading Placed Tree). IsSyntaxError n x) (sym (operand_is reader b s t v first Lead.Other led)) (ap length (sym first) ∙ sym l)
+-- what an operand has after its first token
+module _ (reader : ℕ → List Placed → Reading Placed Tree) (b : ℕ) (t : Placed) (v : List Placed) where
+  pub parens_is : lead_of t ≡ Lead.Parens → tail reader b (lead_of t) t v ≡ (enclosed (is_sign Sign.CloseParen) (reader 1) v >>= λ e r. found (on_line t.line (Form.parens e)) r)
+  unfolding tail
+  parens_is led = ap (λ (i : Lead). tail reader b i t v) led
 
--- the alternatives as they are read
-pub running_is : (reader : ℕ → List Placed → Reading Placed Tree) (b : ℕ) (s : List Placed) (t : Placed) (v : List Placed) → s ≡ t ∷ v → lead_of t ≡ Lead.Running
-    → operand reader b s ≡ found (on_line t.line Form.running) v
-unfolding operand_by tail
-running_is reader b s t v first led = open_is reader b s t v first Lead.Running led (λ s. refl)
+  pub next_is : lead_of t ≡ Lead.Next → tail reader b (lead_of t) t v ≡ (headed (is_sign Sign.OpenParen) (enclosed (is_sign Sign.CloseParen) (reader 1)) v >>= λ e r. found (on_line t.line (Form.next e)) r)
+  unfolding tail
+  next_is led = ap (λ (i : Lead). tail reader b i t v) led
 
-pub truth_is : (reader : ℕ → List Placed → Reading Placed Tree) (b : ℕ) (s : List Placed) (t : Placed) (v : List Placed) (x : Bool) → s ≡ t ∷ v → lead_of t ≡ Lead.Truth x
-    → operand reader b s ≡ found (on_line t.line (Form.truth x)) v
-unfolding operand_by tail
-truth_is reader b s t v x first led = open_is reader b s t v first (Lead.Truth x) led (λ s. refl)
+  pub prefix_is : (o : PrefixOperator) → lead_of t ≡ Lead.Prefix o → tail reader b (lead_of t) t v ≡ (reader prefix_level v >>= λ e r. found (on_line t.line (Form.prefix o e)) r)
+  unfolding tail
+  prefix_is o led = ap (λ (i : Lead). tail reader b i t v) led
 
-pub parens_is : (reader : ℕ → List Placed → Reading Placed Tree) (b : ℕ) (s : List Placed) (t : Placed) (v : List Placed) → s ≡ t ∷ v → lead_of t ≡ Lead.Parens → 1 ≤ b
-    → operand reader b s ≡ (enclosed (is_sign Sign.CloseParen) (reader 1) v >>= λ e r. found (on_line t.line (Form.parens e)) r)
-unfolding operand_by tail
-parens_is reader b s t v first led h = gated_is reader b s t v first Lead.Parens led (λ s. refl) h
+  pub braces_is : lead_of t ≡ Lead.Braces → tail reader b (lead_of t) t v ≡ (enclosed (is_sign Sign.CloseBrace) (read_list reader b) v >>= λ es r. found (on_line t.line (Form.braces (trees_of (es.0 ∷ es.1)))) r)
+  unfolding tail
+  braces_is led = ap (λ (i : Lead). tail reader b i t v) led
 
-pub parens_deep : (reader : ℕ → List Placed → Reading Placed Tree) (b : ℕ) (s : List Placed) (t : Placed) (v : List Placed) → s ≡ t ∷ v → lead_of t ≡ Lead.Parens → b ≡ 0
-    → (n : ℕ) → n ≡ length s → IsTooDeep n (operand reader b s)
-unfolding operand_by tail
-parens_deep reader b s t v first led z n l = gated_deep reader b s t v first Lead.Parens led (λ s. refl) z n l
+  pub until_is : (w : PathQuantifier) → lead_of t ≡ Lead.Until w → tail reader b (lead_of t) t v ≡ (headed (is_sign Sign.OpenBracket) (read_until reader b) v >>= λ es r. found (on_line t.line (Form.until w es.0 es.1)) r)
+  unfolding tail
+  until_is w led = ap (λ (i : Lead). tail reader b i t v) led
 
-pub next_is : (reader : ℕ → List Placed → Reading Placed Tree) (b : ℕ) (s : List Placed) (t : Placed) (v : List Placed) → s ≡ t ∷ v → lead_of t ≡ Lead.Next → 1 ≤ b
-    → operand reader b s ≡ (headed (is_sign Sign.OpenParen) (enclosed (is_sign Sign.CloseParen) (reader 1)) v >>= λ e r. found (on_line t.line (Form.next e)) r)
-unfolding operand_by tail
-next_is reader b s t v first led h = gated_is reader b s t v first Lead.Next led (λ s. refl) h
+  pub case_is : lead_of t ≡ Lead.Case → tail reader b (lead_of t) t v ≡ (enclosed (is_key Keyword.Esac) (both (read_arm reader b) (read_arms reader b)) v >>= λ arms r. found (on_line t.line (Form.cases (arms_of (arms.0 ∷ arms.1)))) r)
+  unfolding tail
+  case_is led = ap (λ (i : Lead). tail reader b i t v) led
 
-pub next_deep : (reader : ℕ → List Placed → Reading Placed Tree) (b : ℕ) (s : List Placed) (t : Placed) (v : List Placed) → s ≡ t ∷ v → lead_of t ≡ Lead.Next → b ≡ 0
-    → (n : ℕ) → n ≡ length s → IsTooDeep n (operand reader b s)
-unfolding operand_by tail
-next_deep reader b s t v first led z n l = gated_deep reader b s t v first Lead.Next led (λ s. refl) z n l
+-- an operand by its first token
+module _ (reader : ℕ → List Placed → Reading Placed Tree) (b : ℕ) (s : List Placed) (t : Placed) (v : List Placed) (first : s ≡ t ∷ v) where
+  opened : 1 ≤ b → (i : Lead) → lead_of t ≡ i → opens i ≡ true → operand reader b s ≡ tail reader b i t v
+  unfolding operand_by
+  opened h Lead.Next led o = gated_is reader b s t v first Lead.Next led (λ s. refl) h
+  opened h Lead.Parens led o = gated_is reader b s t v first Lead.Parens led (λ s. refl) h
+  opened h Lead.Braces led o = gated_is reader b s t v first Lead.Braces led (λ s. refl) h
+  opened h Lead.Case led o = gated_is reader b s t v first Lead.Case led (λ s. refl) h
+  opened h (Lead.Until q) led o = gated_is reader b s t v first (Lead.Until q) led (λ s. refl) h
+  opened h (Lead.Prefix p) led o = gated_is reader b s t v first (Lead.Prefix p) led (λ s. refl) h
+  opened h _ led o = absurd cc
 
-pub prefix_is : (reader : ℕ → List Placed → Reading Placed Tree) (b : ℕ) (s : List Placed) (t : Placed) (v : List Placed) (o : PrefixOperator) → s ≡ t ∷ v → lead_of t ≡ Lead.Prefix o → 1 ≤ b
-    → operand reader b s ≡ (reader prefix_level v >>= λ e r. found (on_line t.line (Form.prefix o e)) r)
-unfolding operand_by tail
-prefix_is reader b s t v o first led h = gated_is reader b s t v first (Lead.Prefix o) led (λ s. refl) h
+  pub opened_is : 1 ≤ b → opens (lead_of t) ≡ true → operand reader b s ≡ tail reader b (lead_of t) t v
+  opened_is h o = opened h (lead_of t) refl o
 
-pub prefix_deep : (reader : ℕ → List Placed → Reading Placed Tree) (b : ℕ) (s : List Placed) (t : Placed) (v : List Placed) (o : PrefixOperator) → s ≡ t ∷ v → lead_of t ≡ Lead.Prefix o → b ≡ 0
-    → (n : ℕ) → n ≡ length s → IsTooDeep n (operand reader b s)
-unfolding operand_by tail
-prefix_deep reader b s t v o first led z n l = gated_deep reader b s t v first (Lead.Prefix o) led (λ s. refl) z n l
+  deep : b ≡ 0 → (n : ℕ) → n ≡ length s → (i : Lead) → lead_of t ≡ i → opens i ≡ true → IsTooDeep n (operand reader b s)
+  unfolding operand_by
+  deep z n l Lead.Next led o = gated_deep reader b s t v first Lead.Next led (λ s. refl) z n l
+  deep z n l Lead.Parens led o = gated_deep reader b s t v first Lead.Parens led (λ s. refl) z n l
+  deep z n l Lead.Braces led o = gated_deep reader b s t v first Lead.Braces led (λ s. refl) z n l
+  deep z n l Lead.Case led o = gated_deep reader b s t v first Lead.Case led (λ s. refl) z n l
+  deep z n l (Lead.Until q) led o = gated_deep reader b s t v first (Lead.Until q) led (λ s. refl) z n l
+  deep z n l (Lead.Prefix p) led o = gated_deep reader b s t v first (Lead.Prefix p) led (λ s. refl) z n l
+  deep z n l _ led o = absurd cc
+
+  pub opened_deep : b ≡ 0 → opens (lead_of t) ≡ true → (n : ℕ) → n ≡ length s → IsTooDeep n (operand reader b s)
+  opened_deep z o n l = deep z n l (lead_of t) refl o
+
+  constant_at : (f : Form) (i : Lead) → lead_of t ≡ i → constant_by i t ≡ Some f → operand reader b s ≡ found (on_line t.line f) v
+  unfolding operand_by tail
+  constant_at f Lead.Number led h = open_is reader b s t v first Lead.Number led (λ s. refl) ∙ (let q : Form.number (value_of t) ≡ f = cc in ap (λ (x : Form). found (on_line t.line x) v) q)
+  constant_at f (Lead.Truth w) led h = open_is reader b s t v first (Lead.Truth w) led (λ s. refl) ∙ (let q : Form.truth w ≡ f = cc in ap (λ (x : Form). found (on_line t.line x) v) q)
+  constant_at f Lead.Running led h = open_is reader b s t v first Lead.Running led (λ s. refl) ∙ (let q : Form.running ≡ f = cc in ap (λ (x : Form). found (on_line t.line x) v) q)
+  constant_at f _ led h = absurd cc
+
+  pub constant_is : (f : Form) → constant_form t ≡ Some f → operand reader b s ≡ found (on_line t.line f) v
+  constant_is f h = constant_at f (lead_of t) refl h
+
+  no_operand : (n : ℕ) → n ≡ length s → (i : Lead) → lead_of t ≡ i → opens i ≡ false → (i ≡ Lead.Name → ⊥) → constant_by i t ≡ None → IsSyntaxError n (operand reader b s)
+  unfolding operand_by
+  no_operand n l Lead.Other led o m h = subst (λ (x : Reading Placed Tree). IsSyntaxError n x) (sym (operand_is reader b s t v first Lead.Other led)) (ap length (sym first) ∙ sym l)
+  no_operand n l Lead.Name led o m h = absurd (m refl)
+  no_operand n l _ led o m h = absurd cc
+
+  pub operand_other : opens (lead_of t) ≡ false → (lead_of t ≡ Lead.Name → ⊥) → constant_form t ≡ None → (n : ℕ) → n ≡ length s → IsSyntaxError n (operand reader b s)
+  operand_other o m h n l = no_operand n l (lead_of t) refl o m h
 
 -- operators
 
@@ -208,21 +235,6 @@ pub until_found : (reader : ℕ → List Placed → Reading Placed Tree) (b : �
 unfolding read_until
 until_found reader b s = refl
 
-pub number_is : (reader : ℕ → List Placed → Reading Placed Tree) (b : ℕ) (s : List Placed) (t : Placed) (v : List Placed) → s ≡ t ∷ v → lead_of t ≡ Lead.Number
-    → operand reader b s ≡ found (on_line t.line (Form.number (value_of t))) v
-unfolding operand_by tail
-number_is reader b s t v first led = open_is reader b s t v first Lead.Number led (λ s. refl)
-
-pub until_is : (reader : ℕ → List Placed → Reading Placed Tree) (b : ℕ) (s : List Placed) (t : Placed) (v : List Placed) (w : PathQuantifier) → s ≡ t ∷ v → lead_of t ≡ Lead.Until w → 1 ≤ b
-    → operand reader b s ≡ (headed (is_sign Sign.OpenBracket) (read_until reader b) v >>= λ es r. found (on_line t.line (Form.until w es.0 es.1)) r)
-unfolding operand_by tail
-until_is reader b s t v w first led h = gated_is reader b s t v first (Lead.Until w) led (λ s. refl) h
-
-pub until_deep : (reader : ℕ → List Placed → Reading Placed Tree) (b : ℕ) (s : List Placed) (t : Placed) (v : List Placed) (w : PathQuantifier) → s ≡ t ∷ v → lead_of t ≡ Lead.Until w → b ≡ 0
-    → (n : ℕ) → n ≡ length s → IsTooDeep n (operand reader b s)
-unfolding operand_by tail
-until_deep reader b s t v w first led z n l = gated_deep reader b s t v first (Lead.Until w) led (λ s. refl) z n l
-
 -- items as long as the first token passes p, and k of them
 module _ {A B : Type 0} (p : Placed → Bool) (item : List Placed → Reading Placed A) where
   unfoldable pub rest_of : ℕ → List Placed → (List A → B) → Reading Placed B
@@ -267,16 +279,6 @@ pub list_fails : (reader : ℕ → List Placed → Reading Placed Tree) (b : ℕ
 unfolding read_list read_others both
 list_fails reader b s e h = Fails-then e (reader 1 s) (λ x r. many (is_sign Sign.Comma) (headed (is_sign Sign.Comma) (reader 1)) (length r) r >>= λ y v. found (x, y) v) h
 
-pub braces_is : (reader : ℕ → List Placed → Reading Placed Tree) (b : ℕ) (s : List Placed) (t : Placed) (v : List Placed) → s ≡ t ∷ v → lead_of t ≡ Lead.Braces → 1 ≤ b
-    → operand reader b s ≡ (enclosed (is_sign Sign.CloseBrace) (read_list reader b) v >>= λ es r. found (on_line t.line (Form.braces (trees_of (es.0 ∷ es.1)))) r)
-unfolding operand_by tail
-braces_is reader b s t v first led h = gated_is reader b s t v first Lead.Braces led (λ s. refl) h
-
-pub braces_deep : (reader : ℕ → List Placed → Reading Placed Tree) (b : ℕ) (s : List Placed) (t : Placed) (v : List Placed) → s ≡ t ∷ v → lead_of t ≡ Lead.Braces → b ≡ 0
-    → (n : ℕ) → n ≡ length s → IsTooDeep n (operand reader b s)
-unfolding operand_by tail
-braces_deep reader b s t v first led z n l = gated_deep reader b s t v first Lead.Braces led (λ s. refl) z n l
-
 pub first_some : (p : Placed → Bool) (s : List Placed) → first_is p s ≡ true → 1 ≤ length s
 first_some p [] h = absurd cc
 first_some p (t ∷ s) h = omega arith
@@ -289,16 +291,6 @@ pub arms_start : (reader : ℕ → List Placed → Reading Placed Tree) (b : ℕ
     → both (read_arm reader b) (read_arms reader b) s ≡ rest_of begins_expression (read_arm reader b) (length r) r (λ xs. (x, xs))
 unfolding read_arms both rest_of
 arms_start reader b s r x h = found-then (read_arm reader b s) x r (λ x r. many begins_expression (read_arm reader b) (length r) r >>= λ y v. found (x, y) v) h
-
-pub case_is : (reader : ℕ → List Placed → Reading Placed Tree) (b : ℕ) (s : List Placed) (t : Placed) (v : List Placed) → s ≡ t ∷ v → lead_of t ≡ Lead.Case → 1 ≤ b
-    → operand reader b s ≡ (enclosed (is_key Keyword.Esac) (both (read_arm reader b) (read_arms reader b)) v >>= λ arms r. found (on_line t.line (Form.cases (arms_of (arms.0 ∷ arms.1)))) r)
-unfolding operand_by tail
-case_is reader b s t v first led h = gated_is reader b s t v first Lead.Case led (λ s. refl) h
-
-pub case_deep : (reader : ℕ → List Placed → Reading Placed Tree) (b : ℕ) (s : List Placed) (t : Placed) (v : List Placed) → s ≡ t ∷ v → lead_of t ≡ Lead.Case → b ≡ 0
-    → (n : ℕ) → n ≡ length s → IsTooDeep n (operand reader b s)
-unfolding operand_by tail
-case_deep reader b s t v first led z n l = gated_deep reader b s t v first Lead.Case led (λ s. refl) z n l
 
 -- paths
 

@@ -6,7 +6,7 @@ use Rattle.smv_lexer.specs.Text.{Placed}
 use Rattle.smv_parser.specs.declared.expressions.BinaryOperator.{BinaryOperator}
 use Rattle.smv_parser.specs.declared.expressions.PrefixOperator.{PrefixOperator}
 use Rattle.smv_parser.specs.Grammar.{Derives}
-use Rattle.smv_parser.specs.Rules.{IsNode, IsPrefix, Chain, Prefixed, Trailing, Level}
+use Rattle.smv_parser.specs.Rules.{IsNode, IsPrefix, Chain, Prefixed, Open, Level}
 use Rattle.smv_parser.specs.Tree.{Tree, Form, on_line}
 use Rattle.smv_parser.specs.Words.{level_of, prefix_level, prefix_word, Is, BeginsOn}
 use Rattle.smv_parser.proofs.Follow.{EndsInPrefix, Derives-level, Derives-weaker, loosen, tighten}
@@ -53,17 +53,17 @@ mutual
   prefixed-to : (ts : List Placed) (x : Tree) → Prefixed ts x → (k : ℕ) → Derives false k ts x
   prefixed-to ts x (Prefixed.prefixed u a e y n d) k = prefix-to k u a e y n (level-to 4 a e d)
 
-  trailing-to : (k : ℕ) (ts : List Placed) (x : Tree) → Trailing k ts x → Derives false k ts x
-  trailing-to k ts x (Trailing.ends j u a e b f y h h' n d p) =
+  open-to : (k : ℕ) (ts : List Placed) (x : Tree) → Open k ts x → Derives false k ts x
+  open-to k ts x (Open.ends j u a e b f y h h' n d p) =
       node-to false j u a e b f y n (subst (λ (g : Bool). Derives g j a e) (sym (is_tight j (omega arith))) (chain-to j a e d)) (prefixed-to b f p (j + 1))
-  trailing-to k ts x (Trailing.goes_on j u a e b f y h h' n d p) =
-      node-to false j u a e b f y n (subst (λ (g : Bool). Derives g j a e) (sym (is_tight j (omega arith))) (chain-to j a e d)) (trailing-to (j + 1) b f p)
-  trailing-to k ts x (Trailing.above j u y h h' d) = weaker false (j + 1) j u y (omega arith) (trailing-to (j + 1) u y d)
+  open-to k ts x (Open.goes_on j u a e b f y h h' n d p) =
+      node-to false j u a e b f y n (subst (λ (g : Bool). Derives g j a e) (sym (is_tight j (omega arith))) (chain-to j a e d)) (open-to (j + 1) b f p)
+  open-to k ts x (Open.above j u y h h' d) = weaker false (j + 1) j u y (omega arith) (open-to (j + 1) u y d)
 
   pub level-to : (k : ℕ) (ts : List Placed) (x : Tree) → Level k ts x → Derives false k ts x
   level-to k ts x (Level.with_prefix u y p) = prefixed-to u y p 4
   level-to k ts x (Level.chain u y d) = weaker false 5 4 u y (omega arith) (loosen true 5 u y (chain-to 5 u y d))
-  level-to k ts x (Level.trailing u y d) = weaker false 5 4 u y (omega arith) (trailing-to 5 u y d)
+  level-to k ts x (Level.open_chain u y d) = weaker false 5 4 u y (omega arith) (open-to 5 u y d)
   level-to k ts x (Level.lone j u y h h' d) = weaker false (j + 1) j u y (omega arith) (level-to (j + 1) u y d)
   level-to k ts x (Level.joined j u a e b f y h h' n d d') =
       node-to false j u a e b f y n (subst (λ (g : Bool). Derives g j a e) (sym (is_loose j (omega arith))) (level-to j a e d)) (level-to (j + 1) b f d')
@@ -88,14 +88,14 @@ chain-climb (suc n) k ts x h h' d =
 chain-at : (j k : ℕ) (ts : List Placed) (x : Tree) → 5 ≤ k → k ≤ j → j ≤ 11 → Chain j ts x → Chain k ts x
 chain-at j k ts x h h' h'' d = let q : j ≡ k + (j - k) = omega arith in chain-climb (j - k) k ts x h (omega arith) (subst (λ (m : ℕ). Chain m ts x) q d)
 
-trailing-climb : (n k : ℕ) (ts : List Placed) (x : Tree) → 5 ≤ k → k + n ≤ 10 → Trailing (k + n) ts x → Trailing k ts x
-trailing-climb zero k ts x h h' d = let q : k + zero ≡ k = omega arith in subst (λ (j : ℕ). Trailing j ts x) q d
-trailing-climb (suc n) k ts x h h' d =
+open-climb : (n k : ℕ) (ts : List Placed) (x : Tree) → 5 ≤ k → k + n ≤ 10 → Open (k + n) ts x → Open k ts x
+open-climb zero k ts x h h' d = let q : k + zero ≡ k = omega arith in subst (λ (j : ℕ). Open j ts x) q d
+open-climb (suc n) k ts x h h' d =
     let q : k + suc n ≡ (k + 1) + n = omega arith in
-    Trailing.above k ts x h (omega arith) (trailing-climb n (k + 1) ts x (omega arith) (omega arith) (subst (λ (j : ℕ). Trailing j ts x) q d))
+    Open.above k ts x h (omega arith) (open-climb n (k + 1) ts x (omega arith) (omega arith) (subst (λ (j : ℕ). Open j ts x) q d))
 
-trailing-at : (j k : ℕ) (ts : List Placed) (x : Tree) → 5 ≤ k → k ≤ j → j ≤ 10 → Trailing j ts x → Trailing k ts x
-trailing-at j k ts x h h' h'' d = let q : j ≡ k + (j - k) = omega arith in trailing-climb (j - k) k ts x h (omega arith) (subst (λ (m : ℕ). Trailing m ts x) q d)
+open-at : (j k : ℕ) (ts : List Placed) (x : Tree) → 5 ≤ k → k ≤ j → j ≤ 10 → Open j ts x → Open k ts x
+open-at j k ts x h h' h'' d = let q : j ≡ k + (j - k) = omega arith in open-climb (j - k) k ts x h (omega arith) (subst (λ (m : ℕ). Open m ts x) q d)
 
 level-climb : (n k : ℕ) (ts : List Placed) (x : Tree) → 1 ≤ k → k + n ≤ 4 → Level (k + n) ts x → Level k ts x
 level-climb zero k ts x h h' d = let q : k + zero ≡ k = omega arith in subst (λ (j : ℕ). Level j ts x) q d
@@ -147,26 +147,26 @@ FromLevel x = (ts : List Placed) → Derives false 4 ts x → Level 4 ts x
 abbrev FromPrefixed : Tree → Type 0
 FromPrefixed x = (k : ℕ) (ts : List Placed) → BeginsWithPrefix x → Derives false k ts x → Prefixed ts x
 
-abbrev FromTrailing : Tree → Type 0
-FromTrailing x = (k : ℕ) (ts : List Placed) → 5 ≤ k → k ≤ 10 → HasOperator x → EndsInPrefix x → Derives false k ts x → Trailing k ts x
+abbrev FromOpen : Tree → Type 0
+FromOpen x = (k : ℕ) (ts : List Placed) → 5 ≤ k → k ≤ 10 → HasOperator x → EndsInPrefix x → Derives false k ts x → Open k ts x
 
-trailing_node : (l : ℕ) (o : BinaryOperator) (e f : Tree) → FromPrefixed f → FromTrailing f → FromTrailing (on_line l (Form.binary o e f))
-trailing_node l o e f of_prefixed of_trailing k ts h h' has en (n, (t, a, b, q, i, j, d, d')) =
+open_node : (l : ℕ) (o : BinaryOperator) (e f : Tree) → FromPrefixed f → FromOpen f → FromOpen (on_line l (Form.binary o e f))
+open_node l o e f of_prefixed of_open k ts h h' has en (n, (t, a, b, q, i, j, d, d')) =
     let m = most_level o in
     let left : Chain (level_of o) a e = chain-from (level_of o) a e (omega arith) (omega arith) (subst (λ (g : Bool). Derives g (level_of o) a e) (is_tight (level_of o) (omega arith)) d) in
     let node : IsNode (level_of o) ts a e b f (on_line l (Form.binary o e f)) = as_node l o e f ts t a b n q i in
-    trailing-at (level_of o) k ts (on_line l (Form.binary o e f)) h j m (⊎_elim
+    open-at (level_of o) k ts (on_line l (Form.binary o e f)) h j m (⊎_elim
     (λ r. let w = operator_level false (level_of o + 1) b f r d' in
-    Trailing.goes_on (level_of o) ts a e b f (on_line l (Form.binary o e f)) (omega arith) (omega arith) node left (of_trailing (level_of o + 1) b (omega arith) (omega arith) r en d'))
-    (λ r. Trailing.ends (level_of o) ts a e b f (on_line l (Form.binary o e f)) (omega arith) m node left (of_prefixed (level_of o + 1) b r d'))
+    Open.goes_on (level_of o) ts a e b f (on_line l (Form.binary o e f)) (omega arith) (omega arith) node left (of_open (level_of o + 1) b (omega arith) (omega arith) r en d'))
+    (λ r. Open.ends (level_of o) ts a e b f (on_line l (Form.binary o e f)) (omega arith) m node left (of_prefixed (level_of o + 1) b r d'))
     (which f en))
 
-level_node : (l : ℕ) (o : BinaryOperator) (e f : Tree) → FromTrailing (on_line l (Form.binary o e f)) → FromLevel (on_line l (Form.binary o e f))
-level_node l o e f of_trailing ts d =
+level_node : (l : ℕ) (o : BinaryOperator) (e f : Tree) → FromOpen (on_line l (Form.binary o e f)) → FromLevel (on_line l (Form.binary o e f))
+level_node l o e f of_open ts d =
     let x : Tree = on_line l (Form.binary o e f) in
     let five : Derives false 5 ts x = Derives-weaker false 4 5 ts x (above_four o (Derives-level false 4 4 ts x (omega arith) d)) d in
     ⊎_elim
-    (λ r. Level.trailing ts x (of_trailing 5 ts (omega arith) (omega arith) tt r five))
+    (λ r. Level.open_chain ts x (of_open 5 ts (omega arith) (omega arith) tt r five))
     (λ r. Level.chain ts x (chain-from 5 ts x (omega arith) (omega arith) (tighten false 5 ts x (omega arith) five r)))
     (ends_or_not x)
 
@@ -175,11 +175,11 @@ prefixed_made l o e of_level k ts p (n, (t, a, q, i, loose, d)) =
     let on : t.line ≡ l = subst (BeginsOn l) q n in
     Prefixed.prefixed ts a e (on_line l (Form.prefix o e)) (record { operator = o; token = t; split = q; is_operator = i; tree = ap (λ (m : ℕ). on_line m (Form.prefix o e)) (sym on) }) (of_level a d)
 
-all-from : (x : Tree) → FromLevel x × FromPrefixed x × FromTrailing x
+all-from : (x : Tree) → FromLevel x × FromPrefixed x × FromOpen x
 all-from (on_line l (Form.binary o e f)) =
     let r = all-from f in
-    let of_trailing : FromTrailing (on_line l (Form.binary o e f)) = trailing_node l o e f r.1 r.2 in
-    (level_node l o e f of_trailing, (λ k ts p d. absurd p), of_trailing)
+    let of_open : FromOpen (on_line l (Form.binary o e f)) = open_node l o e f r.1 r.2 in
+    (level_node l o e f of_open, (λ k ts p d. absurd p), of_open)
 all-from (on_line l (Form.prefix o e)) =
     let r = all-from e in
     let made : FromPrefixed (on_line l (Form.prefix o e)) = prefixed_made l o e r.0 in

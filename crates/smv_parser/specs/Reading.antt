@@ -57,6 +57,26 @@ abbrev pub leads : Lead → Bool
 leads Lead.Other = false
 leads _ = true
 
+-- expressions stand after it
+abbrev pub opens : Lead → Bool
+opens Lead.Next = true
+opens Lead.Parens = true
+opens Lead.Braces = true
+opens Lead.Case = true
+opens (Lead.Until q) = true
+opens (Lead.Prefix o) = true
+opens _ = false
+
+-- the form of an operand that is this one token
+abbrev pub constant_by : Lead → Placed → Option Form
+constant_by Lead.Number t = Some (Form.number (value_of t))
+constant_by (Lead.Truth v) t = Some (Form.truth v)
+constant_by Lead.Running t = Some Form.running
+constant_by _ t = None
+
+abbrev pub constant_form : Placed → Option Form
+constant_form t = constant_by (lead_of t) t
+
 abbrev pub begins_expression : Placed → Bool
 begins_expression t = leads (lead_of t)
 

@@ -40,18 +40,18 @@ mutual
     prefixed : (ts a : List Placed) (e x : Tree) → IsPrefix ts a e x → Level 4 a e → Prefixed ts x
 
   -- a chain of level k, an operator of its level, and then a prefix operator, or the same of a higher level
-  pub data Trailing : ℕ → List Placed → Tree → Type 0 where
+  pub data Open : ℕ → List Placed → Tree → Type 0 where
     ends : (k : ℕ) (ts a : List Placed) (e : Tree) (b : List Placed) (f x : Tree) → 5 ≤ k → k ≤ 10
-        → IsNode k ts a e b f x → Chain k a e → Prefixed b f → Trailing k ts x
+        → IsNode k ts a e b f x → Chain k a e → Prefixed b f → Open k ts x
     goes_on : (k : ℕ) (ts a : List Placed) (e : Tree) (b : List Placed) (f x : Tree) → 5 ≤ k → k ≤ 9
-        → IsNode k ts a e b f x → Chain k a e → Trailing (k + 1) b f → Trailing k ts x
-    above : (k : ℕ) (ts : List Placed) (x : Tree) → 5 ≤ k → k ≤ 9 → Trailing (k + 1) ts x → Trailing k ts x
+        → IsNode k ts a e b f x → Chain k a e → Open (k + 1) b f → Open k ts x
+    above : (k : ℕ) (ts : List Placed) (x : Tree) → 5 ≤ k → k ≤ 9 → Open (k + 1) ts x → Open k ts x
 
   -- level 4, and below it chains by `&`, by `|`, and by `->` and `<->`
   pub data Level : ℕ → List Placed → Tree → Type 0 where
     with_prefix : (ts : List Placed) (x : Tree) → Prefixed ts x → Level 4 ts x
     chain : (ts : List Placed) (x : Tree) → Chain 5 ts x → Level 4 ts x
-    trailing : (ts : List Placed) (x : Tree) → Trailing 5 ts x → Level 4 ts x
+    open_chain : (ts : List Placed) (x : Tree) → Open 5 ts x → Level 4 ts x
     lone : (k : ℕ) (ts : List Placed) (x : Tree) → 1 ≤ k → k ≤ 3 → Level (k + 1) ts x → Level k ts x
     joined : (k : ℕ) (ts a : List Placed) (e : Tree) (b : List Placed) (f x : Tree) → 1 ≤ k → k ≤ 3
         → IsNode k ts a e b f x → Level k a e → Level (k + 1) b f → Level k ts x

@@ -1,17 +1,17 @@
 //! The reader of expressions.
 
-ghost use Rattle.std.specs.Prelude.{◌≡◌, ◌≤◌, ◌<◌, ◌+◌, ◌∷◌, ℕ, List, length, map, max, IfOk, IfSome, IfNone, Some};
+ghost use Rattle.std.specs.Prelude.{◌≡◌, ◌≤◌, ◌<◌, ◌+◌, ◌∷◌, ℕ, List, length, map, max, IfOk, IfSome, IfNone, Some, None, true};
 ghost use Rattle.token_readers.specs.Reading.{both, enclosed, first_is};
 ghost use Rattle.smv_lexer.specs.Text.{Placed};
 ghost use Rattle.smv_lexer.specs.View.{views};
 ghost use Rattle.smv_parser.specs.Gives.{Gives};
 ghost use Rattle.smv_lexer.specs.View as tokens;
 ghost use Rattle.smv_parser.specs.Reading as reading;
-ghost use Rattle.smv_parser.specs.Reading.{Stops, arms_pair_of, begins_expression, begins_part, leads, operand, pair_of, read, value_of};
-ghost use Rattle.smv_parser.specs.Tests.{is_sign, operator_of};
+ghost use Rattle.smv_parser.specs.Reading.{Stops, arms_pair_of, begins_expression, begins_part, constant_form, leads, opens, operand, pair_of, read, tail, value_of};
+ghost use Rattle.smv_parser.specs.Tests.{is_sign, lead_of, operator_of};
 ghost use Rattle.smv_parser.specs.Tree;
 ghost use Rattle.smv_parser.specs.Tree.{arms_of, part_depth, parts_of};
-ghost use Rattle.smv_parser.specs.View.{arm_pair, part_of, path_of, tree_of};
+ghost use Rattle.smv_parser.specs.View.{arm_pair, form, part_of, path_of, tree_of};
 ghost use Rattle.smv_parser.specs.Words.{level_of};
 
 use crate::expressions::{Arm, BinaryOperator, Expr, ExprKind, Path, PathPart};
@@ -115,6 +115,37 @@ fn goes_on_path(tokens: &[Token]) -> bool
         Some((token, _)) => {
             token_is_sign(token, Sign::Dot) || token_is_sign(token, Sign::OpenBracket)
         }
+    }
+}
+
+/// Whether a token that leads so has expressions after it.
+fn opens_parts(lead: Lead) -> bool
+    ensures { result ≡ opens lead }
+{
+    match lead {
+        Lead::Name | Lead::Number | Lead::Truth(_) | Lead::Running | Lead::Other => false,
+        Lead::Next | Lead::Parens | Lead::Braces | Lead::Case | Lead::Until(_) | Lead::Prefix(_) =>
+            true,
+    }
+}
+
+/// The operand that is this one token.
+fn constant(token: &Token) -> Option<ExprKind>
+    ensures some { IfSome result (λ k. constant_form (tokens.view token.now) ≡ Some (form k)) }
+    ensures none { IfNone result (constant_form (tokens.view token.now) ≡ None) }
+{
+    match token_lead(token) {
+        Lead::Number => Some(ExprKind::Number(number(token))),
+        Lead::Truth(value) => Some(ExprKind::Truth(value)),
+        Lead::Running => Some(ExprKind::Running),
+        Lead::Name
+        | Lead::Other
+        | Lead::Next
+        | Lead::Parens
+        | Lead::Braces
+        | Lead::Case
+        | Lead::Until(_)
+        | Lead::Prefix(_) => None,
     }
 }
 
@@ -306,7 +337,75 @@ pub fn read_path(
     Ok((WholePath { path, depth }, rest))
 }
 
-/// What stands left of the first operator, its parts within depth `most`.
+/// What an operand has after its first token, where that opens something. The parts have at most depth `most`.
+#[cycle(reading)]
+fn read_opened<'t>(
+    alloc: Global,
+    token: &Token,
+    rest: &'t [Token],
+    most: u32,
+) -> Result<(Part, &'t [Token]), Failure>
+    requires opening { opens (lead_of (tokens.view token.now)) ≡ true }
+    requires some { 1 ≤ most }
+    requires bounded { most < 1000 }
+    ensures reads { Gives (λ x. tree_of x.0.expr) (λ x. views x.1.now) result (tail (read most) most (lead_of (tokens.view token.now)) (tokens.view token.now) (views rest.now)) }
+    ensures depth { IfOk result (λ x. x.0.depth ≤ most + 1) }
+    ensures shorter { IfOk result (λ x. length x.1.now < length rest.now) }
+{
+    let line = token.line;
+    match token_lead(token) {
+        Lead::Parens => {
+            let (part, rest) = read_closed(alloc, rest, Sign::CloseParen, most)?;
+            let depth = part.depth + 1;
+            let kind = ExprKind::Parens(Box::new(alloc, part.expr)?);
+            let expr = Expr { kind, line };
+            Ok((Part { expr, depth }, rest))
+        }
+        Lead::Next => {
+            let rest = after_sign(rest, Sign::OpenParen)?;
+            let (part, rest) = read_closed(alloc, rest, Sign::CloseParen, most)?;
+            let depth = part.depth + 1;
+            let kind = ExprKind::Next(Box::new(alloc, part.expr)?);
+            let expr = Expr { kind, line };
+            Ok((Part { expr, depth }, rest))
+        }
+        Lead::Prefix(operator) => {
+            let (part, rest) = read_expression(alloc, rest, 4, most)?;
+            let depth = part.depth + 1;
+            let kind = ExprKind::Prefix(operator, Box::new(alloc, part.expr)?);
+            let expr = Expr { kind, line };
+            Ok((Part { expr, depth }, rest))
+        }
+        Lead::Braces => {
+            let (parts, rest) = read_list(alloc, rest, most)?;
+            let rest = after_sign(rest, Sign::CloseBrace)?;
+            let depth = parts.depth + 1;
+            let kind = ExprKind::Braces(parts.items);
+            let expr = Expr { kind, line };
+            Ok((Part { expr, depth }, rest))
+        }
+        Lead::Until(quantifier) => {
+            let rest = after_sign(rest, Sign::OpenBracket)?;
+            let (left, right, rest) = read_until(alloc, rest, most)?;
+            let depth = left.depth.max(right.depth) + 1;
+            let boxed = Box::new(alloc, left.expr)?;
+            let kind = ExprKind::Until(quantifier, boxed, Box::new(alloc, right.expr)?);
+            let expr = Expr { kind, line };
+            Ok((Part { expr, depth }, rest))
+        }
+        Lead::Case => {
+            let (arms, rest) = read_arms(alloc, rest, most)?;
+            let rest = after_key(rest, Keyword::Esac)?;
+            let depth = arms.depth + 1;
+            let kind = ExprKind::Case(arms.items);
+            let expr = Expr { kind, line };
+            Ok((Part { expr, depth }, rest))
+        }
+        Lead::Name | Lead::Number | Lead::Truth(_) | Lead::Running | Lead::Other => unreachable!(),
+    }
+}
+
+/// What stands left of the first operator. Its parts have at most depth `most`.
 #[cycle(reading)]
 fn read_operand(alloc: Global, tokens: &[Token], most: u32) -> Result<(Part, &[Token]), Failure>
     requires { most < 1000 }
@@ -317,147 +416,28 @@ fn read_operand(alloc: Global, tokens: &[Token], most: u32) -> Result<(Part, &[T
     let Some((token, rest)) = tokens.split_first() else {
         return Err(Failure::Syntax(0));
     };
-    let line = token.line;
-    match token_lead(token) {
-        Lead::Running => Ok((
-            Part {
-                expr: Expr {
-                    kind: ExprKind::Running,
-                    line,
-                },
-                depth: 1,
-            },
-            rest,
-        )),
-        Lead::Number => Ok((
-            Part {
-                expr: Expr {
-                    kind: ExprKind::Number(number(token)),
-                    line,
-                },
-                depth: 1,
-            },
-            rest,
-        )),
-        Lead::Truth(value) => Ok((
-            Part {
-                expr: Expr {
-                    kind: ExprKind::Truth(value),
-                    line,
-                },
-                depth: 1,
-            },
-            rest,
-        )),
-        Lead::Parens => {
-            if most == 0 {
-                return Err(Failure::TooDeep(tokens.len()));
-            }
-            let (part, rest) = read_closed(alloc, rest, Sign::CloseParen, most)?;
-            let depth = part.depth + 1;
-            let kind = ExprKind::Parens(Box::new(alloc, part.expr)?);
-            Ok((
-                Part {
-                    expr: Expr { kind, line },
-                    depth,
-                },
-                rest,
-            ))
+    let lead = token_lead(token);
+    if opens_parts(lead) {
+        if most == 0 {
+            return Err(Failure::TooDeep(tokens.len()));
         }
-        Lead::Next => {
-            if most == 0 {
-                return Err(Failure::TooDeep(tokens.len()));
-            }
-            let rest = after_sign(rest, Sign::OpenParen)?;
-            let (part, rest) = read_closed(alloc, rest, Sign::CloseParen, most)?;
-            let depth = part.depth + 1;
-            let kind = ExprKind::Next(Box::new(alloc, part.expr)?);
-            Ok((
-                Part {
-                    expr: Expr { kind, line },
-                    depth,
-                },
-                rest,
-            ))
-        }
-        Lead::Prefix(operator) => {
-            if most == 0 {
-                return Err(Failure::TooDeep(tokens.len()));
-            }
-            let (part, rest) = read_expression(alloc, rest, 4, most)?;
-            let depth = part.depth + 1;
-            let kind = ExprKind::Prefix(operator, Box::new(alloc, part.expr)?);
-            Ok((
-                Part {
-                    expr: Expr { kind, line },
-                    depth,
-                },
-                rest,
-            ))
-        }
-        Lead::Braces => {
-            if most == 0 {
-                return Err(Failure::TooDeep(tokens.len()));
-            }
-            let (parts, rest) = read_list(alloc, rest, most)?;
-            let rest = after_sign(rest, Sign::CloseBrace)?;
-            let depth = parts.depth + 1;
-            let kind = ExprKind::Braces(parts.items);
-            Ok((
-                Part {
-                    expr: Expr { kind, line },
-                    depth,
-                },
-                rest,
-            ))
-        }
-        Lead::Until(quantifier) => {
-            if most == 0 {
-                return Err(Failure::TooDeep(tokens.len()));
-            }
-            let rest = after_sign(rest, Sign::OpenBracket)?;
-            let (left, right, rest) = read_until(alloc, rest, most)?;
-            let depth = left.depth.max(right.depth) + 1;
-            let boxed = Box::new(alloc, left.expr)?;
-            let kind = ExprKind::Until(quantifier, boxed, Box::new(alloc, right.expr)?);
-            Ok((
-                Part {
-                    expr: Expr { kind, line },
-                    depth,
-                },
-                rest,
-            ))
-        }
-        Lead::Case => {
-            if most == 0 {
-                return Err(Failure::TooDeep(tokens.len()));
-            }
-            let (arms, rest) = read_arms(alloc, rest, most)?;
-            let rest = after_key(rest, Keyword::Esac)?;
-            let depth = arms.depth + 1;
-            let kind = ExprKind::Case(arms.items);
-            Ok((
-                Part {
-                    expr: Expr { kind, line },
-                    depth,
-                },
-                rest,
-            ))
-        }
-        Lead::Other => Err(Failure::Syntax(tokens.len())),
-        Lead::Name => {
-            let (whole, rest) = read_path(alloc, tokens, most)?;
-            let line = whole.path.line;
-            let kind = ExprKind::Path(whole.path);
-            Ok((
-                Part {
-                    expr: Expr { kind, line },
-                    depth: whole.depth,
-                },
-                rest,
-            ))
-        }
+        let (part, rest) = read_opened(alloc, token, rest, most)?;
+        return Ok((part, rest));
     }
+    if let Lead::Name = lead {
+        let (whole, rest) = read_path(alloc, tokens, most)?;
+        let depth = whole.depth;
+        let line = whole.path.line;
+        let kind = ExprKind::Path(whole.path);
+        let expr = Expr { kind, line };
+        return Ok((Part { expr, depth }, rest));
+    }
+    let Some(kind) = constant(token) else {
+        return Err(Failure::Syntax(tokens.len()));
+    };
+    let line = token.line;
+    let expr = Expr { kind, line };
+    Ok((Part { expr, depth: 1 }, rest))
 }
 
 /// An expression whose operators outside brackets have at least this level, of at most this depth.

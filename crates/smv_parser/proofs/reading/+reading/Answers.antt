@@ -10,10 +10,10 @@ use Rattle.smv_lexer.specs.declared.keyword.Keyword.{Keyword}
 use Rattle.token_readers.proofs.Readers.{found-then}
 use Rattle.smv_parser.specs.Tests.{is_sign, is_key}
 use Rattle.smv_parser.specs.Tree.{Tree, Form, Part, parts_of, parts_depth, path_on, on_line, depth, trees_depth, trees_of, arms_depth, arms_of}
-use Rattle.smv_parser.specs.Reading.{begins_part, read_part, read_parts, read, operand, more, read_until, read_list, pair_of, read_arm, read_arms, arms_pair_of, begins_expression}
-use Rattle.smv_parser.specs.View.{tree_of, arm_pair, part_of}
+use Rattle.smv_parser.specs.Reading.{opens, begins_part, read_part, read_parts, read, operand, more, read_until, read_list, pair_of, read_arm, read_arms, arms_pair_of, begins_expression}
+use Rattle.smv_parser.specs.View.{form, tree_of, arm_pair, part_of}
 use Rattle.smv_parser.proofs.Follow.{depth_pos}
-use Rattle.smv_parser.proofs.Codes.{part_empty, field_is, index_is, index_deep, part_other, parts_start, path_fails, path_fails_after, path_found, name_is, arm_found, arms_start, case_is, case_deep, first_some, rest_stops, rest_more, rest_fails, list_start, list_fails, braces_is, braces_deep, both_fails, both_fails_after, both_found, until_found, number_is, until_is, until_deep, Fails-then, length-views, enclosed_fails, enclosed_fails_after, enclosed_found, headed_is, headed_fails, operand_empty, operand_other, running_is, truth_is, parens_is, parens_deep, next_is, next_deep, prefix_is, prefix_deep, read_start, more_step, more_too_deep, more_stops}
+use Rattle.smv_parser.proofs.Codes.{opened_is, opened_deep, constant_is, operand_other, part_empty, field_is, index_is, index_deep, part_other, parts_start, path_fails, path_fails_after, path_found, name_is, arm_found, arms_start, case_is, first_some, rest_stops, rest_more, rest_fails, list_start, list_fails, braces_is, both_fails, both_fails_after, both_found, until_found, until_is, Fails-then, length-views, enclosed_fails, enclosed_fails_after, enclosed_found, headed_is, headed_fails, operand_empty, parens_is, next_is, prefix_is, read_start, more_step, more_too_deep, more_stops}
 use Rattle.smv_parser.proofs.reading.+reading.Goals as goal
 
 pub read_closed-returns-in_err-part-clause-reads : goal.read_closed-returns-in_err-part-clause-reads
@@ -34,86 +34,49 @@ pub read_operand-returns-in_default-clause-reads : goal.read_operand-returns-in_
 read_operand-returns-in_default-clause-reads t c =
     operand_empty (read c.args.most) c.args.most (views c.args.tokens.now) (length-views c.args.tokens.now ∙ c.in_default.ensures.cases)
 
-pub read_operand-returns-in-Other-clause-reads : goal.read_operand-returns-in-Other-clause-reads
-read_operand-returns-in-Other-clause-reads t c =
-    operand_other (read c.args.most) c.args.most (views c.args.tokens.now) (tokens.view c.in-Some.token.now) (views c.in-Some.rest.now) (ap views c.in-Some.ensures.cases.0)
-    (sym c.token_lead.ensures ∙ c.in-Other.is) (length c.args.tokens.now) (sym (length-views c.args.tokens.now))
-
-pub read_operand-returns-in-Running-clause-reads : goal.read_operand-returns-in-Running-clause-reads
-read_operand-returns-in-Running-clause-reads t c =
-    running_is (read c.args.most) c.args.most (views c.args.tokens.now) (tokens.view c.in-Some.token.now) (views c.in-Some.rest.now) (ap views c.in-Some.ensures.cases.0)
-    (sym c.token_lead.ensures ∙ c.in-Running.is)
-
-pub read_operand-returns-in-Truth-clause-reads : goal.read_operand-returns-in-Truth-clause-reads
-read_operand-returns-in-Truth-clause-reads t c =
-    truth_is (read c.args.most) c.args.most (views c.args.tokens.now) (tokens.view c.in-Some.token.now) (views c.in-Some.rest.now) c.in-Truth.value (ap views c.in-Some.ensures.cases.0)
-    (sym c.token_lead.ensures ∙ c.in-Truth.is)
-
-pub read_operand-returns-then-most-eq0-clause-reads : goal.read_operand-returns-then-most-eq0-clause-reads
-read_operand-returns-then-most-eq0-clause-reads t c =
-    parens_deep (read c.args.most) c.args.most (views c.args.tokens.now) (tokens.view c.in-Some.token.now) (views c.in-Some.rest.now) (ap views c.in-Some.ensures.cases.0)
-    (sym c.token_lead.ensures ∙ c.in-Parens.is) c.if-most-eq0.true (length c.args.tokens.now) (sym (length-views c.args.tokens.now))
-
-pub read_operand-returns-then-most-eq0-2-clause-reads : goal.read_operand-returns-then-most-eq0-2-clause-reads
-read_operand-returns-then-most-eq0-2-clause-reads t c =
-    next_deep (read c.args.most) c.args.most (views c.args.tokens.now) (tokens.view c.in-Some.token.now) (views c.in-Some.rest.now) (ap views c.in-Some.ensures.cases.0)
-    (sym c.token_lead.ensures ∙ c.in-Next.is) c.if-most-eq0-2.true (length c.args.tokens.now) (sym (length-views c.args.tokens.now))
-
-pub read_operand-returns-then-most-eq0-3-clause-reads : goal.read_operand-returns-then-most-eq0-3-clause-reads
-read_operand-returns-then-most-eq0-3-clause-reads t c =
-    prefix_deep (read c.args.most) c.args.most (views c.args.tokens.now) (tokens.view c.in-Some.token.now) (views c.in-Some.rest.now) c.in-Prefix.operator (ap views c.in-Some.ensures.cases.0)
-    (sym c.token_lead.ensures ∙ c.in-Prefix.is) c.if-most-eq0-3.true (length c.args.tokens.now) (sym (length-views c.args.tokens.now))
-
-pub read_operand-returns-in_err-part-in-Parens-clause-reads : goal.read_operand-returns-in_err-part-in-Parens-clause-reads
-read_operand-returns-in_err-part-in-Parens-clause-reads t c =
-    let q = parens_is (read c.args.most) c.args.most (views c.args.tokens.now) (tokens.view c.in-Some.token.now) (views c.in-Some.rest.now) (ap views c.in-Some.ensures.cases.0)
-    (sym c.token_lead.ensures ∙ c.in-Parens.is) (omega (arith, c.if-most-eq0.false)) in
+pub read_opened-returns-in_err-part-in-Parens-clause-reads : goal.read_opened-returns-in_err-part-in-Parens-clause-reads
+read_opened-returns-in_err-part-in-Parens-clause-reads t c =
+    let q = parens_is (read c.args.most) c.args.most (tokens.view c.args.token.now) (views c.args.rest.now) (sym c.token_lead.ensures ∙ c.in-Parens.is) in
     let p = err_from_is_err_and c.from_residual.result c.from_residual.ensures.1 in
     rw (p.1, p.2) (rw q (Fails-then c.in_err-part-in-Parens.field-0.0 _ _ c.in_err-part-in-Parens.ensures.reads))
 
-pub read_operand-returns-in_ok-new-in-Parens-clause-reads : goal.read_operand-returns-in_ok-new-in-Parens-clause-reads
-read_operand-returns-in_ok-new-in-Parens-clause-reads t c =
-    parens_is (read c.args.most) c.args.most (views c.args.tokens.now) (tokens.view c.in-Some.token.now) (views c.in-Some.rest.now) (ap views c.in-Some.ensures.cases.0)
-    (sym c.token_lead.ensures ∙ c.in-Parens.is) (omega (arith, c.if-most-eq0.false))
+pub read_opened-returns-in_ok-new-in-Parens-clause-reads : goal.read_opened-returns-in_ok-new-in-Parens-clause-reads
+read_opened-returns-in_ok-new-in-Parens-clause-reads t c =
+    parens_is (read c.args.most) c.args.most (tokens.view c.args.token.now) (views c.args.rest.now) (sym c.token_lead.ensures ∙ c.in-Parens.is)
     ∙ found-then _ _ _ _ c.in_ok-part-in-Parens.ensures.reads
-    ∙ ap (λ (e : _). found (on_line c.in-Some.token.now.line (Form.parens (tree_of e))) (views c.in_ok-part-in-Parens.rest.now)) (sym c.in_ok-new-in-Parens.ensures.ok)
+    ∙ ap (λ (e : _). found (on_line c.args.token.now.line (Form.parens (tree_of e))) (views c.in_ok-part-in-Parens.rest.now)) (sym c.in_ok-new-in-Parens.ensures.ok)
 
-pub read_operand-returns-in_err-rest-in-Next-clause-reads : goal.read_operand-returns-in_err-rest-in-Next-clause-reads
-read_operand-returns-in_err-rest-in-Next-clause-reads t c =
-    let q = next_is (read c.args.most) c.args.most (views c.args.tokens.now) (tokens.view c.in-Some.token.now) (views c.in-Some.rest.now) (ap views c.in-Some.ensures.cases.0)
-    (sym c.token_lead.ensures ∙ c.in-Next.is) (omega (arith, c.if-most-eq0-2.false)) in
+pub read_opened-returns-in_err-rest-in-Next-clause-reads : goal.read_opened-returns-in_err-rest-in-Next-clause-reads
+read_opened-returns-in_err-rest-in-Next-clause-reads t c =
+    let q = next_is (read c.args.most) c.args.most (tokens.view c.args.token.now) (views c.args.rest.now) (sym c.token_lead.ensures ∙ c.in-Next.is) in
     let p = err_from_is_err_and c.from_residual-in_err-rest-in-Next.result c.from_residual-in_err-rest-in-Next.ensures.1 in
-    rw (p.1, p.2) (rw q (Fails-then c.in_err-rest-in-Next.field-0.0 _ _ (headed_fails (is_sign Sign.OpenParen) (enclosed (is_sign Sign.CloseParen) (read c.args.most 1)) (views c.in-Some.rest.now) c.in_err-rest-in-Next.field-0.0 c.in_err-rest-in-Next.ensures.reads)))
+    rw (p.1, p.2) (rw q (Fails-then c.in_err-rest-in-Next.field-0.0 _ _ (headed_fails (is_sign Sign.OpenParen) (enclosed (is_sign Sign.CloseParen) (read c.args.most 1)) (views c.args.rest.now) c.in_err-rest-in-Next.field-0.0 c.in_err-rest-in-Next.ensures.reads)))
 
-pub read_operand-returns-in_err-part-in-Next-clause-reads : goal.read_operand-returns-in_err-part-in-Next-clause-reads
-read_operand-returns-in_err-part-in-Next-clause-reads t c =
-    let q = next_is (read c.args.most) c.args.most (views c.args.tokens.now) (tokens.view c.in-Some.token.now) (views c.in-Some.rest.now) (ap views c.in-Some.ensures.cases.0)
-    (sym c.token_lead.ensures ∙ c.in-Next.is) (omega (arith, c.if-most-eq0-2.false)) in
-    let w = headed_is (is_sign Sign.OpenParen) (enclosed (is_sign Sign.CloseParen) (read c.args.most 1)) (views c.in-Some.rest.now) (views c.in_ok-rest-in-Next.rest.now) c.in_ok-rest-in-Next.ensures.reads.0 c.in_ok-rest-in-Next.ensures.reads.1 in
+pub read_opened-returns-in_err-part-in-Next-clause-reads : goal.read_opened-returns-in_err-part-in-Next-clause-reads
+read_opened-returns-in_err-part-in-Next-clause-reads t c =
+    let q = next_is (read c.args.most) c.args.most (tokens.view c.args.token.now) (views c.args.rest.now) (sym c.token_lead.ensures ∙ c.in-Next.is) in
+    let w = headed_is (is_sign Sign.OpenParen) (enclosed (is_sign Sign.CloseParen) (read c.args.most 1)) (views c.args.rest.now) (views c.in_ok-rest-in-Next.rest.now) c.in_ok-rest-in-Next.ensures.reads.0 c.in_ok-rest-in-Next.ensures.reads.1 in
     let p = err_from_is_err_and c.from_residual-in_err-part-in-Next.result c.from_residual-in_err-part-in-Next.ensures.1 in
     rw (p.1, p.2) (rw (q, w) (Fails-then c.in_err-part-in-Next.field-0.0 _ _ c.in_err-part-in-Next.ensures.reads))
 
-pub read_operand-returns-in_ok-new-in-Next-clause-reads : goal.read_operand-returns-in_ok-new-in-Next-clause-reads
-read_operand-returns-in_ok-new-in-Next-clause-reads t c =
-    let w = headed_is (is_sign Sign.OpenParen) (enclosed (is_sign Sign.CloseParen) (read c.args.most 1)) (views c.in-Some.rest.now) (views c.in_ok-rest-in-Next.rest.now) c.in_ok-rest-in-Next.ensures.reads.0 c.in_ok-rest-in-Next.ensures.reads.1 in
-    next_is (read c.args.most) c.args.most (views c.args.tokens.now) (tokens.view c.in-Some.token.now) (views c.in-Some.rest.now) (ap views c.in-Some.ensures.cases.0)
-    (sym c.token_lead.ensures ∙ c.in-Next.is) (omega (arith, c.if-most-eq0-2.false))
+pub read_opened-returns-in_ok-new-in-Next-clause-reads : goal.read_opened-returns-in_ok-new-in-Next-clause-reads
+read_opened-returns-in_ok-new-in-Next-clause-reads t c =
+    let w = headed_is (is_sign Sign.OpenParen) (enclosed (is_sign Sign.CloseParen) (read c.args.most 1)) (views c.args.rest.now) (views c.in_ok-rest-in-Next.rest.now) c.in_ok-rest-in-Next.ensures.reads.0 c.in_ok-rest-in-Next.ensures.reads.1 in
+    next_is (read c.args.most) c.args.most (tokens.view c.args.token.now) (views c.args.rest.now) (sym c.token_lead.ensures ∙ c.in-Next.is)
     ∙ found-then _ _ _ _ (w ∙ c.in_ok-part-in-Next.ensures.reads)
-    ∙ ap (λ (e : _). found (on_line c.in-Some.token.now.line (Form.next (tree_of e))) (views c.in_ok-part-in-Next.rest.now)) (sym c.in_ok-new-in-Next.ensures.ok)
+    ∙ ap (λ (e : _). found (on_line c.args.token.now.line (Form.next (tree_of e))) (views c.in_ok-part-in-Next.rest.now)) (sym c.in_ok-new-in-Next.ensures.ok)
 
-pub read_operand-returns-in_err-part-in-Prefix-clause-reads : goal.read_operand-returns-in_err-part-in-Prefix-clause-reads
-read_operand-returns-in_err-part-in-Prefix-clause-reads t c =
-    let q = prefix_is (read c.args.most) c.args.most (views c.args.tokens.now) (tokens.view c.in-Some.token.now) (views c.in-Some.rest.now) c.in-Prefix.operator (ap views c.in-Some.ensures.cases.0)
-    (sym c.token_lead.ensures ∙ c.in-Prefix.is) (omega (arith, c.if-most-eq0-3.false)) in
+pub read_opened-returns-in_err-part-in-Prefix-clause-reads : goal.read_opened-returns-in_err-part-in-Prefix-clause-reads
+read_opened-returns-in_err-part-in-Prefix-clause-reads t c =
+    let q = prefix_is (read c.args.most) c.args.most (tokens.view c.args.token.now) (views c.args.rest.now) c.in-Prefix.operator (sym c.token_lead.ensures ∙ c.in-Prefix.is) in
     let p = err_from_is_err_and c.from_residual-in_err-part-in-Prefix.result c.from_residual-in_err-part-in-Prefix.ensures.1 in
     rw (p.1, p.2) (rw q (Fails-then c.in_err-part-in-Prefix.field-0.0 _ _ c.in_err-part-in-Prefix.ensures.reads))
 
-pub read_operand-returns-in_ok-new-in-Prefix-clause-reads : goal.read_operand-returns-in_ok-new-in-Prefix-clause-reads
-read_operand-returns-in_ok-new-in-Prefix-clause-reads t c =
-    prefix_is (read c.args.most) c.args.most (views c.args.tokens.now) (tokens.view c.in-Some.token.now) (views c.in-Some.rest.now) c.in-Prefix.operator (ap views c.in-Some.ensures.cases.0)
-    (sym c.token_lead.ensures ∙ c.in-Prefix.is) (omega (arith, c.if-most-eq0-3.false))
+pub read_opened-returns-in_ok-new-in-Prefix-clause-reads : goal.read_opened-returns-in_ok-new-in-Prefix-clause-reads
+read_opened-returns-in_ok-new-in-Prefix-clause-reads t c =
+    prefix_is (read c.args.most) c.args.most (tokens.view c.args.token.now) (views c.args.rest.now) c.in-Prefix.operator (sym c.token_lead.ensures ∙ c.in-Prefix.is)
     ∙ found-then _ _ _ _ c.in_ok-part-in-Prefix.ensures.reads
-    ∙ ap (λ (e : _). found (on_line c.in-Some.token.now.line (Form.prefix c.in-Prefix.operator (tree_of e))) (views c.in_ok-part-in-Prefix.rest.now)) (sym c.in_ok-new-in-Prefix.ensures.ok)
+    ∙ ap (λ (e : _). found (on_line c.args.token.now.line (Form.prefix c.in-Prefix.operator (tree_of e))) (views c.in_ok-part-in-Prefix.rest.now)) (sym c.in_ok-new-in-Prefix.ensures.ok)
 
 pub read_expression-returns-in_err-part-clause-reads : goal.read_expression-returns-in_err-part-clause-reads
 read_expression-returns-in_err-part-clause-reads t c =
@@ -197,40 +160,26 @@ read_until-returns-clause-reads t c =
     (enclosed_found (is_key Keyword.Until) (read c.args.most 1) (views c.args.tokens.now) (views c.in_ok-left.rest.now) (views c.in_ok-rest.rest.now) (tree_of c.in_ok-left.left.expr) c.in_ok-rest.ensures.reads.0 c.in_ok-left.ensures.reads c.in_ok-rest.ensures.reads.1)
     c.in_ok-right.ensures.reads
 
-pub read_operand-returns-in-Number-clause-reads : goal.read_operand-returns-in-Number-clause-reads
-read_operand-returns-in-Number-clause-reads t c =
-    number_is (read c.args.most) c.args.most (views c.args.tokens.now) (tokens.view c.in-Some.token.now) (views c.in-Some.rest.now) (ap views c.in-Some.ensures.cases.0)
-    (sym c.token_lead.ensures ∙ c.in-Number.is)
-    ∙ ap (λ (n : ℕ). found (on_line c.in-Some.token.now.line (Form.number n)) (views c.in-Some.rest.now)) (sym c.number.ensures)
-
-pub read_operand-returns-then-most-eq0-5-clause-reads : goal.read_operand-returns-then-most-eq0-5-clause-reads
-read_operand-returns-then-most-eq0-5-clause-reads t c =
-    until_deep (read c.args.most) c.args.most (views c.args.tokens.now) (tokens.view c.in-Some.token.now) (views c.in-Some.rest.now) c.in-Until.quantifier (ap views c.in-Some.ensures.cases.0)
-    (sym c.token_lead.ensures ∙ c.in-Until.is) c.if-most-eq0-5.true (length c.args.tokens.now) (sym (length-views c.args.tokens.now))
-
-pub read_operand-returns-in_err-rest-in-Until-clause-reads : goal.read_operand-returns-in_err-rest-in-Until-clause-reads
-read_operand-returns-in_err-rest-in-Until-clause-reads t c =
-    let q = until_is (read c.args.most) c.args.most (views c.args.tokens.now) (tokens.view c.in-Some.token.now) (views c.in-Some.rest.now) c.in-Until.quantifier (ap views c.in-Some.ensures.cases.0)
-    (sym c.token_lead.ensures ∙ c.in-Until.is) (omega (arith, c.if-most-eq0-5.false)) in
+pub read_opened-returns-in_err-rest-in-Until-clause-reads : goal.read_opened-returns-in_err-rest-in-Until-clause-reads
+read_opened-returns-in_err-rest-in-Until-clause-reads t c =
+    let q = until_is (read c.args.most) c.args.most (tokens.view c.args.token.now) (views c.args.rest.now) c.in-Until.quantifier (sym c.token_lead.ensures ∙ c.in-Until.is) in
     let p = err_from_is_err_and c.from_residual-in_err-rest-in-Until.result c.from_residual-in_err-rest-in-Until.ensures.1 in
-    rw (p.1, p.2) (rw q (Fails-then c.in_err-rest-in-Until.field-0.0 _ _ (headed_fails (is_sign Sign.OpenBracket) (read_until (read c.args.most) c.args.most) (views c.in-Some.rest.now) c.in_err-rest-in-Until.field-0.0 c.in_err-rest-in-Until.ensures.reads)))
+    rw (p.1, p.2) (rw q (Fails-then c.in_err-rest-in-Until.field-0.0 _ _ (headed_fails (is_sign Sign.OpenBracket) (read_until (read c.args.most) c.args.most) (views c.args.rest.now) c.in_err-rest-in-Until.field-0.0 c.in_err-rest-in-Until.ensures.reads)))
 
-pub read_operand-returns-in_err-left-in-Until-clause-reads : goal.read_operand-returns-in_err-left-in-Until-clause-reads
-read_operand-returns-in_err-left-in-Until-clause-reads t c =
-    let q = until_is (read c.args.most) c.args.most (views c.args.tokens.now) (tokens.view c.in-Some.token.now) (views c.in-Some.rest.now) c.in-Until.quantifier (ap views c.in-Some.ensures.cases.0)
-    (sym c.token_lead.ensures ∙ c.in-Until.is) (omega (arith, c.if-most-eq0-5.false)) in
-    let w = headed_is (is_sign Sign.OpenBracket) (read_until (read c.args.most) c.args.most) (views c.in-Some.rest.now) (views c.in_ok-rest-in-Until.rest.now) c.in_ok-rest-in-Until.ensures.reads.0 c.in_ok-rest-in-Until.ensures.reads.1 in
+pub read_opened-returns-in_err-left-in-Until-clause-reads : goal.read_opened-returns-in_err-left-in-Until-clause-reads
+read_opened-returns-in_err-left-in-Until-clause-reads t c =
+    let q = until_is (read c.args.most) c.args.most (tokens.view c.args.token.now) (views c.args.rest.now) c.in-Until.quantifier (sym c.token_lead.ensures ∙ c.in-Until.is) in
+    let w = headed_is (is_sign Sign.OpenBracket) (read_until (read c.args.most) c.args.most) (views c.args.rest.now) (views c.in_ok-rest-in-Until.rest.now) c.in_ok-rest-in-Until.ensures.reads.0 c.in_ok-rest-in-Until.ensures.reads.1 in
     let p = err_from_is_err_and c.from_residual-in_err-left-in-Until.result c.from_residual-in_err-left-in-Until.ensures.1 in
     rw (p.1, p.2) (rw (q, w) (Fails-then c.in_err-left-in-Until.field-0.0 _ _ c.in_err-left-in-Until.ensures.reads))
 
-pub read_operand-returns-in_ok-new-in-Until-clause-reads : goal.read_operand-returns-in_ok-new-in-Until-clause-reads
-read_operand-returns-in_ok-new-in-Until-clause-reads t c =
-    let w = headed_is (is_sign Sign.OpenBracket) (read_until (read c.args.most) c.args.most) (views c.in-Some.rest.now) (views c.in_ok-rest-in-Until.rest.now) c.in_ok-rest-in-Until.ensures.reads.0 c.in_ok-rest-in-Until.ensures.reads.1 in
-    until_is (read c.args.most) c.args.most (views c.args.tokens.now) (tokens.view c.in-Some.token.now) (views c.in-Some.rest.now) c.in-Until.quantifier (ap views c.in-Some.ensures.cases.0)
-    (sym c.token_lead.ensures ∙ c.in-Until.is) (omega (arith, c.if-most-eq0-5.false))
+pub read_opened-returns-in_ok-new-in-Until-clause-reads : goal.read_opened-returns-in_ok-new-in-Until-clause-reads
+read_opened-returns-in_ok-new-in-Until-clause-reads t c =
+    let w = headed_is (is_sign Sign.OpenBracket) (read_until (read c.args.most) c.args.most) (views c.args.rest.now) (views c.in_ok-rest-in-Until.rest.now) c.in_ok-rest-in-Until.ensures.reads.0 c.in_ok-rest-in-Until.ensures.reads.1 in
+    until_is (read c.args.most) c.args.most (tokens.view c.args.token.now) (views c.args.rest.now) c.in-Until.quantifier (sym c.token_lead.ensures ∙ c.in-Until.is)
     ∙ found-then _ _ _ _ (w ∙ c.in_ok-left-in-Until.ensures.reads)
-    ∙ ap (λ (e : _). found (on_line c.in-Some.token.now.line (Form.until c.in-Until.quantifier (tree_of e) (tree_of c.in_ok-left-in-Until.right.expr))) (views c.in_ok-left-in-Until.rest.now)) (sym c.in_ok-boxed-in-Until.ensures.ok)
-    ∙ ap (λ (e : _). found (on_line c.in-Some.token.now.line (Form.until c.in-Until.quantifier (tree_of c.in_ok-boxed-in-Until.boxed.value) (tree_of e))) (views c.in_ok-left-in-Until.rest.now)) (sym c.in_ok-new-in-Until.ensures.ok)
+    ∙ ap (λ (e : _). found (on_line c.args.token.now.line (Form.until c.in-Until.quantifier (tree_of e) (tree_of c.in_ok-left-in-Until.right.expr))) (views c.in_ok-left-in-Until.rest.now)) (sym c.in_ok-boxed-in-Until.ensures.ok)
+    ∙ ap (λ (e : _). found (on_line c.args.token.now.line (Form.until c.in-Until.quantifier (tree_of c.in_ok-boxed-in-Until.boxed.value) (tree_of e))) (views c.in_ok-left-in-Until.rest.now)) (sym c.in_ok-new-in-Until.ensures.ok)
 
 pub read_list-returns-in_err-first-clause-reads : goal.read_list-returns-in_err-first-clause-reads
 read_list-returns-in_err-first-clause-reads t c =
@@ -298,39 +247,31 @@ read_list-returns-clause-reads t c =
     i.8 ∙ rest_stops (is_sign Sign.Comma) (headed (is_sign Sign.Comma) (read c.args.most 1)) i.4 (views c.loop-alloc.rest.now) i.5 (sym c.loop-alloc-test.ensures)
     ∙ ap (λ (z : _). found z (views c.loop-alloc.rest.now)) (i.7 [] ∙ ap pair_of (append-nil (map tree_of c.loop-alloc.items.items)))
 
-pub read_operand-returns-then-most-eq0-4-clause-reads : goal.read_operand-returns-then-most-eq0-4-clause-reads
-read_operand-returns-then-most-eq0-4-clause-reads t c =
-    braces_deep (read c.args.most) c.args.most (views c.args.tokens.now) (tokens.view c.in-Some.token.now) (views c.in-Some.rest.now) (ap views c.in-Some.ensures.cases.0)
-    (sym c.token_lead.ensures ∙ c.in-Braces.is) c.if-most-eq0-4.true (length c.args.tokens.now) (sym (length-views c.args.tokens.now))
-
-pub read_operand-returns-in_err-parts-in-Braces-clause-reads : goal.read_operand-returns-in_err-parts-in-Braces-clause-reads
-read_operand-returns-in_err-parts-in-Braces-clause-reads t c =
-    let q = braces_is (read c.args.most) c.args.most (views c.args.tokens.now) (tokens.view c.in-Some.token.now) (views c.in-Some.rest.now) (ap views c.in-Some.ensures.cases.0)
-    (sym c.token_lead.ensures ∙ c.in-Braces.is) (omega (arith, c.if-most-eq0-4.false)) in
+pub read_opened-returns-in_err-parts-in-Braces-clause-reads : goal.read_opened-returns-in_err-parts-in-Braces-clause-reads
+read_opened-returns-in_err-parts-in-Braces-clause-reads t c =
+    let q = braces_is (read c.args.most) c.args.most (tokens.view c.args.token.now) (views c.args.rest.now) (sym c.token_lead.ensures ∙ c.in-Braces.is) in
     let p = err_from_is_err_and c.from_residual-in_err-parts-in-Braces.result c.from_residual-in_err-parts-in-Braces.ensures.1 in
-    rw (p.1, p.2) (rw q (Fails-then c.in_err-parts-in-Braces.field-0.0 _ _ (enclosed_fails (is_sign Sign.CloseBrace) (read_list (read c.args.most) c.args.most) (views c.in-Some.rest.now) c.in_err-parts-in-Braces.field-0.0 c.in_err-parts-in-Braces.ensures.reads)))
+    rw (p.1, p.2) (rw q (Fails-then c.in_err-parts-in-Braces.field-0.0 _ _ (enclosed_fails (is_sign Sign.CloseBrace) (read_list (read c.args.most) c.args.most) (views c.args.rest.now) c.in_err-parts-in-Braces.field-0.0 c.in_err-parts-in-Braces.ensures.reads)))
 
-pub read_operand-returns-in_err-rest-in-Braces-clause-reads : goal.read_operand-returns-in_err-rest-in-Braces-clause-reads
-read_operand-returns-in_err-rest-in-Braces-clause-reads t c =
-    let q = braces_is (read c.args.most) c.args.most (views c.args.tokens.now) (tokens.view c.in-Some.token.now) (views c.in-Some.rest.now) (ap views c.in-Some.ensures.cases.0)
-    (sym c.token_lead.ensures ∙ c.in-Braces.is) (omega (arith, c.if-most-eq0-4.false)) in
+pub read_opened-returns-in_err-rest-in-Braces-clause-reads : goal.read_opened-returns-in_err-rest-in-Braces-clause-reads
+read_opened-returns-in_err-rest-in-Braces-clause-reads t c =
+    let q = braces_is (read c.args.most) c.args.most (tokens.view c.args.token.now) (views c.args.rest.now) (sym c.token_lead.ensures ∙ c.in-Braces.is) in
     let p = err_from_is_err_and c.from_residual-in_err-rest-in-Braces.result c.from_residual-in_err-rest-in-Braces.ensures.1 in
-    rw (p.1, p.2) (rw q (Fails-then c.in_err-rest-in-Braces.field-0.0 _ _ (enclosed_fails_after (is_sign Sign.CloseBrace) (read_list (read c.args.most) c.args.most) (views c.in-Some.rest.now) (views c.in_ok-parts-in-Braces.rest.now)
+    rw (p.1, p.2) (rw q (Fails-then c.in_err-rest-in-Braces.field-0.0 _ _ (enclosed_fails_after (is_sign Sign.CloseBrace) (read_list (read c.args.most) c.args.most) (views c.args.rest.now) (views c.in_ok-parts-in-Braces.rest.now)
     (pair_of (map tree_of c.in_ok-parts-in-Braces.parts.items.items)) c.in_err-rest-in-Braces.field-0.0 c.in_ok-parts-in-Braces.ensures.reads c.in_err-rest-in-Braces.ensures.reads)))
 
-pub read_operand-invariant_of-result-in-Braces : goal.read_operand-invariant_of-result-in-Braces
-read_operand-invariant_of-result-in-Braces t c =
+pub read_opened-invariant_of-result-in-Braces : goal.read_opened-invariant_of-result-in-Braces
+read_opened-invariant_of-result-in-Braces t c =
     record { depth_is = let w = ap trees_depth (braces_trees c.in_ok-parts-in-Braces.parts.items) in omega (arith, c.in_ok-parts-in-Braces.parts.depth_is, w) }
 
-pub read_operand-returns-in_ok-rest-in-Braces-clause-reads : goal.read_operand-returns-in_ok-rest-in-Braces-clause-reads
-read_operand-returns-in_ok-rest-in-Braces-clause-reads t c =
-    braces_is (read c.args.most) c.args.most (views c.args.tokens.now) (tokens.view c.in-Some.token.now) (views c.in-Some.rest.now) (ap views c.in-Some.ensures.cases.0)
-    (sym c.token_lead.ensures ∙ c.in-Braces.is) (omega (arith, c.if-most-eq0-4.false))
-    ∙ found-then _ _ _ _ (enclosed_found (is_sign Sign.CloseBrace) (read_list (read c.args.most) c.args.most) (views c.in-Some.rest.now) (views c.in_ok-parts-in-Braces.rest.now) (views c.in_ok-rest-in-Braces.rest.now)
+pub read_opened-returns-in_ok-rest-in-Braces-clause-reads : goal.read_opened-returns-in_ok-rest-in-Braces-clause-reads
+read_opened-returns-in_ok-rest-in-Braces-clause-reads t c =
+    braces_is (read c.args.most) c.args.most (tokens.view c.args.token.now) (views c.args.rest.now) (sym c.token_lead.ensures ∙ c.in-Braces.is)
+    ∙ found-then _ _ _ _ (enclosed_found (is_sign Sign.CloseBrace) (read_list (read c.args.most) c.args.most) (views c.args.rest.now) (views c.in_ok-parts-in-Braces.rest.now) (views c.in_ok-rest-in-Braces.rest.now)
     (pair_of (map tree_of c.in_ok-parts-in-Braces.parts.items.items)) c.in_ok-rest-in-Braces.ensures.reads.0 c.in_ok-parts-in-Braces.ensures.reads c.in_ok-rest-in-Braces.ensures.reads.1)
-    ∙ ap (λ (es : List Tree). found (on_line c.in-Some.token.now.line (Form.braces (trees_of es))) (views c.in_ok-rest-in-Braces.rest.now))
+    ∙ ap (λ (es : List Tree). found (on_line c.args.token.now.line (Form.braces (trees_of es))) (views c.in_ok-rest-in-Braces.rest.now))
     (pair_whole (map tree_of c.in_ok-parts-in-Braces.parts.items.items) (omega (arith, c.in_ok-parts-in-Braces.ensures.some, length-mapped tree_of c.in_ok-parts-in-Braces.parts.items.items)))
-    ∙ ap (λ (x : Form). found (on_line c.in-Some.token.now.line x) (views c.in_ok-rest-in-Braces.rest.now)) (sym (braces_form c.in_ok-parts-in-Braces.parts.items))
+    ∙ ap (λ (x : Form). found (on_line c.args.token.now.line x) (views c.in_ok-rest-in-Braces.rest.now)) (sym (braces_form c.in_ok-parts-in-Braces.parts.items))
 
 pub read_arm-returns-in_err-guard-clause-reads : goal.read_arm-returns-in_err-guard-clause-reads
 read_arm-returns-in_err-guard-clause-reads t c =
@@ -409,57 +350,38 @@ read_arms-returns-clause-reads t c =
     i.8 ∙ rest_stops begins_expression (read_arm (read c.args.most) c.args.most) i.4 (views c.loop-alloc.rest.now) i.5 (sym c.loop-alloc-test.ensures)
     ∙ ap (λ (z : _). found z (views c.loop-alloc.rest.now)) (i.7 [] ∙ ap arms_pair_of (append-nil (map arm_pair c.loop-alloc.items.items)))
 
-pub read_operand-returns-then-most-eq0-6-clause-reads : goal.read_operand-returns-then-most-eq0-6-clause-reads
-read_operand-returns-then-most-eq0-6-clause-reads t c =
-    case_deep (read c.args.most) c.args.most (views c.args.tokens.now) (tokens.view c.in-Some.token.now) (views c.in-Some.rest.now) (ap views c.in-Some.ensures.cases.0)
-    (sym c.token_lead.ensures ∙ c.in-Case.is) c.if-most-eq0-6.true (length c.args.tokens.now) (sym (length-views c.args.tokens.now))
-
-pub read_operand-returns-in_err-arms-in-Case-clause-reads : goal.read_operand-returns-in_err-arms-in-Case-clause-reads
-read_operand-returns-in_err-arms-in-Case-clause-reads t c =
-    let q = case_is (read c.args.most) c.args.most (views c.args.tokens.now) (tokens.view c.in-Some.token.now) (views c.in-Some.rest.now) (ap views c.in-Some.ensures.cases.0)
-    (sym c.token_lead.ensures ∙ c.in-Case.is) (omega (arith, c.if-most-eq0-6.false)) in
+pub read_opened-returns-in_err-arms-in-Case-clause-reads : goal.read_opened-returns-in_err-arms-in-Case-clause-reads
+read_opened-returns-in_err-arms-in-Case-clause-reads t c =
+    let q = case_is (read c.args.most) c.args.most (tokens.view c.args.token.now) (views c.args.rest.now) (sym c.token_lead.ensures ∙ c.in-Case.is) in
     let p = err_from_is_err_and c.from_residual-in_err-arms-in-Case.result c.from_residual-in_err-arms-in-Case.ensures.1 in
-    rw (p.1, p.2) (rw q (Fails-then c.in_err-arms-in-Case.field-0.0 _ _ (enclosed_fails (is_key Keyword.Esac) (both (read_arm (read c.args.most) c.args.most) (read_arms (read c.args.most) c.args.most)) (views c.in-Some.rest.now) c.in_err-arms-in-Case.field-0.0 c.in_err-arms-in-Case.ensures.reads)))
+    rw (p.1, p.2) (rw q (Fails-then c.in_err-arms-in-Case.field-0.0 _ _ (enclosed_fails (is_key Keyword.Esac) (both (read_arm (read c.args.most) c.args.most) (read_arms (read c.args.most) c.args.most)) (views c.args.rest.now) c.in_err-arms-in-Case.field-0.0 c.in_err-arms-in-Case.ensures.reads)))
 
-pub read_operand-returns-in_err-rest-in-Case-clause-reads : goal.read_operand-returns-in_err-rest-in-Case-clause-reads
-read_operand-returns-in_err-rest-in-Case-clause-reads t c =
-    let q = case_is (read c.args.most) c.args.most (views c.args.tokens.now) (tokens.view c.in-Some.token.now) (views c.in-Some.rest.now) (ap views c.in-Some.ensures.cases.0)
-    (sym c.token_lead.ensures ∙ c.in-Case.is) (omega (arith, c.if-most-eq0-6.false)) in
+pub read_opened-returns-in_err-rest-in-Case-clause-reads : goal.read_opened-returns-in_err-rest-in-Case-clause-reads
+read_opened-returns-in_err-rest-in-Case-clause-reads t c =
+    let q = case_is (read c.args.most) c.args.most (tokens.view c.args.token.now) (views c.args.rest.now) (sym c.token_lead.ensures ∙ c.in-Case.is) in
     let p = err_from_is_err_and c.from_residual-in_err-rest-in-Case.result c.from_residual-in_err-rest-in-Case.ensures.1 in
-    rw (p.1, p.2) (rw q (Fails-then c.in_err-rest-in-Case.field-0.0 _ _ (enclosed_fails_after (is_key Keyword.Esac) (both (read_arm (read c.args.most) c.args.most) (read_arms (read c.args.most) c.args.most)) (views c.in-Some.rest.now) (views c.in_ok-arms-in-Case.rest.now)
+    rw (p.1, p.2) (rw q (Fails-then c.in_err-rest-in-Case.field-0.0 _ _ (enclosed_fails_after (is_key Keyword.Esac) (both (read_arm (read c.args.most) c.args.most) (read_arms (read c.args.most) c.args.most)) (views c.args.rest.now) (views c.in_ok-arms-in-Case.rest.now)
     (arms_pair_of (map arm_pair c.in_ok-arms-in-Case.arms.items.items)) c.in_err-rest-in-Case.field-0.0 c.in_ok-arms-in-Case.ensures.reads c.in_err-rest-in-Case.ensures.reads)))
 
-pub read_operand-invariant_of-result-in-Case : goal.read_operand-invariant_of-result-in-Case
-read_operand-invariant_of-result-in-Case t c =
+pub read_opened-invariant_of-result-in-Case : goal.read_opened-invariant_of-result-in-Case
+read_opened-invariant_of-result-in-Case t c =
     record { depth_is = let w = ap arms_depth (case_arms c.in_ok-arms-in-Case.arms.items) in omega (arith, c.in_ok-arms-in-Case.arms.depth_is, w) }
 
-pub read_operand-returns-in_ok-rest-in-Case-clause-reads : goal.read_operand-returns-in_ok-rest-in-Case-clause-reads
-read_operand-returns-in_ok-rest-in-Case-clause-reads t c =
-    case_is (read c.args.most) c.args.most (views c.args.tokens.now) (tokens.view c.in-Some.token.now) (views c.in-Some.rest.now) (ap views c.in-Some.ensures.cases.0)
-    (sym c.token_lead.ensures ∙ c.in-Case.is) (omega (arith, c.if-most-eq0-6.false))
-    ∙ found-then _ _ _ _ (enclosed_found (is_key Keyword.Esac) (both (read_arm (read c.args.most) c.args.most) (read_arms (read c.args.most) c.args.most)) (views c.in-Some.rest.now) (views c.in_ok-arms-in-Case.rest.now) (views c.in_ok-rest-in-Case.rest.now)
+pub read_opened-returns-in_ok-rest-in-Case-clause-reads : goal.read_opened-returns-in_ok-rest-in-Case-clause-reads
+read_opened-returns-in_ok-rest-in-Case-clause-reads t c =
+    case_is (read c.args.most) c.args.most (tokens.view c.args.token.now) (views c.args.rest.now) (sym c.token_lead.ensures ∙ c.in-Case.is)
+    ∙ found-then _ _ _ _ (enclosed_found (is_key Keyword.Esac) (both (read_arm (read c.args.most) c.args.most) (read_arms (read c.args.most) c.args.most)) (views c.args.rest.now) (views c.in_ok-arms-in-Case.rest.now) (views c.in_ok-rest-in-Case.rest.now)
     (arms_pair_of (map arm_pair c.in_ok-arms-in-Case.arms.items.items)) c.in_ok-rest-in-Case.ensures.reads.0 c.in_ok-arms-in-Case.ensures.reads c.in_ok-rest-in-Case.ensures.reads.1)
-    ∙ ap (λ (es : List (Tree × Tree)). found (on_line c.in-Some.token.now.line (Form.cases (arms_of es))) (views c.in_ok-rest-in-Case.rest.now))
+    ∙ ap (λ (es : List (Tree × Tree)). found (on_line c.args.token.now.line (Form.cases (arms_of es))) (views c.in_ok-rest-in-Case.rest.now))
     (arms_whole (map arm_pair c.in_ok-arms-in-Case.arms.items.items) (omega (arith, c.in_ok-arms-in-Case.ensures.some, length-mapped arm_pair c.in_ok-arms-in-Case.arms.items.items)))
-    ∙ ap (λ (x : Form). found (on_line c.in-Some.token.now.line x) (views c.in_ok-rest-in-Case.rest.now)) (sym (case_form c.in_ok-arms-in-Case.arms.items))
+    ∙ ap (λ (x : Form). found (on_line c.args.token.now.line x) (views c.in_ok-rest-in-Case.rest.now)) (sym (case_form c.in_ok-arms-in-Case.arms.items))
 
-pub read_operand-returns-in_err-whole-in-Name-clause-reads : goal.read_operand-returns-in_err-whole-in-Name-clause-reads
-read_operand-returns-in_err-whole-in-Name-clause-reads t c =
+pub read_operand-returns-in_err-whole-clause-reads : goal.read_operand-returns-in_err-whole-clause-reads
+read_operand-returns-in_err-whole-clause-reads t c =
     let q = name_is (read c.args.most) c.args.most (views c.args.tokens.now) (tokens.view c.in-Some.token.now) (views c.in-Some.rest.now) (ap views c.in-Some.ensures.cases.0)
-    (sym c.token_lead.ensures ∙ c.in-Name.is) in
-    let p = err_from_is_err_and c.from_residual-in_err-whole-in-Name.result c.from_residual-in_err-whole-in-Name.ensures.1 in
-    rw (p.1, p.2) (rw q (Fails-then c.in_err-whole-in-Name.field-0.0 _ _ c.in_err-whole-in-Name.ensures.reads))
-
-pub read_operand-invariant_of-result-in-Name : goal.read_operand-invariant_of-result-in-Name
-read_operand-invariant_of-result-in-Name t c =
-    record { depth_is = let w = ap parts_depth (path_parts c.in_ok-whole-in-Name.whole.path.parts) in omega (arith, c.in_ok-whole-in-Name.whole.depth_is, w) }
-
-pub read_operand-returns-in_ok-whole-in-Name-clause-reads : goal.read_operand-returns-in_ok-whole-in-Name-clause-reads
-read_operand-returns-in_ok-whole-in-Name-clause-reads t c =
-    name_is (read c.args.most) c.args.most (views c.args.tokens.now) (tokens.view c.in-Some.token.now) (views c.in-Some.rest.now) (ap views c.in-Some.ensures.cases.0)
-    (sym c.token_lead.ensures ∙ c.in-Name.is)
-    ∙ found-then _ _ _ _ c.in_ok-whole-in-Name.ensures.reads
-    ∙ ap (λ (x : Form). found (on_line c.in_ok-whole-in-Name.whole.path.line x) (views c.in_ok-whole-in-Name.rest.now)) (sym (path_form c.in_ok-whole-in-Name.whole.path))
+    (sym c.token_lead-lead.ensures ∙ c.in-Name.is) in
+    let p = err_from_is_err_and c.from_residual-in_err-whole.result c.from_residual-in_err-whole.ensures.1 in
+    rw (p.1, p.2) (rw q (Fails-then c.in_err-whole.field-0.0 _ _ c.in_err-whole.ensures.reads))
 
 pub read_part-returns-in_default-clause-reads : goal.read_part-returns-in_default-clause-reads
 read_part-returns-in_default-clause-reads t c =
@@ -557,3 +479,36 @@ pub read_path-returns-clause-reads : goal.read_path-returns-clause-reads
 read_path-returns-clause-reads t c =
     path_found (read c.args.most) c.args.most (views c.args.tokens.now) c.in_ok-first.first (views c.in_ok-first.rest.now) (map part_of c.in_ok-parts.parts.items.items) (views c.in_ok-parts.rest.now) c.in_ok-first.ensures.reads c.in_ok-parts.ensures.reads
     ∙ ap (λ (l : ℕ). found (path_on l c.in_ok-first.first (parts_of (map part_of c.in_ok-parts.parts.items.items))) (views c.in_ok-parts.rest.now)) (sym c.first_line-line.ensures)
+
+pub read_operand-returns-then-most-eq0-clause-reads : goal.read_operand-returns-then-most-eq0-clause-reads
+read_operand-returns-then-most-eq0-clause-reads t c =
+    opened_deep (read c.args.most) c.args.most (views c.args.tokens.now) (tokens.view c.in-Some.token.now) (views c.in-Some.rest.now) (ap views c.in-Some.ensures.cases.0) c.if-most-eq0.true (ap opens (sym c.token_lead-lead.ensures) ∙ sym c.opens_parts.ensures ∙ c.if-opens_parts.true) (length c.args.tokens.now) (sym (length-views c.args.tokens.now))
+
+pub read_operand-returns-in_err-part-clause-reads : goal.read_operand-returns-in_err-part-clause-reads
+read_operand-returns-in_err-part-clause-reads t c =
+    let q = opened_is (read c.args.most) c.args.most (views c.args.tokens.now) (tokens.view c.in-Some.token.now) (views c.in-Some.rest.now) (ap views c.in-Some.ensures.cases.0) (omega (arith, c.if-most-eq0.false)) (ap opens (sym c.token_lead-lead.ensures) ∙ sym c.opens_parts.ensures ∙ c.if-opens_parts.true) in
+    let p = err_from_is_err_and c.from_residual.result c.from_residual.ensures.1 in
+    rw (p.1, p.2) (rw q c.in_err-part.ensures.reads)
+
+pub read_operand-returns-then-opens_parts-clause-reads : goal.read_operand-returns-then-opens_parts-clause-reads
+read_operand-returns-then-opens_parts-clause-reads t c =
+    opened_is (read c.args.most) c.args.most (views c.args.tokens.now) (tokens.view c.in-Some.token.now) (views c.in-Some.rest.now) (ap views c.in-Some.ensures.cases.0) (omega (arith, c.if-most-eq0.false)) (ap opens (sym c.token_lead-lead.ensures) ∙ sym c.opens_parts.ensures ∙ c.if-opens_parts.true) ∙ c.in_ok-part.ensures.reads
+
+pub read_operand-invariant_of-result : goal.read_operand-invariant_of-result
+read_operand-invariant_of-result t c =
+    record { depth_is = let w = ap parts_depth (path_parts c.in_ok-whole.whole.path.parts) in omega (arith, c.in_ok-whole.whole.depth_is, w) }
+
+pub read_operand-returns-in-Name-clause-reads : goal.read_operand-returns-in-Name-clause-reads
+read_operand-returns-in-Name-clause-reads t c =
+    name_is (read c.args.most) c.args.most (views c.args.tokens.now) (tokens.view c.in-Some.token.now) (views c.in-Some.rest.now) (ap views c.in-Some.ensures.cases.0) (sym c.token_lead-lead.ensures ∙ c.in-Name.is)
+    ∙ found-then _ _ _ _ c.in_ok-whole.ensures.reads
+    ∙ ap (λ (x : Form). found (on_line c.in_ok-whole.whole.path.line x) (views c.in_ok-whole.rest.now)) (sym (path_form c.in_ok-whole.whole.path))
+
+pub read_operand-returns-in_default-constant-clause-reads : goal.read_operand-returns-in_default-constant-clause-reads
+read_operand-returns-in_default-constant-clause-reads t c =
+    operand_other (read c.args.most) c.args.most (views c.args.tokens.now) (tokens.view c.in-Some.token.now) (views c.in-Some.rest.now) (ap views c.in-Some.ensures.cases.0) (ap opens (sym c.token_lead-lead.ensures) ∙ sym c.opens_parts.ensures ∙ c.if-opens_parts.false)
+    (λ e. c.in_default-lead.not-Name (c.token_lead-lead.ensures ∙ e)) c.in_default-constant.ensures.none (length c.args.tokens.now) (sym (length-views c.args.tokens.now))
+
+pub read_operand-returns-clause-reads : goal.read_operand-returns-clause-reads
+read_operand-returns-clause-reads t c =
+    constant_is (read c.args.most) c.args.most (views c.args.tokens.now) (tokens.view c.in-Some.token.now) (views c.in-Some.rest.now) (ap views c.in-Some.ensures.cases.0) (form c.in-Some-constant.kind) c.in-Some-constant.ensures.some

@@ -81,3 +81,6 @@ decreases-read_parts-loop-alloc l = length l.rest
 
 abbrev pub decreases-read_path : goal.decreases-read_path
 decreases-read_path l = 6 * l.most + 4
+
+abbrev pub decreases-read_opened : goal.decreases-read_opened
+decreases-read_opened l = 6 * l.most + 4
