@@ -262,10 +262,10 @@ abbrev pub Enclosed : {T A : Type 0} → (T → Bool) → (List T → A → Type
 Enclosed {T} p D ts x = (t : T) × (a : List T) × (ts ≡ a ++ t ∷ []) × (p t ≡ true) × D a x
 
 abbrev pub Both : {T A B : Type 0} → (List T → A → Type 0) → (List T → B → Type 0) → List T → A × B → Type 0
-Both {T} D1 D2 ts z = (a b : List T) × (ts ≡ a ++ b) × D1 a z.0 × D2 b z.1
+Both {T} DA DB ts z = (a b : List T) × (ts ≡ a ++ b) × DA a z.0 × DB b z.1
 
 abbrev pub BothFit : {A B : Type 0} → (A → Type 0) → (B → Type 0) → A × B → Type 0
-BothFit F1 F2 z = F1 z.0 × F2 z.1
+BothFit FA FB z = FA z.0 × FB z.1
 
 -- a token before it
 module _ {T A : Type 0} (p : T → Bool) (t0 : T) (passes : p t0 ≡ true) (D : List T → A → Type 0) (F : A → Type 0) (E : A → List T → Type 0) (run : List T → Reading T A) (one : Reads D F E run) where
@@ -301,30 +301,30 @@ module _ {T A : Type 0} (p : T → Bool) (t0 : T) (passes : p t0 ≡ true) (D : 
       (λ ts x d. (x, d.1, d.0 ∷ [], d.2, d.4, (refl, d.0, refl, d.3))) (λ a x r d e. e) (λ a x r d e. e)
 
 -- two things
-module _ {T A B : Type 0} (D1 : List T → A → Type 0) (F1 : A → Type 0) (E1 : A → List T → Type 0) (run1 : List T → Reading T A) (one : Reads D1 F1 E1 run1)
-    (D2 : List T → B → Type 0) (F2 : B → Type 0) (E2 : B → List T → Type 0) (run2 : List T → Reading T B) (two : Reads D2 F2 E2 run2)
+module _ {T A B : Type 0} (DA : List T → A → Type 0) (FA : A → Type 0) (EA : A → List T → Type 0) (run1 : List T → Reading T A) (one : Reads DA FA EA run1)
+    (DB : List T → B → Type 0) (FB : B → Type 0) (EB : B → List T → Type 0) (run2 : List T → Reading T B) (two : Reads DB FB EB run2)
     (E : A × B → List T → Type 0)
-    (last : (x : A) (b : List T) (y : B) (r : List T) → D2 b y → E1 x (b ++ r) → E2 y r → E (x, y) r)
-    (link : (x : A) (b : List T) (y : B) (r : List T) → D2 b y → E (x, y) r → E1 x (b ++ r))
-    (link2 : (x : A) (b : List T) (y : B) (r : List T) → D2 b y → E (x, y) r → E2 y r)
-    (decide : (x : A) → F1 x ⊎ (F1 x → ⊥)) where
+    (last : (x : A) (b : List T) (y : B) (r : List T) → DB b y → EA x (b ++ r) → EB y r → E (x, y) r)
+    (link : (x : A) (b : List T) (y : B) (r : List T) → DB b y → E (x, y) r → EA x (b ++ r))
+    (link2 : (x : A) (b : List T) (y : B) (r : List T) → DB b y → E (x, y) r → EB y r)
+    (decide : (x : A) → FA x ⊎ (FA x → ⊥)) where
   abbrev Second : A → List T → A × B → Type 0
-  Second x b z = (z.0 ≡ x) × D2 b z.1
+  Second x b z = (z.0 ≡ x) × DB b z.1
 
-  second_reads : (x : A) → F1 x → Reads (Second x) (BothFit F1 F2) (λ z r. E2 z.1 r) (λ r. run2 r >>= λ y v. found (x, y) v)
-  second_reads x f = map_reads D2 F2 E2 run2 two (λ y. (x, y)) (Second x) (BothFit F1 F2) (λ z r. E2 z.1 r)
+  second_reads : (x : A) → FA x → Reads (Second x) (BothFit FA FB) (λ z r. EB z.1 r) (λ r. run2 r >>= λ y v. found (x, y) v)
+  second_reads x f = map_reads DB FB EB run2 two (λ y. (x, y)) (Second x) (BothFit FA FB) (λ z r. EB z.1 r)
       (λ a y d. (refl, d)) (λ a z d. (z.1, ap (λ (w : A). (w, z.1)) d.0, d.1)) (λ y g. (f, g)) (λ y g. g.1) (λ a y r d e. e) (λ a y r d e. e)
 
-  pub both_reads : Reads (Both D1 D2) (BothFit F1 F2) E (both run1 run2)
+  pub both_reads : Reads (Both DA DB) (BothFit FA FB) E (both run1 run2)
   unfolding both
-  both_reads = renamed_reads (Then D1 Second) (BothFit F1 F2) E (λ s. run1 s >>= λ x r. run2 r >>= λ y v. found (x, y) v)
-      (seq_reads D1 F1 E1 run1 one Second (BothFit F1 F2) (λ z r. E2 z.1 r) (λ x r. run2 r >>= λ y v. found (x, y) v) second_reads E
+  both_reads = renamed_reads (Then DA Second) (BothFit FA FB) E (λ s. run1 s >>= λ x r. run2 r >>= λ y v. found (x, y) v)
+      (seq_reads DA FA EA run1 one Second (BothFit FA FB) (λ z r. EB z.1 r) (λ x r. run2 r >>= λ y v. found (x, y) v) second_reads E
       (λ x b z r d e1 e2. subst (λ (w : A). E (w, z.1) r) (sym d.0) (last x b z.1 r d.1 e1 e2))
       (λ x b z r d e. link x b z.1 r d.1 (subst (λ (w : A). E (w, z.1) r) d.0 e))
       (λ x b z r d e. link2 z.0 b z.1 r d.1 e)
-      (λ x b z d f. subst F1 d.0 f.0) decide (λ x. let n = two.some in (n.0, (x, n.1), (refl, n.2))))
-      (Both D1 D2) E
-      (λ ts z d. (d.1, d.2, d.3, subst (D1 d.1) (sym d.5.0) d.4, d.5.1))
+      (λ x b z d f. subst FA d.0 f.0) decide (λ x. let n = two.some in (n.0, (x, n.1), (refl, n.2))))
+      (Both DA DB) E
+      (λ ts z d. (d.1, d.2, d.3, subst (DA d.1) (sym d.5.0) d.4, d.5.1))
       (λ ts z d. (z.0, d.0, d.1, d.2, d.3, (refl, d.4))) (λ a x r d e. e) (λ a x r d e. e)
 
 -- what is read after pre
@@ -360,16 +360,16 @@ prefixed pre s D' D F E G' G into gives (too_deep rest) (front, q, (m, x, d, f),
 )
 
 -- one thing, and then items as long as the first token passes p
-module _ {T A : Type 0} (p : T → Bool) (D1 : List T → A → Type 0) (run1 : List T → Reading T A) (D : List T → A → Type 0) (F : A → Type 0) (E : A → List T → Type 0) (item : List T → Reading T A)
-    (first : Reads D1 F E run1) (one : Reads D F E item)
+module _ {T A : Type 0} (p : T → Bool) (DA : List T → A → Type 0) (run1 : List T → Reading T A) (D : List T → A → Type 0) (F : A → Type 0) (E : A → List T → Type 0) (item : List T → Reading T A)
+    (first : Reads DA F E run1) (one : Reads D F E item)
     (begins : (a : List T) (x : A) → D a x → (t : T) × (u : List T) × (a ≡ t ∷ u) × (p t ≡ true))
     (goes_on : (x : A) (r : List T) → first_is p r ≡ true → E x r)
     (decide : (x : A) → F x ⊎ (F x → ⊥)) where
   abbrev pub ListEnds : A × List A → List T → Type 0
   ListEnds z r = ManyEnds p E (z.0 ∷ z.1) r
 
-  pub list_reads : Reads (Both D1 (EachOf D)) (BothFit F (EachFits F)) ListEnds (both run1 (λ s. many p item (length s) s))
-  list_reads = both_reads D1 F E run1 first (EachOf D) (EachFits F) (ManyEnds p E) (λ s. many p item (length s) s) (many_reads p D F E item one begins goes_on decide)
+  pub list_reads : Reads (Both DA (EachOf D)) (BothFit F (EachFits F)) ListEnds (both run1 (λ s. many p item (length s) s))
+  list_reads = both_reads DA F E run1 first (EachOf D) (EachFits F) (ManyEnds p E) (λ s. many p item (length s) s) (many_reads p D F E item one begins goes_on decide)
       ListEnds
       (λ x b y r d e1 e2. (e2.0, last_ends p D F E item one begins goes_on decide x y b (b ++ r) r refl d e1 e2.1))
       (λ x b y r d e. item_ends p D F E item one begins goes_on decide x y b r d e.1)

@@ -63,32 +63,32 @@ module _ {T A : Type 0} (D : List T → A → Type 0) (Fits : A → Type 0) (End
 -- one after the other
 
 abbrev pub Then : {T A B : Type 0} → (List T → A → Type 0) → (A → List T → B → Type 0) → List T → B → Type 0
-Then {T} {A} {B} D1 D2 ts y = (x : A) × (a : List T) × (b : List T) × (ts ≡ a ++ b) × D1 a x × D2 x b y
+Then {T} {A} {B} DA DB ts y = (x : A) × (a : List T) × (b : List T) × (ts ≡ a ++ b) × DA a x × DB x b y
 
-module _ {T A B : Type 0} (D1 : List T → A → Type 0) (F1 : A → Type 0) (E1 : A → List T → Type 0) (run1 : List T → Reading T A) (one : Reads D1 F1 E1 run1)
-    (D2 : A → List T → B → Type 0) (F2 : B → Type 0) (E2 : B → List T → Type 0) (run2 : A → List T → Reading T B) (two : (x : A) → F1 x → Reads (D2 x) F2 E2 (run2 x))
+module _ {T A B : Type 0} (DA : List T → A → Type 0) (FA : A → Type 0) (EA : A → List T → Type 0) (run1 : List T → Reading T A) (one : Reads DA FA EA run1)
+    (DB : A → List T → B → Type 0) (FB : B → Type 0) (EB : B → List T → Type 0) (run2 : A → List T → Reading T B) (two : (x : A) → FA x → Reads (DB x) FB EB (run2 x))
     (E : B → List T → Type 0)
-    (last : (x : A) (b : List T) (y : B) (r : List T) → D2 x b y → E1 x (b ++ r) → E2 y r → E y r)
-    (link : (x : A) (b : List T) (y : B) (r : List T) → D2 x b y → E y r → E1 x (b ++ r))
-    (link2 : (x : A) (b : List T) (y : B) (r : List T) → D2 x b y → E y r → E2 y r)
-    (fit : (x : A) (b : List T) (y : B) → D2 x b y → F2 y → F1 x)
-    (decide : (x : A) → F1 x ⊎ (F1 x → ⊥))
-    (any : (x : A) → (b : List T) × (y : B) × D2 x b y) where
+    (last : (x : A) (b : List T) (y : B) (r : List T) → DB x b y → EA x (b ++ r) → EB y r → E y r)
+    (link : (x : A) (b : List T) (y : B) (r : List T) → DB x b y → E y r → EA x (b ++ r))
+    (link2 : (x : A) (b : List T) (y : B) (r : List T) → DB x b y → E y r → EB y r)
+    (fit : (x : A) (b : List T) (y : B) → DB x b y → FB y → FA x)
+    (decide : (x : A) → FA x ⊎ (FA x → ⊥))
+    (any : (x : A) → (b : List T) × (y : B) × DB x b y) where
   seq : List T → Reading T B
   seq s = run1 s >>= run2
 
   abbrev SeqOutcome : List T → Reading T B → Type 0
-  SeqOutcome = Outcome (Then D1 D2) F2 E (λ v y. seq v ≡ y)
+  SeqOutcome = Outcome (Then DA DB) FB E (λ v y. seq v ≡ y)
 
-  second : (s a r : List T) (x : A) → s ≡ a ++ r → D1 a x → E1 x r → ((v : List T) → SameHead r v → run1 (a ++ v) ≡ found x v)
-      → (y : Reading T B) → Outcome (D2 x) F2 E2 (λ v z. run2 x v ≡ z) r y → SeqOutcome s y
+  second : (s a r : List T) (x : A) → s ≡ a ++ r → DA a x → EA x r → ((v : List T) → SameHead r v → run1 (a ++ v) ≡ found x v)
+      → (y : Reading T B) → Outcome (DB x) FB EB (λ v z. run2 x v ≡ z) r y → SeqOutcome s y
   unfolding seq
   second s a r x q d e1 g (found y v) (b, q2, d2, f2, e2, g2) = (
     a ++ b,
     q ∙ ap (λ (l : List T). a ++ l) q2 ∙ sym (append_assoc a b v),
     (x, a, b, refl, d, d2),
     f2,
-    last x b y v d2 (subst (E1 x) q2 e1) e2,
+    last x b y v d2 (subst (EA x) q2 e1) e2,
     λ w sh. ap (λ (l : List T). run1 l >>= run2) (append_assoc a b w)
         ∙ found-then (run1 (a ++ (b ++ w))) x (b ++ w) run2 (g (b ++ w) (subst (λ (l : List T). SameHead l (b ++ w)) (sym q2) (SameHead-more b v w sh))) ∙ g2 w sh,
   )
@@ -113,7 +113,7 @@ module _ {T A B : Type 0} (D1 : List T → A → Type 0) (F1 : A → Type 0) (E1
     (m', y', (x, a, (front ++ t ∷ []) ++ m', simp append_assoc, d, d')),
   )
 
-  first : (s : List T) (y : Reading T A) → Outcome D1 F1 E1 (λ v z. run1 v ≡ z) s y → SeqOutcome s (y >>= run2)
+  first : (s : List T) (y : Reading T A) → Outcome DA FA EA (λ v z. run1 v ≡ z) s y → SeqOutcome s (y >>= run2)
   unfolding seq ◌>>=◌
   first s (found x r) (a, q, d, f, e, g) = second s a r x q d e g (run2 x r) ((two x f).outcome r)
   first s (syntax_error rest) (front, q, (m, x, d, f), g) =
@@ -132,19 +132,19 @@ module _ {T A B : Type 0} (D1 : List T → A → Type 0) (F1 : A → Type 0) (E1
         (m' ++ n.0, n.1, (x', (front ++ t ∷ []) ++ m', n.0, sym (append_assoc (front ++ t ∷ []) m' n.0), d', n.2)),
       )
 
-  seq_complete : (ts : List T) (y : B) (r : List T) → Then D1 D2 ts y → E y r → Completes (Then D1 D2) F2 E y r (seq (ts ++ r))
+  seq_complete : (ts : List T) (y : B) (r : List T) → Then DA DB ts y → E y r → Completes (Then DA DB) FB E y r (seq (ts ++ r))
   unfolding seq
   seq_complete ts y r (x, a, b, e, d1, d2) ends =
       let q : ts ++ r ≡ a ++ (b ++ r) = ap (λ (l : List T). l ++ r) e ∙ append_assoc a b r in
       let c = one.complete a x (b ++ r) d1 (link x b y r d2 ends) in
-      subst (λ (l : List T). Completes (Then D1 D2) F2 E y r (run1 l >>= run2)) (sym q) (record {
+      subst (λ (l : List T). Completes (Then DA DB) FB E y r (run1 l >>= run2)) (sym q) (record {
         within = λ f. let fx = fit x b y d2 f in found-then (run1 (a ++ (b ++ r))) x (b ++ r) run2 (c.within fx) ∙ ((two x fx).complete b y r d2 (link2 x b y r d2 ends)).within f;
         beyond = λ n. ⊎_elim
             (λ fx. subst IsDeep (sym (found-then (run1 (a ++ (b ++ r))) x (b ++ r) run2 (c.within fx))) (((two x fx).complete b y r d2 (link2 x b y r d2 ends)).beyond n))
             (λ nx. deep-then (run1 (a ++ (b ++ r))) run2 (c.beyond nx)) (decide x);
       })
 
-  pub seq_reads : Reads (Then D1 D2) F2 E (λ s. run1 s >>= run2)
+  pub seq_reads : Reads (Then DA DB) FB E (λ s. run1 s >>= run2)
   unfolding seq
   seq_reads = record {
     complete = seq_complete;
@@ -193,12 +193,12 @@ same_first p (x ∷ u) [] h = absurd h
 same_first p (x ∷ u) (y ∷ v) h = ap p h
 
 module _ {T A : Type 0} (p : T → Bool) (F : A → Type 0) (E : A → List T → Type 0)
-    (D1 : List T → A → Type 0) (run1 : List T → Reading T A) (one : Reads D1 F E run1)
-    (D2 : List T → A → Type 0) (run2 : List T → Reading T A) (two : Reads D2 F E run2)
-    (begins1 : (a : List T) (x : A) (r : List T) → D1 a x → first_is p (a ++ r) ≡ true)
-    (begins2 : (a : List T) (x : A) (r : List T) → D2 a x → E x r → first_is p (a ++ r) ≡ false) where
+    (DA : List T → A → Type 0) (run1 : List T → Reading T A) (one : Reads DA F E run1)
+    (DB : List T → A → Type 0) (run2 : List T → Reading T A) (two : Reads DB F E run2)
+    (begins1 : (a : List T) (x : A) (r : List T) → DA a x → first_is p (a ++ r) ≡ true)
+    (begins2 : (a : List T) (x : A) (r : List T) → DB a x → E x r → first_is p (a ++ r) ≡ false) where
   abbrev pub Either : List T → A → Type 0
-  Either ts x = D1 ts x ⊎ D2 ts x
+  Either ts x = DA ts x ⊎ DB ts x
 
   abbrev ChooseOutcome : List T → Reading T A → Type 0
   ChooseOutcome = Outcome Either F E (λ v y. choose p run1 run2 v ≡ y)
@@ -227,8 +227,8 @@ module _ {T A : Type 0} (p : T → Bool) (F : A → Type 0) (E : A → List T �
 
   choose_outcome : (s : List T) (b : Bool) → first_is p s ≡ b → ChooseOutcome s (cond b (run1 s) (run2 s))
   unfolding choose
-  choose_outcome s true h = by_first D1 (λ a x d. inl d) run1 s (λ v sh. let e = sym (same_first p s v sh) ∙ h in rw e refl) (run1 s) (one.outcome s)
-  choose_outcome s false h = by_first D2 (λ a x d. inr d) run2 s (λ v sh. let e = sym (same_first p s v sh) ∙ h in rw e refl) (run2 s) (two.outcome s)
+  choose_outcome s true h = by_first DA (λ a x d. inl d) run1 s (λ v sh. let e = sym (same_first p s v sh) ∙ h in rw e refl) (run1 s) (one.outcome s)
+  choose_outcome s false h = by_first DB (λ a x d. inr d) run2 s (λ v sh. let e = sym (same_first p s v sh) ∙ h in rw e refl) (run2 s) (two.outcome s)
 
   pub choose_reads : Reads Either F E (choose p run1 run2)
   unfolding choose
