@@ -1,5 +1,5 @@
 -- One step of the code each, in terms of reading.
-use Rattle.std.proofs.Common.{◌≡◌, ℕ, zero, suc, ◌+◌, ◌-◌, ◌≤◌, ◌<◌, Bool, true, false, List, [], ◌∷◌, length, refl, sym, ◌∙◌, ap, subst, arith, le-leb, Option, Some, None, Result, Ok, Err}
+use Rattle.std.proofs.Common.{◌≡◌, ℕ, zero, suc, ◌+◌, ◌-◌, ◌≤◌, ◌<◌, Bool, true, false, List, [], ◌∷◌, length, refl, sym, ◌∙◌, ap, subst, arith, le-leb, Option, Some, None}
 use Rattle.std.proofs.lemmas.Bool.{lt-leb}
 use Rattle.token_readers.specs.Reading.{Reading, ◌>>=◌, accept, accepted, expect, enclosed, headed, both, switch, after_first, many, first_is}
 use Rattle.token_readers.specs.Reading.Reading.{found, syntax_error, too_deep}
@@ -16,12 +16,12 @@ use Rattle.smv_parser.specs.declared.expressions.PrefixOperator.{PrefixOperator}
 use Rattle.smv_parser.specs.declared.tokens.Lead.{Lead}
 use Rattle.smv_parser.specs.Tree.{Tree, Form, PathTree, Part, field_part, index_part, parts_of, path_on, on_line, depth, trees_of, arms_of}
 use Rattle.smv_parser.specs.Words.{level_of, prefix_level}
-use Rattle.smv_parser.specs.Tests.{is_sign, is_key, word_in, name_of, lead_of, operator_of}
+use Rattle.smv_parser.specs.Tests.{is_sign, is_key, name_of, lead_of, operator_of}
 use Rattle.smv_parser.proofs.TokenTests.{LeadIs, lead_is}
-use Rattle.smv_parser.specs.Reading.{is_dot, is_bracket, begins_part, part_tail, index_tail, part_by, read_part, read_parts, read_path, path_line, front_line, text_of, read_until, read_arm, read_arms, begins_expression, read_list, read_others, value_of, opens, constant_by, constant_form, with_room, tail, operand_by, operand, operator_step, more, read, Stops, binary}
+use Rattle.smv_parser.specs.Reading.{begins_part, part_tail, index_tail, part_by, read_part, read_parts, read_path, path_line, front_line, text_of, read_until, read_arm, read_arms, begins_expression, read_list, read_others, value_of, opens, constant_by, constant_form, with_room, tail, operand_by, operand, operator_step, more, read, Stops, binary}
 use Rattle.smv_parser.specs.declared.reader.Failure.{Failure}
 use Rattle.smv_parser.specs.declared.reader.Failure.TheVariants as failures
-use Rattle.smv_parser.specs.Gives.{Gives, GivesRest, Fails, IsSyntaxError, IsTooDeep}
+use Rattle.smv_parser.specs.Gives.{Fails, IsSyntaxError, IsTooDeep}
 
 pub expect_found : (p : Placed → Bool) (s : List Placed) (t : Placed) (v : List Placed) → s ≡ t ∷ v → p t ≡ true → expect p s ≡ found t v
 unfolding expect

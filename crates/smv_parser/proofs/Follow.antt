@@ -1,16 +1,16 @@
 -- What may follow an expression, and how levels go together.
-use Rattle.std.proofs.Common.{◌≡◌, ℕ, zero, suc, ◌+◌, ◌≤◌, ◌<◌, nat_le, leb, Bool, true, false, cond, ◌||◌, ◌⊎◌, List, [], ◌∷◌, ◌++◌, length, Option, Some, None, refl, sym, ◌∙◌, ap, subst, arith, le-leb, leb-true, inl, inr, ⊎_elim}
+use Rattle.std.proofs.Common.{◌≡◌, ℕ, ◌+◌, ◌≤◌, ◌<◌, nat_le, leb, Bool, true, false, cond, ◌||◌, ◌⊎◌, List, [], ◌∷◌, ◌++◌, Some, refl, sym, ◌∙◌, ap, subst, arith, le-leb, inl, inr}
 use Rattle.std.proofs.lemmas.Bool.Decides.{leb_tells}
 use Rattle.token_readers.specs.Reading.{first_is}
 use Rattle.token_readers.proofs.Readers.{SameHead}
 use Rattle.smv_lexer.specs.Text.{Kind, Placed}
 use Rattle.smv_parser.specs.declared.expressions.BinaryOperator.{BinaryOperator}
 use Rattle.smv_parser.specs.Tree.{Tree, Form, PathTree, on_line, depth, form_depth}
-use Rattle.smv_parser.specs.Words.{level_of, prefix_level, binary_word, BeginsOn, Is}
+use Rattle.smv_parser.specs.Words.{level_of, prefix_level, binary_word, BeginsOn}
 use Rattle.smv_lexer.specs.declared.sign.Sign.{Sign}
 use Rattle.smv_parser.specs.Tests.{operator_of, sign_is, sign_number}
 use Rattle.smv_parser.proofs.TokenTests.{operator_is}
-use Rattle.smv_parser.specs.Grammar.{Derives, Forms}
+use Rattle.smv_parser.specs.Grammar.{Derives}
 use Rattle.smv_parser.specs.Reading.{begins_part, line_of, binary, operator_at, Stops}
 
 abbrev pub IsLevel : ℕ → Tree → Type 0

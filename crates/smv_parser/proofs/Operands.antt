@@ -1,23 +1,22 @@
 -- Each operand is read exactly, where its parts are.
-use Rattle.std.proofs.Common.{◌≡◌, ℕ, zero, suc, ◌+◌, ◌≤◌, ◌<◌, max, cond, leb, nat_le, Bool, true, false, ◌⊎◌, List, [], ◌∷◌, ◌++◌, length, Option, Some, None, refl, sym, ◌∙◌, ap, subst, arith, append_assoc, append-nil, length-append, le-leb, leb-true, inl, inr, ⊎_elim}
+use Rattle.std.proofs.Common.{◌≡◌, ℕ, suc, ◌≤◌, ◌<◌, cond, leb, Bool, true, false, ◌⊎◌, List, [], ◌∷◌, ◌++◌, None, refl, sym, ◌∙◌, ap, subst, arith, inl, inr, ⊎_elim}
 use Rattle.std.proofs.lemmas.Bool.Decides.{leb_tells}
-use Rattle.token_readers.specs.Reading.{Reading, ◌>>=◌, accept, switch, many, after_first, headed, enclosed, both, first_is}
-use Rattle.token_readers.specs.Reading.Reading.{found, syntax_error, too_deep}
-use Rattle.token_readers.proofs.Readers.{SameHead, Outcome, Completes, Reads, EachOf, EachFits, LastEnds, ManyEnds, many_reads}
-use Rattle.token_readers.proofs.More.{map_reads, renamed_reads, accept_reads, IsKnown, Headed, Enclosed, Both, BothFit, headed_reads, enclosed_reads, both_reads, list_reads, AnyOf, Alternative, give_reads, all_end, decide_both, decide_each, reads_alternative, no_alternative, tail_alternative, deep_alternative, switch_reads, line_reads}
+use Rattle.token_readers.specs.Reading.{Reading, accept, after_first, headed, enclosed, both, first_is}
+use Rattle.token_readers.proofs.Readers.{Reads, EachOf, EachFits, ManyEnds, many_reads}
+use Rattle.token_readers.proofs.More.{map_reads, accept_reads, IsKnown, Headed, Enclosed, Both, BothFit, headed_reads, enclosed_reads, both_reads, list_reads, AnyOf, Alternative, give_reads, all_end, decide_both, decide_each, no_alternative, tail_alternative, deep_alternative, switch_reads, line_reads}
 use Rattle.smv_lexer.specs.declared.keyword.Keyword.{Keyword}
 use Rattle.smv_lexer.specs.declared.sign.Sign.{Sign}
 use Rattle.smv_lexer.specs.Text.{Kind, Placed}
-use Rattle.smv_lexer.specs.Text.Kind.{word, key, mark}
+use Rattle.smv_lexer.specs.Text.Kind.{key, mark}
 use Rattle.smv_parser.specs.declared.expressions.BinaryOperator.{BinaryOperator}
 use Rattle.smv_parser.specs.declared.expressions.PathQuantifier.{PathQuantifier}
 use Rattle.smv_parser.specs.declared.expressions.PrefixOperator.{PrefixOperator}
 use Rattle.smv_parser.specs.declared.tokens.Lead.{Lead}
-use Rattle.smv_parser.specs.Tree.{Tree, Form, PathTree, path_depth, Trees, Arms, Parts, on_line, path_on, depth, trees_of, trees_depth, arms_depth, parts_depth, Part, field_part, index_part, parts_of, arms_of}
+use Rattle.smv_parser.specs.Tree.{Tree, Form, PathTree, path_depth, on_line, path_on, depth, trees_of, trees_depth, arms_depth, parts_depth, Part, field_part, index_part, parts_of, arms_of}
 use Rattle.smv_parser.specs.Words.{level_of, prefix_level}
-use Rattle.smv_parser.specs.Tests.{is_sign, is_key, sign_is, key_is, sign_number, key_number, name_of, lead_of, kind_lead, operator_of, kind_operator}
+use Rattle.smv_parser.specs.Tests.{is_sign, is_key, sign_is, sign_number, key_number, name_of, lead_of, kind_lead, operator_of, kind_operator}
 use Rattle.smv_parser.specs.Grammar.{Derives}
-use Rattle.smv_parser.specs.Reading.{text_of, value_of, begins_part, PartLead, dot, bracket, neither, part_lead, leads, is_dot, is_bracket, begins_expression, with_room, part_tail, index_tail, part_by, read_part, read_parts, read_path, front_line, read_others, read_list, read_arm, read_arms, read_until, tail, operand_by, operand, Stops}
+use Rattle.smv_parser.specs.Reading.{text_of, value_of, begins_part, PartLead, dot, bracket, neither, part_lead, leads, is_dot, is_bracket, begins_expression, with_room, part_tail, index_tail, part_by, read_part, read_parts, read_path, front_line, read_others, read_list, read_arm, read_arms, read_until, tail, operand_by, operand}
 use Rattle.smv_parser.proofs.TokenTests.{sign_is-kind, key_is-kind}
 use Rattle.smv_parser.proofs.Follow.{Follows, Ends, PathEnds, depth_pos, Derives-level}
 use Rattle.smv_parser.proofs.Leads.{first_leads}

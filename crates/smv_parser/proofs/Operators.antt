@@ -1,20 +1,20 @@
 -- Operands with operators between them, read by levels.
-use Rattle.std.proofs.Common.{◌≡◌, ℕ, zero, suc, ◌+◌, ◌≤◌, ◌<◌, max, cond, leb, nat_le, Bool, true, false, ◌||◌, ◌⊎◌, List, [], ◌∷◌, ◌++◌, length, Option, Some, None, refl, sym, ◌∙◌, ap, subst, arith, append_assoc, append-nil, length-append, le-leb, leb-true, inl, inr, ⊎_elim}
+use Rattle.std.proofs.Common.{◌≡◌, ℕ, zero, suc, ◌+◌, ◌≤◌, ◌<◌, leb, nat_le, Bool, true, false, ◌||◌, ◌⊎◌, List, [], ◌∷◌, ◌++◌, length, Option, Some, None, refl, sym, ◌∙◌, ap, subst, arith, append_assoc, append-nil, length-append, le-leb, ⊎_elim}
 use Rattle.std.proofs.lemmas.Bool.Decides.{leb_tells}
 use Rattle.token_readers.specs.Reading.{Reading, ◌>>=◌}
 use Rattle.token_readers.specs.Reading.Reading.{found, syntax_error, too_deep}
-use Rattle.token_readers.proofs.Readers.{SameHead, SameHead-front, SameHead-more, IsDeep, deep-then, found-then, Outcome, Completes, Reads}
+use Rattle.token_readers.proofs.Readers.{IsDeep, deep-then, found-then, Outcome, Completes, Reads}
 use Rattle.token_readers.proofs.More.{prefixed}
-use Rattle.smv_lexer.specs.Text.{Kind, Placed}
+use Rattle.smv_lexer.specs.Text.{Placed}
 use Rattle.smv_lexer.specs.Text.Kind.{word}
 use Rattle.smv_parser.specs.declared.expressions.BinaryOperator.{BinaryOperator}
 use Rattle.smv_parser.specs.Tree.{Tree, Form, on_line, path_on, no_parts, depth}
-use Rattle.smv_parser.specs.Words.{level_of, prefix_level, binary_word, BeginsOn, Is}
+use Rattle.smv_parser.specs.Words.{level_of, prefix_level, BeginsOn}
 use Rattle.smv_parser.specs.Tests.{operator_of}
-use Rattle.smv_parser.specs.Grammar.{Derives, Forms}
-use Rattle.smv_parser.specs.Reading.{line_of, binary, operand, operator_step, more, read, operator_at, Stops}
+use Rattle.smv_parser.specs.Grammar.{Derives}
+use Rattle.smv_parser.specs.Reading.{line_of, binary, operand, operator_step, more, Stops}
 use Rattle.smv_parser.proofs.TokenTests.{operator_is, operator_found}
-use Rattle.smv_parser.proofs.Follow.{IsLevel, IsOperand, EndsInPrefix, Follows, Ends, same_operator, Stops-same, depth_pos, Derives-level, Derives-weaker, loosen, left_ends, left_operand, as_operand, operand_derives, begins_line, BeginsOn-append, Follows-right, Stops-right, Follows-node, follows_operator}
+use Rattle.smv_parser.proofs.Follow.{IsLevel, EndsInPrefix, Follows, Ends, Stops-same, depth_pos, Derives-level, Derives-weaker, loosen, left_ends, left_operand, as_operand, operand_derives, begins_line, BeginsOn-append, Follows-right, Stops-right, Follows-node, follows_operator}
 
 some_suc : (n m : ℕ) → suc n ≤ m → (p : ℕ) × (n ≤ p) × (m ≡ suc p)
 some_suc n zero h = absurd (omega arith)

@@ -1,7 +1,7 @@
 -- The grammar's operands are those that are read after their first token.
-use Rattle.std.proofs.Common.{◌≡◌, ℕ, zero, suc, ◌+◌, ◌≤◌, cond, Bool, true, false, List, [], ◌∷◌, ◌++◌, Option, Some, None, refl, sym, ◌∙◌, ap, subst, arith, append_assoc, append-nil}
+use Rattle.std.proofs.Common.{◌≡◌, ℕ, suc, ◌≤◌, cond, Bool, true, false, List, [], ◌∷◌, ◌++◌, Some, refl, sym, ◌∙◌, ap, subst, arith, append_assoc}
 use Rattle.token_readers.proofs.Readers.{EachOf, Reads}
-use Rattle.token_readers.proofs.More.{AnyOf, Headed, Enclosed, Both, IsKnown, renamed_reads}
+use Rattle.token_readers.proofs.More.{AnyOf, Headed, renamed_reads}
 use Rattle.token_readers.specs.Reading.{Reading}
 use Rattle.smv_lexer.specs.declared.keyword.Keyword.{Keyword}
 use Rattle.smv_lexer.specs.declared.sign.Sign.{Sign}
@@ -10,13 +10,13 @@ use Rattle.smv_lexer.specs.Text.Kind.{word, key, mark}
 use Rattle.smv_parser.specs.declared.expressions.BinaryOperator.{BinaryOperator}
 use Rattle.smv_parser.specs.declared.tokens.Lead.{Lead}
 use Rattle.smv_parser.specs.Tree.{Tree, Form, PathTree, path_depth, Trees, Arms, Parts, on_line, path_on, no_parts, no_trees, no_arms, depth, trees_of, Part, field_part, index_part, parts_of, arms_of}
-use Rattle.smv_parser.specs.Words.{level_of, prefix_level, prefix_word, quantifier_word, truth_word, Is, BeginsOn}
-use Rattle.smv_parser.specs.Tests.{is_sign, is_key, sign_is, key_is, sign_number, key_number, word_in, number_in, name_of, number_of, kind_lead, lead_of}
-use Rattle.smv_parser.specs.Grammar.{Derives, DerivesPath, DerivesParts, DerivesSome, DerivesOthers, DerivesArms}
-use Rattle.smv_parser.specs.Reading.{front_line, read_path, line_of, text_of, value_of, some_or, PartLead, dot, bracket, neither, part_lead, is_dot, is_bracket, operand}
+use Rattle.smv_parser.specs.Words.{level_of, prefix_word, quantifier_word, truth_word, Is, BeginsOn}
+use Rattle.smv_parser.specs.Tests.{is_sign, sign_is, sign_number, word_in, number_in, kind_lead, lead_of}
+use Rattle.smv_parser.specs.Grammar.{Derives, DerivesPath, DerivesParts, DerivesOthers, DerivesArms}
+use Rattle.smv_parser.specs.Reading.{front_line, read_path, text_of, value_of, some_or, PartLead, dot, bracket, neither, part_lead, is_dot, is_bracket, operand}
 use Rattle.smv_parser.proofs.TokenTests.{sign_is-kind, key_is-kind, kind_is-sign, kind_is-key, word_in-kind, lead_is, LeadIs, prefix_lead, truth_lead, quantifier_lead}
 use Rattle.smv_parser.proofs.Follow.{Follows, Ends, PathEnds}
-use Rattle.smv_parser.proofs.Operands.{PartTail, PartIs, PathIs, path_reads, ListIs, ArmIs, UntilIs, Tail, LedBy, led_reads}
+use Rattle.smv_parser.proofs.Operands.{PartTail, PartIs, PathIs, path_reads, ArmIs, Tail, LedBy, led_reads}
 
 is_it : (s : Sign) (t : Placed) → Is (mark s) t → is_sign s t ≡ true
 is_it s t h = kind_is-sign s t.kind h

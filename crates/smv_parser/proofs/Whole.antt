@@ -1,7 +1,7 @@
 -- The reader of expressions reads exactly the grammar's expressions.
 use Rattle.std.proofs.Common.{◌≡◌, ℕ, zero, suc, ◌-◌, ◌≤◌, ◌<◌, max, leb, ◌⊎◌, inl, inr, true, false, List, [], ◌∷◌, length, refl, arith}
 use Rattle.std.proofs.lemmas.Bool.Decides.{leb_tells}
-use Rattle.token_readers.specs.Reading.{Reading, ◌>>=◌, switch, after_first, many, enclosed, both, expect}
+use Rattle.token_readers.specs.Reading.{◌>>=◌, switch, after_first, many, enclosed, both, expect}
 use Rattle.token_readers.specs.Reading.Reading.{found, syntax_error, too_deep}
 use Rattle.token_readers.specs.Places.{IsSyntaxPlace, IsTooDeepPlace}
 use Rattle.token_readers.proofs.Places as places

@@ -1,10 +1,10 @@
 -- Reading an expression from left to right, within a depth.
-use Rattle.std.specs.Prelude.{◌≡◌, ◌<◌, ℕ, zero, suc, ◌+◌, cond, nat_le, Bool, true, false, length, List, [], ◌∷◌, Option, Some, None, map}
+use Rattle.std.specs.Prelude.{◌≡◌, ◌<◌, ℕ, zero, suc, ◌+◌, cond, nat_le, Bool, true, false, length, List, [], ◌∷◌, Option, Some, None}
 use Rattle.token_readers.specs.Reading.{Reading, ◌>>=◌, accept, switch, many, first_line, after_first, headed, enclosed, both}
 use Rattle.token_readers.specs.Reading.Reading.{found, syntax_error, too_deep}
 use Rattle.smv_lexer.specs.declared.keyword.Keyword.{Keyword}
 use Rattle.smv_lexer.specs.declared.sign.Sign.{Sign}
-use Rattle.smv_lexer.specs.Text.{Kind, Placed}
+use Rattle.smv_lexer.specs.Text.{Placed}
 use Rattle.smv_parser.specs.declared.expressions.BinaryOperator.{BinaryOperator}
 use Rattle.smv_parser.specs.declared.tokens.Lead.{Lead}
 use Rattle.smv_parser.specs.Tree.{Tree, Form, PathTree, Part, on_line, path_on, field_part, index_part, depth, parts_of, trees_of, arms_of}

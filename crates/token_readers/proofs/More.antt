@@ -1,8 +1,8 @@
 -- More readers made of readers.
-use Rattle.std.proofs.Common.{◌≡◌, ℕ, zero, suc, ◌<◌, ◌≤◌, Bool, true, false, cond, ◌⊎◌, List, [], ◌∷◌, ◌++◌, length, Option, Some, None, refl, sym, ◌∙◌, ap, subst, arith, append_assoc, append-nil, length-append, inl, inr, ⊎_elim}
+use Rattle.std.proofs.Common.{◌≡◌, ℕ, Bool, true, ◌⊎◌, List, [], ◌∷◌, ◌++◌, length, Option, Some, None, refl, sym, ◌∙◌, ap, subst, append_assoc, inl, inr}
 use Rattle.token_readers.specs.Reading.{Reading, ◌>>=◌, accept, accepted, expect, switch, first_line, after_first, headed, enclosed, both, first_is, many}
 use Rattle.token_readers.specs.Reading.Reading.{found, syntax_error, too_deep}
-use Rattle.token_readers.proofs.Readers.{SameHead, SameHead-front, SameHead-more, IsDeep, deep-then, found-then, Opens, OpensAny, Outcome, Completes, Reads, EachOf, EachFits, LastEnds, ManyEnds, item_ends, tail_ends, last_ends, many_reads, IsToken, expect_reads, Then, seq_reads}
+use Rattle.token_readers.proofs.Readers.{SameHead, SameHead-front, SameHead-more, IsDeep, deep-then, found-then, Outcome, Completes, Reads, EachOf, EachFits, LastEnds, ManyEnds, item_ends, tail_ends, last_ends, many_reads, IsToken, expect_reads, Then, seq_reads}
 
 -- what begins as s does is read by run' as by run
 pub transfer : {T A : Type 0} (D D' : List T → A → Type 0) (F : A → Type 0) (E E' : A → List T → Type 0) → ((a : List T) (x : A) → D a x → D' a x)

@@ -1,4 +1,4 @@
-use Rattle.std.proofs.Common.{rules, ◌≡◌, ◌≤◌, ◌<◌, ◌+◌, ◌-◌, ℕ, List, [], ◌∷◌, ◌++◌, map, length, refl, sym, ◌∙◌, ap, subst, arith, append-nil, append_assoc, length-append, max}
+use Rattle.std.proofs.Common.{◌≡◌, ◌<◌, ◌-◌, ℕ, List, [], ◌∷◌, ◌++◌, map, length, refl, sym, ◌∙◌, ap, arith, append-nil, append_assoc, length-append, max}
 use Rattle.smv_parser.proofs.Views.{case_arms, case_form, arms_whole, arms_depth-push, braces_form, braces_trees, pair_whole, trees_depth-push, map-last, map-last-more, length-mapped, path_parts, path_form, parts_depth-push}
 use Rattle.std.proofs.lemmas.Result.{err_from_is_err_and}
 use Rattle.smv_lexer.specs.declared.sign.Sign.{Sign}
@@ -10,9 +10,8 @@ use Rattle.smv_lexer.specs.declared.keyword.Keyword.{Keyword}
 use Rattle.token_readers.proofs.Readers.{found-then}
 use Rattle.smv_parser.specs.Tests.{is_sign, is_key}
 use Rattle.smv_parser.specs.Tree.{Tree, Form, Part, parts_of, parts_depth, path_on, on_line, depth, trees_depth, trees_of, arms_depth, arms_of}
-use Rattle.smv_parser.specs.Reading.{opens, begins_part, read_part, read_parts, read, operand, more, read_until, read_list, pair_of, read_arm, read_arms, arms_pair_of, begins_expression}
+use Rattle.smv_parser.specs.Reading.{opens, begins_part, read_part, read, read_until, read_list, pair_of, read_arm, read_arms, arms_pair_of, begins_expression}
 use Rattle.smv_parser.specs.View.{form, tree_of, arm_pair, part_of}
-use Rattle.smv_parser.proofs.Follow.{depth_pos}
 use Rattle.smv_parser.proofs.Codes.{opened_is, opened_deep, constant_is, operand_other, part_empty, field_is, index_is, index_deep, part_other, parts_start, path_fails, path_fails_after, path_found, name_is, arm_found, arms_start, case_is, first_some, rest_stops, rest_more, rest_fails, list_start, list_fails, braces_is, both_fails, both_fails_after, both_found, until_found, until_is, Fails-then, length-views, enclosed_fails, enclosed_fails_after, enclosed_found, headed_is, headed_fails, operand_empty, parens_is, next_is, prefix_is, read_start, more_step, more_too_deep, more_stops}
 use Rattle.smv_parser.proofs.reading.+reading.Goals as goal
 
