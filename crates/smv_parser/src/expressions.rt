@@ -1,8 +1,8 @@
-//! Expressions as they are written, each with the line of its first token.
+//! Expressions as they are written, each with the line of its first token. Lines count from 1.
 
 use kripke_model::Name;
 
-/// An operator between two operands.
+/// An operator between two operands, as `->`, `|` or `mod`. McMillan's SMV manual has them all.
 #[derive(Clone, Copy, Debug, PartialEq, Eq)]
 pub enum BinaryOperator {
     Implies,
@@ -23,7 +23,7 @@ pub enum BinaryOperator {
     Divide,
 }
 
-/// An operator in front of its operand.
+/// An operator in front of its operand: `!`, or a path operator of CTL with one operand, as `EX` or `AG`.
 #[derive(Clone, Copy, Debug, PartialEq, Eq)]
 pub enum PrefixOperator {
     Not,
@@ -35,31 +35,41 @@ pub enum PrefixOperator {
     AllGlobally,
 }
 
-/// The `E` or `A` of an until.
+/// The `E` or `A` of an until: some fair path, or every one.
 #[derive(Clone, Copy, Debug, PartialEq, Eq)]
 pub enum PathQuantifier {
     Exists,
     All,
 }
 
+/// An expression.
 #[derive(Debug, Drop)]
 #[cycle(expr)]
 pub struct Expr {
     pub kind: ExprKind,
+    /// The line of its first token, which for a binary operator is that of the left operand.
     pub line: u32,
 }
 
+/// What an expression is.
 #[derive(Debug, Drop)]
 #[cycle(expr)]
 pub enum ExprKind {
+    /// From 0 to 2,147,483,647.
     Number(u32),
+    /// `TRUE` or `FALSE`.
     Truth(bool),
     Running,
     Path(Path),
+    /// `next ( .. )`
     Next(Box<Expr>),
+    /// `( .. )`
     Parens(Box<Expr>),
+    /// `{ .. }`, of at least one expression.
     Braces(Vec<Expr>),
+    /// `case .. esac`, of at least one arm.
     Case(Vec<Arm>),
+    /// `E [ .. U .. ]` or `A [ .. U .. ]`
     Until(PathQuantifier, Box<Expr>, Box<Expr>),
     Prefix(PrefixOperator, Box<Expr>),
     Binary(BinaryOperator, Box<Expr>, Box<Expr>),
@@ -79,12 +89,16 @@ pub struct Arm {
 pub struct Path {
     pub first: Name,
     pub parts: Vec<PathPart>,
+    /// The line of the first name.
     pub line: u32,
 }
 
+/// What may follow the first name of a path.
 #[derive(Debug, Drop)]
 #[cycle(expr)]
 pub enum PathPart {
+    /// `.name`
     Field(Name),
+    /// `[ .. ]`
     Index(Expr),
 }

@@ -3,11 +3,13 @@
 use crate::expressions::{Expr, Path};
 use kripke_model::Name;
 
+/// A program: its modules in the order of the text.
 #[derive(Debug, Drop)]
 pub struct Program {
     pub modules: Vec<Module>,
 }
 
+/// `MODULE name ( formals )` and its sections, in the order of the text.
 #[derive(Debug, Drop)]
 pub struct Module {
     pub name: Name,
@@ -16,18 +18,21 @@ pub struct Module {
     pub line: u32,
 }
 
+/// A formal parameter of a module.
 #[derive(Debug, Drop)]
 pub struct Formal {
     pub name: Name,
     pub line: u32,
 }
 
+/// A section of a module. Its line is that of its word, as `VAR`.
 #[derive(Debug, Drop)]
 pub struct Section {
     pub kind: SectionKind,
     pub line: u32,
 }
 
+/// What a section holds.
 #[derive(Debug, Drop)]
 pub enum SectionKind {
     Variables(Vec<Declaration>),
@@ -69,6 +74,7 @@ pub struct Definition {
     pub line: u32,
 }
 
+/// The left side of an assignment.
 #[derive(Debug, Drop)]
 pub struct Left {
     pub kind: LeftKind,
@@ -76,6 +82,7 @@ pub struct Left {
     pub line: u32,
 }
 
+/// Which value an assignment gives: the current one, `init ( .. )` or `next ( .. )`.
 #[derive(Clone, Copy, Debug, PartialEq, Eq)]
 pub enum LeftKind {
     Current,
@@ -83,12 +90,14 @@ pub enum LeftKind {
     Next,
 }
 
+/// The type of a declaration.
 #[derive(Debug, Drop)]
 pub struct TypeForm {
     pub kind: TypeKind,
     pub line: u32,
 }
 
+/// A plain type, or an instance of a module.
 #[derive(Debug, Drop)]
 pub enum TypeKind {
     Plain(Plain),
@@ -99,6 +108,7 @@ pub enum TypeKind {
     },
 }
 
+/// A type of values, or an array.
 #[derive(Debug, Drop)]
 #[cycle(plain)]
 pub struct Plain {
@@ -106,6 +116,7 @@ pub struct Plain {
     pub line: u32,
 }
 
+/// What a plain type is. A range and an array have their low end first; no order is asked here.
 #[derive(Debug, Drop)]
 #[cycle(plain)]
 pub enum PlainKind {
@@ -115,12 +126,14 @@ pub enum PlainKind {
     Array(u32, u32, Box<Plain>),
 }
 
+/// A member of an enumeration.
 #[derive(Debug, Drop)]
 pub struct Constant {
     pub kind: ConstantKind,
     pub line: u32,
 }
 
+/// What a member of an enumeration is.
 #[derive(Debug, Drop)]
 pub enum ConstantKind {
     Name(Name),

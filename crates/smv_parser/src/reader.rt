@@ -15,7 +15,9 @@ use std::alloc::{AllocError, AllocFailed, Global};
 /// Why reading stops, with the number of tokens that are left there.
 #[derive(Debug, Drop)]
 pub enum Failure {
+    /// Nothing goes on with the token there.
     Syntax(usize),
+    /// Only something too deep goes on with it.
     TooDeep(usize),
     Memory,
 }
@@ -40,6 +42,7 @@ impl<T: Drop> From<AllocFailed<T>> for Failure {
     }
 }
 
+/// Whether the token is this sign.
 pub fn token_is_sign(token: &Token, sign: Sign) -> bool
     ensures { result ≡ is_sign sign (tokens.view token.now) }
 {
@@ -49,6 +52,7 @@ pub fn token_is_sign(token: &Token, sign: Sign) -> bool
     }
 }
 
+/// Whether the token is this reserved word.
 pub fn token_is_key(token: &Token, key: Keyword) -> bool
     ensures { result ≡ is_key key (tokens.view token.now) }
 {
