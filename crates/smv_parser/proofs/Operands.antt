@@ -29,13 +29,13 @@ token k = record { kind = k; at = 0; end = 0; line = 0 }
 pub ends_at : (k : ℕ) (e : Tree) (c : Placed) (r : List Placed) → operator_of c ≡ None → begins_part c ≡ false → Ends k e (c ∷ r)
 ends_at k e c r h i = (((λ o j. absurd cc), λ z. i), λ o j. absurd cc)
 
-abbrev Quiet : Kind → Type 0
+abbrev pub Quiet : Kind → Type 0
 Quiet k = (kind_operator k ≡ None) × (cond (sign_is Sign.Dot k) true (sign_is Sign.OpenBracket k) ≡ false)
 
-ends_at_sign : (s : Sign) → Quiet (mark s) → (e : Tree) (c : Placed) (r : List Placed) → is_sign s c ≡ true → Ends 1 e (c ∷ r)
+pub ends_at_sign : (s : Sign) → Quiet (mark s) → (e : Tree) (c : Placed) (r : List Placed) → is_sign s c ≡ true → Ends 1 e (c ∷ r)
 ends_at_sign s q e c r h = let w = subst Quiet (sym (sign_is-kind s c.kind h)) q in ends_at 1 e c r w.0 w.1
 
-ends_at_key : (s : Keyword) → Quiet (key s) → (e : Tree) (c : Placed) (r : List Placed) → is_key s c ≡ true → Ends 1 e (c ∷ r)
+pub ends_at_key : (s : Keyword) → Quiet (key s) → (e : Tree) (c : Placed) (r : List Placed) → is_key s c ≡ true → Ends 1 e (c ∷ r)
 ends_at_key s q e c r h = let w = subst Quiet (sym (key_is-kind s c.kind h)) q in ends_at 1 e c r w.0 w.1
 
 -- the relation of each part and of each operand, after its first token
@@ -86,11 +86,11 @@ module _ {A I : Type 0} (b : ℕ) (index : Placed → I) (TailOf : I → Placed 
   abbrev Led : I → List Placed → A → Type 0
   Led i ts x = (t : Placed) × (u : List Placed) × (ts ≡ t ∷ u) × (index t ≡ i) × TailOf i t u x
 
-  open_alternative : (i : I) (tail : Placed → List Placed → Reading Placed A) → ((t : Placed) → Reads (TailOf i t) F E (tail t)) → ((s : List Placed) → run i s ≡ after_first tail s)
+  pub open_alternative : (i : I) (tail : Placed → List Placed → Reading Placed A) → ((t : Placed) → Reads (TailOf i t) F E (tail t)) → ((s : List Placed) → run i s ≡ after_first tail s)
       → Alternative index Led F E run i
   open_alternative i tail one is = tail_alternative index Led F E run some i (TailOf i) tail (λ a x d. d) (λ t u x h d. (t, u, refl, h, d)) (λ t h. one t) is
 
-  gated_alternative : (i : I) (tail : Placed → List Placed → Reading Placed A) → (1 ≤ b → (t : Placed) → Reads (TailOf i t) F E (tail t))
+  pub gated_alternative : (i : I) (tail : Placed → List Placed → Reading Placed A) → (1 ≤ b → (t : Placed) → Reads (TailOf i t) F E (tail t))
       → ((t : Placed) (u : List Placed) (x : A) → b ≡ 0 → TailOf i t u x → F x → ⊥) → ((t : Placed) → (m : List Placed) × (x : A) × TailOf i t m x)
       → ((s : List Placed) → run i s ≡ with_room b (after_first tail) s) → Alternative index Led F E run i
   unfolding with_room
@@ -113,7 +113,7 @@ comma_not_brace c h = subst (λ (k : Kind). sign_is Sign.Comma k ≡ false) (sym
 esac_leads_nothing : (c : Placed) → is_key Keyword.Esac c ≡ true → begins_expression c ≡ false
 esac_leads_nothing c h = subst (λ (k : Kind). leads (kind_lead k) ≡ false) (sym (key_is-kind Keyword.Esac c.kind h)) refl
 
-comma_goes_on : (x : Tree) (r : List Placed) → first_is (is_sign Sign.Comma) r ≡ true → Ends 1 x r
+pub comma_goes_on : (x : Tree) (r : List Placed) → first_is (is_sign Sign.Comma) r ≡ true → Ends 1 x r
 unfolding sign_number
 comma_goes_on x [] h = absurd cc
 comma_goes_on x (c ∷ r) h = ends_at_sign Sign.Comma (refl, refl) x c r h
@@ -145,22 +145,22 @@ module _ (reader : ℕ → List Placed → Reading Placed Tree) (b : ℕ) where
   arms_fit' [] h = tt
   arms_fit' (x ∷ xs) h = ((omega arith, omega arith), arms_fit' xs (omega arith))
 
-  PartFits : Part → Type 0
+  pub PartFits : Part → Type 0
   PartFits (field_part n) = Unit {0}
   PartFits (index_part e) = depth e ≤ b
 
-  decide_part : (p : Part) → PartFits p ⊎ (PartFits p → ⊥)
+  pub decide_part : (p : Part) → PartFits p ⊎ (PartFits p → ⊥)
   unfolding PartFits
   decide_part (field_part n) = inl tt
   decide_part (index_part e) = decide e
 
-  parts_fit : (ps : List Part) → EachFits PartFits ps → parts_depth (parts_of ps) ≤ b
+  pub parts_fit : (ps : List Part) → EachFits PartFits ps → parts_depth (parts_of ps) ≤ b
   unfolding PartFits
   parts_fit [] h = omega arith
   parts_fit (field_part n ∷ ps) h = parts_fit ps h.1
   parts_fit (index_part e ∷ ps) h = omega (arith, h.0, parts_fit ps h.1)
 
-  parts_fit' : (ps : List Part) → parts_depth (parts_of ps) ≤ b → EachFits PartFits ps
+  pub parts_fit' : (ps : List Part) → parts_depth (parts_of ps) ≤ b → EachFits PartFits ps
   unfolding PartFits
   parts_fit' [] h = tt
   parts_fit' (field_part n ∷ ps) h = (tt, parts_fit' ps h)
@@ -277,10 +277,10 @@ module _ (reader : ℕ → List Placed → Reading Placed Tree) (b : ℕ) where
 
 -- tokens that complete what is begun
 
-abbrev sign_token : Sign → Placed
+abbrev pub sign_token : Sign → Placed
 sign_token s = record { kind = mark s; at = 0; end = 0; line = 0 }
 
-abbrev key_token : Keyword → Placed
+abbrev pub key_token : Keyword → Placed
 key_token k = record { kind = key k; at = 0; end = 0; line = 0 }
 
 lead_begins : (x y : Bool) (i : PartLead) (u : List Placed) (p : Part) → cond x dot (cond y bracket neither) ≡ i → PartTail i u p → cond x true y ≡ true

@@ -18,10 +18,10 @@ use Rattle.smv_parser.proofs.TokenTests.{sign_is-kind, key_is-kind, kind_is-sign
 use Rattle.smv_parser.proofs.Follow.{Follows, Ends, PathEnds}
 use Rattle.smv_parser.proofs.Operands.{PartTail, PartIs, PathIs, path_reads, ArmIs, Tail, LedBy, led_reads}
 
-is_it : (s : Sign) (t : Placed) → Is (mark s) t → is_sign s t ≡ true
+pub is_it : (s : Sign) (t : Placed) → Is (mark s) t → is_sign s t ≡ true
 is_it s t h = kind_is-sign s t.kind h
 
-sign_of : (s : Sign) (t : Placed) → is_sign s t ≡ true → Is (mark s) t
+pub sign_of : (s : Sign) (t : Placed) → is_sign s t ≡ true → Is (mark s) t
 sign_of s t h = sign_is-kind s t.kind h
 
 -- parts of a path
