@@ -172,13 +172,13 @@ module _ (b : ℕ) (pos : 1 ≤ b) where
       (λ a x d. (d.4.0, d.4.1, subst (λ (l : List Placed). DerivesPath l d.4.0) (sym d.2) d.4.2))
       (λ p h. h) (λ p h. h) (λ a p r d e. e) (λ a p r d e. e)
 
-  init_reads : (t : Placed) → Reads (LeftTail (Some LeftKind.Init) t) LeftFits LeftEnds (left_tail b LeftKind.Init t)
+  init_reads : (t : Placed) → Reads (LeftTail (Some LeftKind.Init) t) LeftFits LeftEnds (left_tail b LeftKind.Init t.line)
   unfolding left_tail LeftTail
   init_reads t = map_reads (Headed (is_sign Sign.OpenParen) (Enclosed (is_sign Sign.CloseParen) DerivesPath)) (λ p. path_depth p ≤ b) Free (headed (is_sign Sign.OpenParen) (enclosed (is_sign Sign.CloseParen) (path_within b))) in_parens
       (λ p. lined t.line (record { kind = LeftKind.Init; path = p })) (LeftTail (Some LeftKind.Init) t) LeftFits LeftEnds
       (λ a p d. (p, refl, d)) (λ a x d. d) (λ p h. h) (λ p h. h) (λ a p r d e. tt) (λ a p r d e. tt)
 
-  next_reads : (t : Placed) → Reads (LeftTail (Some LeftKind.Next) t) LeftFits LeftEnds (left_tail b LeftKind.Next t)
+  next_reads : (t : Placed) → Reads (LeftTail (Some LeftKind.Next) t) LeftFits LeftEnds (left_tail b LeftKind.Next t.line)
   unfolding left_tail LeftTail
   next_reads t = map_reads (Headed (is_sign Sign.OpenParen) (Enclosed (is_sign Sign.CloseParen) DerivesPath)) (λ p. path_depth p ≤ b) Free (headed (is_sign Sign.OpenParen) (enclosed (is_sign Sign.CloseParen) (path_within b))) in_parens
       (λ p. lined t.line (record { kind = LeftKind.Next; path = p })) (LeftTail (Some LeftKind.Next) t) LeftFits LeftEnds
@@ -191,9 +191,9 @@ module _ (b : ℕ) (pos : 1 ≤ b) where
   left_alternative (Some LeftKind.Current) = reads_alternative left_of LeftLed LeftFits LeftEnds (left_by b) (some_name ∷ [], lined 0 (record { kind = LeftKind.Current; path = path_on 0 [] Parts.no_parts }), some_left, pos)
       (Some LeftKind.Current) (λ a x d. (d.0, d.1, d.2, d.3)) current_reads
   left_alternative (Some LeftKind.Init) = open_alternative b left_of LeftTail LeftFits LeftEnds (left_by b) (some_name ∷ [], lined 0 (record { kind = LeftKind.Current; path = path_on 0 [] Parts.no_parts }), some_left, pos)
-      (Some LeftKind.Init) (left_tail b LeftKind.Init) init_reads (λ s. refl)
+      (Some LeftKind.Init) (λ t. left_tail b LeftKind.Init t.line) init_reads (λ s. refl)
   left_alternative (Some LeftKind.Next) = open_alternative b left_of LeftTail LeftFits LeftEnds (left_by b) (some_name ∷ [], lined 0 (record { kind = LeftKind.Current; path = path_on 0 [] Parts.no_parts }), some_left, pos)
-      (Some LeftKind.Next) (left_tail b LeftKind.Next) next_reads (λ s. refl)
+      (Some LeftKind.Next) (λ t. left_tail b LeftKind.Next t.line) next_reads (λ s. refl)
 
 left_word : (t : Placed) (o : Option LeftKind) → left_of t ≡ o → LeftIs t.kind o
 left_word t o h = subst (LeftIs t.kind) h (left_is t.kind)

@@ -254,3 +254,13 @@ module _ (b : ℕ) (pos : 1 ≤ b) where
       deep_made (EachOf ModuleIs) (EachFits (ModuleFits b pos)) DerivesProgram Fits (map module_in) program_to program_from (program_fits b pos) (program_fits' b pos) s (length s - length rest)
       (places.deep_place (EachOf ModuleIs) (EachFits (ModuleFits b pos)) (ProgramEnds b pos) (closed_program b) (program_reads b pos) (program_at_end b pos) decide_program s rest
       (closed_program b s) ((program_reads b pos).outcome s) w)
+
+  pub program_short : (s rest : List Placed) → read_program b s ≡ syntax_error rest → length rest ≤ length s
+  program_short s rest h =
+      let w = failed_made (map module_in) (closed_program b s) rest (sym (program_made b s) ∙ h) in
+      places.failed_short (EachOf ModuleIs) (EachFits (ModuleFits b pos)) (ProgramEnds b pos) (λ v z. closed_program b v ≡ z) s rest (closed_program b s) ((program_reads b pos).outcome s) w
+
+  pub program_deep_short : (s rest : List Placed) → read_program b s ≡ too_deep rest → length rest ≤ length s
+  program_deep_short s rest h =
+      let w = deep_reading_made (map module_in) (closed_program b s) rest (sym (program_made b s) ∙ h) in
+      places.deep_short (EachOf ModuleIs) (EachFits (ModuleFits b pos)) (ProgramEnds b pos) (λ v z. closed_program b v ≡ z) s rest (closed_program b s) ((program_reads b pos).outcome s) w

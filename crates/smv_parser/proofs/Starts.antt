@@ -13,7 +13,7 @@ use Rattle.smv_parser.specs.Program.{Lined, Constant}
 use Rattle.smv_parser.specs.Words.{truth_word, Is, Lone, BeginsOn}
 use Rattle.smv_parser.specs.Programs.{DerivesConstant, DerivesName, OnLine, condition_word}
 use Rattle.smv_parser.specs.Tests.{is_sign, is_key, sign_is, key_is, sign_number, key_number, word_in, number_in, name_of, number_of, kind_operator}
-use Rattle.smv_parser.specs.Openings.{on_its_line, some_is, key_type, sign_type, kind_type, key_section, kind_section, is_section, key_left, kind_left, kind_is_word, formal_of, truth_in, constant_in, constant_of, key_line}
+use Rattle.smv_parser.specs.Openings.{on_its_line, some_is, key_type, sign_type, kind_type, key_section, kind_section, is_section, key_left, kind_left, kind_is_word, formal_of, key_truth, truth_in, constant_in, constant_of, key_line}
 use Rattle.smv_parser.proofs.TokenTests.{key_is-kind, kind_is-key, word_in-kind, number_in-kind}
 
 -- types
@@ -150,7 +150,7 @@ lone_constant ts (Constant.name n) d = d
 lone_constant ts (Constant.number n) d = d
 lone_constant ts (Constant.truth b) d = d
 
-truth_is : (k : Keyword) (c : Constant) → truth_in k ≡ Some c → key k ≡ constant_kind c
+truth_is : (k : Keyword) (c : Constant) → truth_in (key_truth k) ≡ Some c → key k ≡ constant_kind c
 truth_is Keyword.True c h = ap constant_kind {x = Constant.truth true} {y = c} cc
 truth_is Keyword.False c h = ap constant_kind {x = Constant.truth false} {y = c} cc
 truth_is _ c h = absurd cc

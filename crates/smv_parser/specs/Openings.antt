@@ -97,15 +97,19 @@ begins_name t = kind_is_word t.kind
 abbrev pub formal_of : Placed → Option (Lined (List ℕ))
 formal_of t = on_its_line t.line (name_of t)
 
-abbrev pub truth_in : Keyword → Option Constant
-truth_in Keyword.True = Some (Constant.truth true)
-truth_in Keyword.False = Some (Constant.truth false)
-truth_in _ = None
+abbrev pub key_truth : Keyword → Option Bool
+key_truth Keyword.True = Some true
+key_truth Keyword.False = Some false
+key_truth _ = None
+
+abbrev pub truth_in : Option Bool → Option Constant
+truth_in None = None
+truth_in (Some b) = Some (Constant.truth b)
 
 abbrev pub constant_in : Kind → Option Constant
 constant_in (word w) = Some (Constant.name w)
 constant_in (Kind.number n) = Some (Constant.number n)
-constant_in (key k) = truth_in k
+constant_in (key k) = truth_in (key_truth k)
 constant_in (mark s) = None
 
 -- a constant with its line
@@ -115,3 +119,6 @@ constant_of t = on_its_line t.line (constant_in t.kind)
 -- the line of a reserved word
 abbrev pub key_line : Keyword → Placed → Option ℕ
 key_line k t = cond (is_key k t) (Some t.line) None
+
+abbrev pub begins_module : Placed → Bool
+begins_module t = is_key Keyword.Module t

@@ -135,15 +135,15 @@ module _ (b : ℕ) where
   read_declaration s = both (enclosed (is_sign Sign.Colon) (accept formal_of)) (enclosed (is_sign Sign.Semicolon) read_type) s
       >>= λ x r. found (lined x.0.line (record { name = x.0.form; form = x.1 })) r
 
-  unfoldable pub left_tail : LeftKind → Placed → List Placed → Reading Placed (Lined Left)
-  left_tail kind t s = headed (is_sign Sign.OpenParen) (enclosed (is_sign Sign.CloseParen) (path_within b)) s
-      >>= λ p r. found (lined t.line (record { kind = kind; path = p })) r
+  unfoldable pub left_tail : LeftKind → ℕ → List Placed → Reading Placed (Lined Left)
+  left_tail kind line s = headed (is_sign Sign.OpenParen) (enclosed (is_sign Sign.CloseParen) (path_within b)) s
+      >>= λ p r. found (lined line (record { kind = kind; path = p })) r
 
   unfoldable pub left_by : Option LeftKind → List Placed → Reading Placed (Lined Left)
   left_by None s = syntax_error s
   left_by (Some LeftKind.Current) s = path_within b s >>= λ p r. found (lined (path_line p) (record { kind = LeftKind.Current; path = p })) r
-  left_by (Some LeftKind.Init) s = after_first (left_tail LeftKind.Init) s
-  left_by (Some LeftKind.Next) s = after_first (left_tail LeftKind.Next) s
+  left_by (Some LeftKind.Init) s = after_first (λ t. left_tail LeftKind.Init t.line) s
+  left_by (Some LeftKind.Next) s = after_first (λ t. left_tail LeftKind.Next t.line) s
 
   unfoldable pub read_left : List Placed → Reading Placed (Lined Left)
   read_left s = switch left_of left_by s
@@ -159,6 +159,9 @@ module _ (b : ℕ) where
   -- an expression, and whether a semicolon follows it
   unfoldable pub read_closing : List Placed → Reading Placed (Tree × Option Placed)
   read_closing s = both (read b 1) (optional (is_sign Sign.Semicolon) (expect (is_sign Sign.Semicolon))) s
+
+  unfoldable pub read_condition : List Placed → Reading Placed Tree
+  read_condition s = read_closing s >>= λ x r. found x.0 r
 
   unfoldable pub section_tail : SectionLead → Placed → List Placed → Reading Placed ClosedSection
   section_tail SectionLead.Variables t s = many begins_name read_declaration (length s) s >>= λ ds r. found (lined t.line (Section.variables ds), false) r

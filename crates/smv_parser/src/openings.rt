@@ -2,7 +2,7 @@
 
 ghost use Rattle.std.specs.Prelude.{◌≡◌};
 ghost use Rattle.smv_lexer.specs.View as tokens;
-ghost use Rattle.smv_parser.specs.Openings.{begins_name, key_left, key_section, key_type, left_of, section_lead, sign_type, type_lead};
+ghost use Rattle.smv_parser.specs.Openings.{begins_left, begins_name, begins_section, key_left, key_section, key_type, left_of, section_lead, sign_type, type_lead};
 
 use crate::program::{Condition, LeftKind};
 use smv_lexer::{Keyword, Sign, Token, TokenKind};
@@ -90,6 +90,18 @@ pub fn token_section(token: &Token) -> SectionLead
     }
 }
 
+pub fn token_begins_section(token: &Token) -> bool
+    ensures { result ≡ begins_section (tokens.view token.now) }
+{
+    match token_section(token) {
+        SectionLead::Other => false,
+        SectionLead::Variables
+        | SectionLead::Assignments
+        | SectionLead::Definitions
+        | SectionLead::Condition(_) => true,
+    }
+}
+
 fn key_left(key: Keyword) -> Option<LeftKind>
     ensures { result ≡ key_left key }
 {
@@ -108,6 +120,15 @@ pub fn token_left(token: &Token) -> Option<LeftKind>
         TokenKind::Word(_) => Some(LeftKind::Current),
         TokenKind::Key(key) => key_left(*key),
         TokenKind::Number(_) | TokenKind::Sign(_) => None,
+    }
+}
+
+pub fn token_begins_left(token: &Token) -> bool
+    ensures { result ≡ begins_left (tokens.view token.now) }
+{
+    match token_left(token) {
+        None => false,
+        Some(_) => true,
     }
 }
 

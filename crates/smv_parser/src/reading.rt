@@ -63,7 +63,7 @@ pub struct WholePath {
 }
 
 /// The value of a number's token, which is never negative.
-fn number(token: &Token) -> u32
+pub fn number(token: &Token) -> u32
     ensures { result ≡ value_of (tokens.view token.now) }
 {
     match &token.kind {

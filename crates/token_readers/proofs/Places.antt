@@ -113,3 +113,18 @@ module _ {T A : Type 0} (D : List T → A → Type 0) (F : A → Type 0) (E : A 
         deeper = subst (Begins D) (sym (take_front_one a t u)) any;
         here = λ h. none_within a t (λ v. too_deep (t ∷ v)) (λ v. g t u v j) (λ v e k. cc) (subst (BeginsWithin D F) (take_front_one a t u) h);
       })))
+
+-- a failing place is among the tokens
+pub failed_short : {T A : Type 0} (D : List T → A → Type 0) (F : A → Type 0) (E : A → List T → Type 0) (G : List T → Reading T A → Type 0) (s rest : List T) (y : Reading T A)
+    → Outcome D F E G s y → y ≡ syntax_error rest → length rest ≤ length s
+failed_short D F E G s rest (found x r) o h = absurd cc
+failed_short D F E G s rest (syntax_error r) o h =
+    let same : r ≡ rest = cc in omega (arith, ap length same, ap length o.1, length-append o.0 r)
+failed_short D F E G s rest (too_deep r) o h = absurd cc
+
+pub deep_short : {T A : Type 0} (D : List T → A → Type 0) (F : A → Type 0) (E : A → List T → Type 0) (G : List T → Reading T A → Type 0) (s rest : List T) (y : Reading T A)
+    → Outcome D F E G s y → y ≡ too_deep rest → length rest ≤ length s
+deep_short D F E G s rest (found x r) o h = absurd cc
+deep_short D F E G s rest (syntax_error r) o h = absurd cc
+deep_short D F E G s rest (too_deep r) o h =
+    let same : r ≡ rest = cc in omega (arith, ap length same, ap length o.1, length-append o.0 r)
