@@ -1,5 +1,5 @@
 -- What a reader that reads exactly D says of all the tokens.
-use Rattle.std.proofs.Common.{◌≡◌, ◌+◌, ◌-◌, ◌⊎◌, List, [], ◌∷◌, ◌++◌, length, take, refl, sym, ◌∙◌, ap, subst, append_assoc, append-nil, arith, length-append, ⊎_elim}
+use Rattle.std.proofs.Common.{◌≡◌, ◌≤◌, ◌+◌, ◌-◌, ◌⊎◌, List, [], ◌∷◌, ◌++◌, length, take, refl, sym, ◌∙◌, ap, subst, append_assoc, append-nil, arith, length-append, ⊎_elim}
 use Rattle.token_readers.specs.Reading.{Reading}
 use Rattle.token_readers.specs.Reading.Reading.{found, syntax_error, too_deep}
 use Rattle.token_readers.specs.Places.{Begins, BeginsWithin, IsSyntaxPlace, IsTooDeepPlace}
