@@ -1,0 +1,38 @@
+use Rattle.std.proofs.Common.{◌≡◌, ◌∙◌}
+use Rattle.std.proofs.lemmas.Result.{err_from_is_err_and}
+use Rattle.smv_lexer.specs.declared.sign.Sign.{Sign}
+use Rattle.smv_lexer.specs.View.{views}
+use Rattle.token_readers.specs.Reading.{accept, enclosed}
+use Rattle.smv_parser.specs.Tests.{is_sign, number_of}
+use Rattle.smv_parser.proofs.Codes.{both_fails, both_fails_after, both_found, enclosed_fails, enclosed_fails_after, enclosed_found}
+use Rattle.smv_parser.proofs.TypeCodes.{range_is}
+use Rattle.smv_parser.proofs.types.read_range.Goals as goal
+
+pub returns-in_err-low-clause-reads : goal.returns-in_err-low-clause-reads
+returns-in_err-low-clause-reads c =
+    let q = range_is (views c.args.tokens.now) in
+    let p = err_from_is_err_and c.from_residual.result c.from_residual.ensures.1 in
+    rw (p.1, p.2) (rw q (both_fails (enclosed (is_sign Sign.Range) (accept number_of)) (accept number_of) (views c.args.tokens.now) c.in_err-low.field-0.0
+    (enclosed_fails (is_sign Sign.Range) (accept number_of) (views c.args.tokens.now) c.in_err-low.field-0.0 c.in_err-low.ensures.reads)))
+
+pub returns-in_err-rest-clause-reads : goal.returns-in_err-rest-clause-reads
+returns-in_err-rest-clause-reads c =
+    let q = range_is (views c.args.tokens.now) in
+    let p = err_from_is_err_and c.from_residual-in_err-rest.result c.from_residual-in_err-rest.ensures.1 in
+    rw (p.1, p.2) (rw q (both_fails (enclosed (is_sign Sign.Range) (accept number_of)) (accept number_of) (views c.args.tokens.now) c.in_err-rest.field-0.0
+    (enclosed_fails_after (is_sign Sign.Range) (accept number_of) (views c.args.tokens.now) (views c.in_ok-low.rest.now) c.in_ok-low.low c.in_err-rest.field-0.0 c.in_ok-low.ensures.reads c.in_err-rest.ensures.reads)))
+
+pub returns-in_err-high-clause-reads : goal.returns-in_err-high-clause-reads
+returns-in_err-high-clause-reads c =
+    let q = range_is (views c.args.tokens.now) in
+    let p = err_from_is_err_and c.from_residual-in_err-high.result c.from_residual-in_err-high.ensures.1 in
+    rw (p.1, p.2) (rw q (both_fails_after (enclosed (is_sign Sign.Range) (accept number_of)) (accept number_of) (views c.args.tokens.now) c.in_ok-low.low (views c.in_ok-rest.rest.now) c.in_err-high.field-0.0
+    (enclosed_found (is_sign Sign.Range) (accept number_of) (views c.args.tokens.now) (views c.in_ok-low.rest.now) (views c.in_ok-rest.rest.now) c.in_ok-low.low c.in_ok-rest.ensures.reads.0 c.in_ok-low.ensures.reads c.in_ok-rest.ensures.reads.1)
+    c.in_err-high.ensures.reads))
+
+pub returns-clause-reads : goal.returns-clause-reads
+returns-clause-reads c =
+    range_is (views c.args.tokens.now)
+    ∙ both_found (enclosed (is_sign Sign.Range) (accept number_of)) (accept number_of) (views c.args.tokens.now) c.in_ok-low.low (views c.in_ok-rest.rest.now) c.in_ok-high.high (views c.in_ok-high.rest.now)
+    (enclosed_found (is_sign Sign.Range) (accept number_of) (views c.args.tokens.now) (views c.in_ok-low.rest.now) (views c.in_ok-rest.rest.now) c.in_ok-low.low c.in_ok-rest.ensures.reads.0 c.in_ok-low.ensures.reads c.in_ok-rest.ensures.reads.1)
+    c.in_ok-high.ensures.reads
