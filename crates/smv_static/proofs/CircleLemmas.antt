@@ -104,6 +104,12 @@ module _ (m : System) (P q : ℕ) (g : Graph) (is : IsGraphOf P q g) (processes 
       let l = leads_group P q c.0 g a is c.1 in
       (⊎_elim (λ h. Contains-append_left (row groups q) (row groups P) k h) (λ h. Contains-append_right (row groups q) (row groups P) k h) (place_of k d below l.0), (c.0, l.1, way_from c.0 a.var c.2))
 
+  -- where the least among one group is behind all assignments, none of that group lies on a cycle
+  pub own_clear : (bound least : ℕ) → length m.assigns ≤ least → IsLeastAmong (IsCircular base extra) m.assigns (row groups q) bound least
+      → (k : ℕ) (d : Assignment) → k < length m.assigns → group_of P (get_or m.assigns k d) ≡ q → IsOnCycleOf m g (get_or m.assigns k d) → ⊥
+  own_clear bound least far among k d below group c =
+      among.none k (subst (λ (r : ℕ). Contains (row groups r) k) group (grouped.complete k d below)) (omega (arith, below, far)) d (circular_from k d below c).1
+
   module _ (bound least : ℕ) (among : IsLeastAmong (IsCircular base extra) m.assigns (row groups q ++ row groups P) bound least) where
     pub found_in_graph : IsFound m bound least
     found_in_graph = elim among.holds [
@@ -145,6 +151,49 @@ module _ (m : System) (p : ℕ) (free : (k y : ℕ) (d : Assignment) → k < len
   pub clear_as_start : (least : ℕ) → least ≤ length m.assigns → IsClear m Graph.AtStart least → IsClear m (Graph.InProcess p) least
   clear_as_start least few clear k less d c =
       clear k less d (c.0, start_leads k c.0 d (omega arith) c.1, start_way c.0 (get_or m.assigns k d).var c.2)
+
+-- ---- cycles through next values
+
+module _ (m : System) (p : ℕ) where
+  -- a next value of the process lies on the way from x to z
+  abbrev Passes : ℕ → ℕ → Type 0
+  Passes x z = (k : ℕ) × (d : Assignment) × (y : ℕ) × (k < length m.assigns) × ((get_or m.assigns k d).part ≡ Part.Next) × ((get_or m.assigns k d).process ≡ p)
+      × LeadsTo (Graph.InProcess p) (get_or m.assigns k d) y × HasWay m (Graph.InProcess p) x (get_or m.assigns k d).var × HasWay m (Graph.InProcess p) y z
+
+  way_then : (g : Graph) (x y z : ℕ) → HasWay m g x y → HasWay m g y z → HasWay m g x z
+  way_then g x y z HasWay.stay w = w
+  way_then g x y z (HasWay.step e v) w = HasWay.step e (way_then g _ y z v w)
+
+  -- the edge is one of the initial graph, or a next value of the process
+  edge_cases : (k y : ℕ) (d : Assignment) → LeadsTo (Graph.InProcess p) (get_or m.assigns k d) y → LeadsTo Graph.AtStart (get_or m.assigns k d) y ⊎ ((get_or m.assigns k d).part ≡ Part.Next) × ((get_or m.assigns k d).process ≡ p)
+  edge_cases k y d (inl h) = inl (λ n. let f : Part.Now ≡ Part.Next = sym h.0 ∙ n in cc, h.1)
+  edge_cases k y d (inr h) = inr (h.0, h.1)
+
+  way_cases : (x z : ℕ) → HasWay m (Graph.InProcess p) x z → HasWay m Graph.AtStart x z ⊎ Passes x z
+  way_cases x z HasWay.stay = inl HasWay.stay
+  way_cases x z (HasWay.step {y = y} e w) =
+      let same : get_or m.assigns e.0 e.1 ≡ e.1 = e.3 in
+      let leads : LeadsTo (Graph.InProcess p) (get_or m.assigns e.0 e.1) y = subst (λ (a : Assignment). LeadsTo (Graph.InProcess p) a y) (sym same) e.4.1 in
+      let var : (get_or m.assigns e.0 e.1).var ≡ x = ap (λ (a : Assignment). a.var) same ∙ e.4.0 in
+      ⊎_elim (λ start. ⊎_elim (λ v. inl (HasWay.step (e.0, e.1, e.2, e.3, (e.4.0, subst (λ (a : Assignment). LeadsTo Graph.AtStart a y) same start)) v))
+      (λ h. inr (h.0, h.1, h.2, h.3, h.4, h.5, h.6, HasWay.step e h.7, h.8)) (way_cases y z w))
+      (λ next. inr (e.0, e.1, y, e.2, next.0, next.1, leads, subst (λ (u : ℕ). HasWay m (Graph.InProcess p) x u) (sym var) HasWay.stay, w))
+      (edge_cases e.0 y e.1 leads)
+
+  -- where neither the initial graph nor a next value of the process has a cycle, the process's graph has none
+  pub clear_by_own : IsClear m Graph.AtStart (length m.assigns) → ((k : ℕ) (d : Assignment) → k < length m.assigns → (get_or m.assigns k d).part ≡ Part.Next → (get_or m.assigns k d).process ≡ p → IsOnCycleOf m (Graph.InProcess p) (get_or m.assigns k d) → ⊥)
+      → IsClear m (Graph.InProcess p) (length m.assigns)
+  clear_by_own start own k below d c =
+      ⊎_elim (λ leads. ⊎_elim (λ w. start k below d (c.0, leads, w))
+      (λ h. own h.0 h.1 h.3 h.4 h.5 (
+        h.2,
+        h.6,
+        way_then (Graph.InProcess p) h.2 (get_or m.assigns k d).var (get_or m.assigns h.0 h.1).var h.8
+            (HasWay.step (k, get_or m.assigns k d, below, get_or_default m.assigns k (get_or m.assigns k d) d below, (λ i. (get_or m.assigns k d).var, c.1)) h.7),
+      ))
+      (way_cases c.0 (get_or m.assigns k d).var c.2))
+      (λ next. own k d below next.0 next.1 c)
+      (edge_cases k c.0 d c.1)
 
 -- what is clear in the initial graph and in those of the processes is clear in every graph
 pub clear_everywhere : (m : System) (P least : ℕ) → All (λ a. a.process < P) m.assigns → least ≤ length m.assigns → IsClear m Graph.AtStart least → ((q : ℕ) → q < P → IsClear m (Graph.InProcess q) least) → (g : Graph) → IsClear m g least

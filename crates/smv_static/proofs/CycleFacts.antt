@@ -40,3 +40,7 @@ same_table assigns others places ways rows new e f g h =
 
 pub processes_in : (m : System) (processes : ℕ) → IsFlat m → processes ≡ length m.processes → All (λ a. a.process < processes) m.assigns
 processes_in m processes flat same = subst (λ (n : ℕ). All (λ a. a.process < n) m.assigns) (sym same) (processes_known m flat)
+
+pub among_extra : (base extra other : List (List ℕ)) (assigns : List Assignment) (places : List ℕ) (bound least : ℕ) → extra ≡ other
+    → IsLeastAmong (IsCircular base extra) assigns places bound least → IsLeastAmong (IsCircular base other) assigns places bound least
+among_extra base extra other assigns places bound least e h = subst (λ (x : List (List ℕ)). IsLeastAmong (IsCircular base x) assigns places bound least) e h

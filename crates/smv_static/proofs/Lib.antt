@@ -11,3 +11,4 @@ mod LeastLemmas
 mod SideLemmas
 mod FormulaLemmas
 mod RuleLemmas
+mod RowModels

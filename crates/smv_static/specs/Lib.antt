@@ -8,3 +8,4 @@ pub mod Groups
 pub mod Circles
 pub mod Leaves
 pub mod Sides
+pub mod Rows

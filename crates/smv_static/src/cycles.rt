@@ -2,9 +2,11 @@
 //!
 //! The edges of the initial graph are those of the initial and of the current values, and the edges of a process's
 //! graph are those of its next values and of the current values. So the edges of the current values are kept in one
-//! table for all graphs, and a process whose next values depend on no next value has no graph of its own to search.
+//! table for all graphs. A process whose next values depend on no next value has no graph of its own to search. Of any
+//! other process the next values are tried first: while nothing was found and none of them lies on a cycle, no current
+//! value does, since a cycle of current values alone is one of the initial graph.
 
-ghost use Rattle.std.specs.Prelude.{◌≡◌, ◌⊎◌, ◌↔◌, ◌+◌, ◌++◌, ◌<◌, ◌≤◌, ℕ, length, true, All, Contains, IfOk, IfErr, OnOk, IsTrue};
+ghost use Rattle.std.specs.Prelude.{◌≡◌, ◌⊎◌, ◌↔◌, ◌<◌, ◌≤◌, ℕ, length, true, All, Contains, IfOk, IfErr, OnOk, IsTrue};
 ghost use Rattle.kripke_model.specs.Flat.{IsFlat};
 ghost use Rattle.kripke_model.specs.Refusing.{Silent};
 ghost use Rattle.kripke_model.specs.Static.{Graph, circular_assignment};
@@ -116,42 +118,46 @@ fn make_tables(alloc: Global, flat: &FlatModel) -> Result<Tables, AllocError>
     })
 }
 
-/// The least of the bound and of the places of groups q and of the current values whose assignment lies on a cycle of
-/// the graph of these two groups.
-fn least_in_graph(
+/// The least of the bound and of the places of one group whose assignment lies on a cycle of the graph.
+fn least_of_group(
     alloc: Global,
     flat: &FlatModel,
     tables: &Tables,
-    q: u32,
+    group: u32,
     extra: &[Row],
     bound: usize,
 ) -> Result<usize, AllocError>
     requires flat { IsFlat flat.now }
     requires tables { HasTables flat.now tables.now.groups.items tables.now.base.items tables.now.processes tables.now.variables }
-    requires extra { IsTable flat.now.assigns (row tables.now.groups.items q) extra.now }
-    ensures { IfOk result (λ least. IsLeastAmong (IsCircular tables.now.base.items extra.now) flat.now.assigns (row tables.now.groups.items q ++ row tables.now.groups.items tables.now.processes) bound least) }
+    requires extra { IsBelow tables.now.variables extra.now }
+    ensures { IfOk result (λ least. IsLeastAmong (IsCircular tables.now.base.items extra.now) flat.now.assigns (row tables.now.groups.items group) bound least) }
 {
-    let assigns = assigns_of(flat);
-    let own = row_at(&tables.groups, q);
-    let least = least_circular(
+    let places = row_at(&tables.groups, group);
+    least_circular(
         alloc,
-        assigns,
-        own,
+        assigns_of(flat),
+        places,
         &tables.base,
         extra,
         tables.variables,
         bound,
-    )?;
-    let shared = row_at(&tables.groups, tables.processes);
-    least_circular(
-        alloc,
-        assigns,
-        shared,
-        &tables.base,
-        extra,
-        tables.variables,
-        least,
     )
+}
+
+/// The edges of one group.
+fn edges_of(
+    alloc: Global,
+    flat: &FlatModel,
+    tables: &Tables,
+    group: u32,
+) -> Result<Vec<Row>, AllocError>
+    requires flat { IsFlat flat.now }
+    requires tables { HasTables flat.now tables.now.groups.items tables.now.base.items tables.now.processes tables.now.variables }
+    ensures table { IfOk result (λ rows. IsTable flat.now.assigns (row tables.now.groups.items group) rows.items) }
+    ensures below { IfOk result (λ rows. IsBelow tables.now.variables rows.items) }
+{
+    let places = row_at(&tables.groups, group);
+    table(alloc, assigns_of(flat), places, tables.variables)
 }
 
 /// The place of the first assignment on a cycle of the initial graph, or how many assignments there are.
@@ -162,10 +168,11 @@ fn least_at_start(alloc: Global, flat: &FlatModel, tables: &Tables) -> Result<us
     ensures found { IfOk result (λ least. IsFound flat.now (length flat.now.assigns) least) }
     ensures clear { IfOk result (λ least. IsClear flat.now Graph.AtStart least) }
 {
-    let assigns = assigns_of(flat);
-    let q = tables.processes + 1;
-    let extra = table(alloc, assigns, row_at(&tables.groups, q), tables.variables)?;
-    least_in_graph(alloc, flat, tables, q, &extra, assigns.len())
+    let count = assigns_of(flat).len();
+    let group = tables.processes + 1;
+    let extra = edges_of(alloc, flat, tables, group)?;
+    let least = least_of_group(alloc, flat, tables, group, &extra, count)?;
+    least_of_group(alloc, flat, tables, tables.processes, &extra, least)
 }
 
 /// Whether nothing is in the table.
@@ -197,12 +204,15 @@ fn least_in_process(
     ensures found { IfOk result (λ least. IsFound flat.now bound least) }
     ensures clear { IfOk result (λ least. IsClear flat.now (Graph.InProcess p) least) }
 {
-    let own = row_at(&tables.groups, p);
-    let extra = table(alloc, assigns_of(flat), own, tables.variables)?;
+    let extra = edges_of(alloc, flat, tables, p)?;
     if is_empty(&extra) {
         return Ok(bound);
     }
-    least_in_graph(alloc, flat, tables, p, &extra, bound)
+    let least = least_of_group(alloc, flat, tables, p, &extra, bound)?;
+    if least == assigns_of(flat).len() {
+        return Ok(least);
+    }
+    least_of_group(alloc, flat, tables, tables.processes, &extra, least)
 }
 
 /// The place of the first assignment on a cycle, or how many assignments there are.

@@ -14,3 +14,6 @@ mod sections;
 mod targets;
 
 pub use acceptance::accept;
+
+#[cfg(test)]
+mod tests;

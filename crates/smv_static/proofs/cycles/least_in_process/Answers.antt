@@ -1,53 +1,75 @@
-use Rattle.std.proofs.Common.{◌≡◌, ℕ, ◌<◌, ◌≤◌, List, length, refl, sym, ◌∙◌, ap, subst}
-use Rattle.std.specs.Prelude.{Contains}
+use Rattle.std.proofs.Common.{◌≡◌, ℕ, ◌<◌, ◌≤◌, List, ◌++◌, length, get_or, refl, sym, ◌∙◌, ap, subst, arith}
+use Rattle.kripke_model.specs.declared.models.Part.{Part}
 use Rattle.kripke_model.specs.System.{System, Assignment}
 use Rattle.kripke_model.specs.Static.{Graph}
-use Rattle.smv_static.specs.Numbers.{row}
-use Rattle.smv_static.specs.Circles.{IsFound, IsClear}
+use Rattle.smv_static.specs.Numbers.{row, IsBelow}
+use Rattle.smv_static.specs.Groups.{group_by, group_of, IsTable}
+use Rattle.smv_static.specs.Circles.{IsCircular, IsFound, IsClear, IsLeastAmong}
 use Rattle.smv_static.proofs.ResultLemmas.{if_ok}
-use Rattle.smv_static.proofs.CycleFacts.{known_places, places_known, same_table, processes_in}
-use Rattle.smv_static.proofs.CircleLemmas.{found_in_graph, clear_in_graph, free_of, clear_as_start}
+use Rattle.smv_static.proofs.CycleFacts.{processes_in, among_extra}
+use Rattle.smv_static.proofs.CircleLemmas.{found_in_graph, clear_in_graph, free_of, clear_as_start, own_clear, clear_by_own}
+use Rattle.smv_static.proofs.LeastLemmas.{among_both}
 use Rattle.smv_static.proofs.cycles.least_in_process.Goals as goal
 
-pub table-requires-clause-places : goal.table-requires-clause-places
-table-requires-clause-places c =
-    let t = c.args.tables.now in
-    known_places c.assigns_of.result.now c.args.flat.now.assigns c.row_at-own.result.now (row t.groups.items c.args.p) c.assigns_of.ensures
-    (c.row_at-own.ensures ∙ ap (λ (g : List (List ℕ)). row g c.args.p) c.deref.ensures.value)
-    (places_known t.processes c.args.flat.now.assigns t.groups.items c.requires.tables.grouped c.args.p)
+pub least_of_group-requires-clause-extra : goal.least_of_group-requires-clause-extra
+least_of_group-requires-clause-extra c = subst (λ (rows : List (List ℕ)). IsBelow c.args.tables.now.variables rows) (sym c.deref-2.ensures.value) c.in_ok-extra.ensures.below
+
+pub least_of_group-requires-2-clause-extra : goal.least_of_group-requires-2-clause-extra
+least_of_group-requires-2-clause-extra c = subst (λ (rows : List (List ℕ)). IsBelow c.args.tables.now.variables rows) (sym c.deref-3.ensures.value) c.in_ok-extra.ensures.below
 
 pub returns-then-is_empty-clause-clear : goal.returns-then-is_empty-clause-clear
 returns-then-is_empty-clause-clear c =
     let m : System = c.args.flat.now in
     let t = c.args.tables.now in
     let p : ℕ = c.args.p in
-    let extra : List (List ℕ) = c.deref-2.result.now in
-    let table = same_table c.assigns_of.result.now m.assigns c.row_at-own.result.now (row t.groups.items p) c.in_ok-extra.extra.items extra
-    c.assigns_of.ensures (c.row_at-own.ensures ∙ ap (λ (g : List (List ℕ)). row g p) c.deref.ensures.value) c.deref-2.ensures.value c.in_ok-extra.ensures in
+    let extra : List (List ℕ) = c.deref.result.now in
+    let table = subst (λ (rows : List (List ℕ)). IsTable m.assigns (row t.groups.items p) rows) (sym c.deref.ensures.value) c.in_ok-extra.ensures.table in
     clear_as_start m p (free_of m t.processes p t.groups.items extra c.requires.tables.grouped table (c.is_empty.ensures c.if-is_empty.true)) c.args.bound c.requires.bound c.requires.clear
+
+-- none of its next values lies on a cycle, so its graph has none
+pub returns-then-least-assigns_of-clause-clear : goal.returns-then-least-assigns_of-clause-clear
+returns-then-least-assigns_of-clause-clear c =
+    let m : System = c.args.flat.now in
+    let t = c.args.tables.now in
+    let p : ℕ = c.args.p in
+    let groups : List (List ℕ) = t.groups.items in
+    let extra : List (List ℕ) = c.in_ok-extra.extra.items in
+    let least : ℕ = c.in_ok-least.least in
+    let count : length c.assigns_of.result.now ≡ length m.assigns = ap (λ (xs : List Assignment). length xs) c.assigns_of.ensures in
+    let last : least ≡ length m.assigns = c.if-least-assigns_of.true ∙ count in
+    let among = among_extra t.base.items c.deref-2.result.now extra m.assigns (row groups p) c.args.bound least c.deref-2.ensures.value c.in_ok-least.ensures in
+    let whole : c.args.bound ≡ length m.assigns = let most : least ≤ c.args.bound = among.at_most in omega (arith, last, most, c.requires.bound) in
+    let own = own_clear m t.processes p (Graph.InProcess p) (refl, c.requires.process) (processes_in m t.processes c.requires.flat c.requires.tables.processes_are) groups t.base.items extra c.requires.tables.grouped c.requires.tables.table c.in_ok-extra.ensures.table
+    c.args.bound least (omega (arith, last)) among in
+    subst (λ (n : ℕ). IsClear m (Graph.InProcess p) n) (sym last)
+    (clear_by_own m p (subst (λ (n : ℕ). IsClear m Graph.AtStart n) whole c.requires.clear)
+    (λ k d below next process cycle. own k d below (ap (λ (part : Part). group_by t.processes part (get_or m.assigns k d).process) next ∙ process) cycle))
 
 pub returns-clause-found : goal.returns-clause-found
 returns-clause-found c =
     let m : System = c.args.flat.now in
     let t = c.args.tables.now in
     let p : ℕ = c.args.p in
-    let extra : List (List ℕ) = c.deref-3.result.now in
-    let table = same_table c.assigns_of.result.now m.assigns c.row_at-own.result.now (row t.groups.items p) c.in_ok-extra.extra.items extra
-    c.assigns_of.ensures (c.row_at-own.ensures ∙ ap (λ (g : List (List ℕ)). row g p) c.deref.ensures.value) c.deref-3.ensures.value c.in_ok-extra.ensures in
-    if_ok c.least_in_graph.result (λ l h.
-    found_in_graph m t.processes p (Graph.InProcess p) (refl, c.requires.process) (processes_in m t.processes c.requires.flat c.requires.tables.processes_are) t.groups.items t.base.items extra c.requires.tables.grouped c.requires.tables.table table
-    c.args.bound l h)
-    c.least_in_graph.ensures
+    let groups : List (List ℕ) = t.groups.items in
+    let extra : List (List ℕ) = c.in_ok-extra.extra.items in
+    let first = among_extra t.base.items c.deref-2.result.now extra m.assigns (row groups p) c.args.bound c.in_ok-least.least c.deref-2.ensures.value c.in_ok-least.ensures in
+    if_ok c.least_of_group-2.result (λ l h.
+    found_in_graph m t.processes p (Graph.InProcess p) (refl, c.requires.process) (processes_in m t.processes c.requires.flat c.requires.tables.processes_are) groups t.base.items extra c.requires.tables.grouped c.requires.tables.table c.in_ok-extra.ensures.table c.args.bound l
+    (among_both (IsCircular t.base.items extra) m.assigns (row groups p) (row groups t.processes) c.args.bound c.in_ok-least.least l first
+    (among_extra t.base.items c.deref-3.result.now extra m.assigns (row groups t.processes) c.in_ok-least.least l c.deref-3.ensures.value h)))
+    c.least_of_group-2.ensures
 
 pub returns-clause-clear : goal.returns-clause-clear
 returns-clause-clear c =
     let m : System = c.args.flat.now in
     let t = c.args.tables.now in
     let p : ℕ = c.args.p in
-    let extra : List (List ℕ) = c.deref-3.result.now in
-    let table = same_table c.assigns_of.result.now m.assigns c.row_at-own.result.now (row t.groups.items p) c.in_ok-extra.extra.items extra
-    c.assigns_of.ensures (c.row_at-own.ensures ∙ ap (λ (g : List (List ℕ)). row g p) c.deref.ensures.value) c.deref-3.ensures.value c.in_ok-extra.ensures in
-    if_ok c.least_in_graph.result (λ l h.
-    clear_in_graph m t.processes p (Graph.InProcess p) (refl, c.requires.process) (processes_in m t.processes c.requires.flat c.requires.tables.processes_are) t.groups.items t.base.items extra c.requires.tables.grouped c.requires.tables.table table
-    c.args.bound l h c.requires.bound)
-    c.least_in_graph.ensures
+    let groups : List (List ℕ) = t.groups.items in
+    let extra : List (List ℕ) = c.in_ok-extra.extra.items in
+    let first = among_extra t.base.items c.deref-2.result.now extra m.assigns (row groups p) c.args.bound c.in_ok-least.least c.deref-2.ensures.value c.in_ok-least.ensures in
+    if_ok c.least_of_group-2.result (λ l h.
+    clear_in_graph m t.processes p (Graph.InProcess p) (refl, c.requires.process) (processes_in m t.processes c.requires.flat c.requires.tables.processes_are) groups t.base.items extra c.requires.tables.grouped c.requires.tables.table c.in_ok-extra.ensures.table c.args.bound l
+    (among_both (IsCircular t.base.items extra) m.assigns (row groups p) (row groups t.processes) c.args.bound c.in_ok-least.least l first
+    (among_extra t.base.items c.deref-3.result.now extra m.assigns (row groups t.processes) c.in_ok-least.least l c.deref-3.ensures.value h))
+    c.requires.bound)
+    c.least_of_group-2.ensures
