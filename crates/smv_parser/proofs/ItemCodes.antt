@@ -1,20 +1,22 @@
 -- One step each of the code above expressions, in terms of reading.
-use Rattle.std.proofs.Common.{◌≡◌, ℕ, Bool, true, false, cond, List, [], ◌∷◌, ◌++◌, map, length, refl, sym, ◌∙◌, ap, subst, arith, Option, Some, None}
+use Rattle.std.proofs.Common.{◌≡◌, ℕ, zero, suc, ◌+◌, ◌-◌, ◌≤◌, ◌<◌, Bool, true, false, cond, List, [], ◌∷◌, ◌++◌, map, length, refl, sym, ◌∙◌, ap, subst, arith, Option, Some, None}
 use Rattle.token_readers.specs.Optional.{optional}
 use Rattle.token_readers.specs.Reading.{Reading, ◌>>=◌, accept, accepted, choose, expect, enclosed, headed, both, many, first_is}
 use Rattle.token_readers.specs.Reading.Reading.{found, syntax_error, too_deep}
 use Rattle.token_readers.proofs.Readers.{found-then}
-use Rattle.token_readers.proofs.Mapped.{same_made}
+use Rattle.token_readers.proofs.Mapped.{same_made, then_then, then_same}
 use Rattle.smv_lexer.specs.declared.keyword.Keyword.{Keyword}
 use Rattle.smv_lexer.specs.declared.sign.Sign.{Sign}
 use Rattle.smv_lexer.specs.Text.{Placed}
 use Rattle.smv_parser.specs.declared.reader.Failure.{Failure}
-use Rattle.smv_parser.specs.Gives.{Fails, IsSyntaxError}
+use Rattle.smv_parser.specs.declared.reader.Failure.TheVariants as failures
+use Rattle.smv_parser.specs.Gives.{Fails, IsSyntaxError, IsTooDeep}
 use Rattle.smv_parser.specs.Tests.{is_sign, is_key, name_of}
 use Rattle.smv_parser.specs.Openings.{formal_of, key_line, on_its_line}
+use Rattle.smv_parser.specs.Program.{Lined}
 use Rattle.smv_parser.specs.Reading.{front_line}
 use Rattle.smv_parser.specs.ProgramReading.{commas, inside, lined, listed, parameters, parameters_here}
-use Rattle.smv_parser.proofs.Codes.{Fails-then, both_fails, rest_of}
+use Rattle.smv_parser.proofs.Codes.{Fails-then, both_fails, both_fails_after, both_found, enclosed_fails, enclosed_fails_after, enclosed_found, headed_fails, headed_is, rest_of}
 
 pub map-push : {A B : Type 0} (f : A → B) (xs : List A) (x : A) (ys : List B) → map f (xs ++ x ∷ []) ++ ys ≡ map f xs ++ (f x ∷ ys)
 map-push f [] x ys = refl

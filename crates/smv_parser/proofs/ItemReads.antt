@@ -1,14 +1,15 @@
 -- Declarations, assignments and definitions are read exactly.
-use Rattle.std.proofs.Common.{◌≡◌, ℕ, zero, suc, ◌≤◌, cond, true, false, inl, List, [], ◌∷◌, ◌++◌, Option, Some, None, refl, sym, ◌∙◌, ap, subst, arith, append_assoc}
-use Rattle.token_readers.specs.Reading.{accept, enclosed, headed, both, switch, first_is}
-use Rattle.token_readers.proofs.Readers.{Reads}
-use Rattle.token_readers.proofs.More.{Headed, Enclosed, Both, BothFit, AnyOf, Alternative, map_reads, renamed_reads, headed_reads, enclosed_reads, both_reads, reads_alternative, no_alternative, switch_reads}
+use Rattle.std.proofs.Common.{◌≡◌, ℕ, zero, suc, ◌+◌, ◌≤◌, cond, Bool, true, false, ◌⊎◌, inl, inr, List, [], ◌∷◌, ◌++◌, max, Option, Some, None, refl, sym, ◌∙◌, ap, subst, arith, append_assoc}
+use Rattle.token_readers.specs.Reading.{Reading, ◌>>=◌, accept, after_first, enclosed, headed, both, switch, first_is}
+use Rattle.token_readers.proofs.Readers.{Reads, EachOf, EachFits, ManyEnds}
+use Rattle.token_readers.proofs.More.{Headed, Enclosed, Both, BothFit, AnyOf, Alternative, map_reads, renamed_reads, headed_reads, enclosed_reads, both_reads, reads_alternative, no_alternative, switch_reads, all_end}
+use Rattle.smv_lexer.specs.declared.keyword.Keyword.{Keyword}
 use Rattle.smv_lexer.specs.declared.sign.Sign.{Sign}
 use Rattle.smv_lexer.specs.Text.{Kind, Placed}
-use Rattle.smv_lexer.specs.Text.Kind.{mark}
+use Rattle.smv_lexer.specs.Text.Kind.{word, key, mark}
 use Rattle.smv_parser.specs.declared.program.LeftKind.{LeftKind}
-use Rattle.smv_parser.specs.Tree.{Tree, PathTree, Parts, path_on, depth, path_depth}
-use Rattle.smv_parser.specs.Words.{BeginsOn}
+use Rattle.smv_parser.specs.Tree.{Tree, PathTree, Parts, path_on, depth, path_depth, parts_depth}
+use Rattle.smv_parser.specs.Words.{Is, BeginsOn}
 use Rattle.smv_parser.specs.Grammar.{DerivesPath}
 use Rattle.smv_parser.specs.Program.{Lined, TypeForm, Declaration, Left, Assignment, Definition, type_depth, assignment_depth}
 use Rattle.smv_parser.specs.Programs.{DerivesAssignment, DerivesDeclaration, DerivesDefinition, DerivesLeft, DerivesName, DerivesType, Expression, OnLine}

@@ -1,26 +1,28 @@
 -- Modules and programs are read exactly.
-use Rattle.std.proofs.Common.{◌≡◌, ℕ, ◌-◌, ◌≤◌, true, false, ◌⊎◌, inl, List, [], ◌∷◌, ◌++◌, map, length, Option, Some, None, refl, sym, ◌∙◌, ap, subst, arith}
+use Rattle.std.proofs.Common.{◌≡◌, ℕ, ◌+◌, ◌-◌, ◌≤◌, max, Bool, true, false, ◌⊎◌, inl, inr, List, [], ◌∷◌, ◌++◌, map, length, Option, Some, None, refl, sym, ◌∙◌, ap, subst, arith, append_assoc}
 use Rattle.token_readers.specs.Places as place
 use Rattle.token_readers.specs.Reading.{Reading, ◌>>=◌, accept, both, many, first_is}
 use Rattle.token_readers.specs.Reading.Reading.{found, syntax_error, too_deep}
 use Rattle.token_readers.proofs.Readers.{Reads, EachOf, EachFits, ManyEnds, many_reads}
-use Rattle.token_readers.proofs.More.{Both, BothFit, AnyOf, both_reads, all_end, decide_both, decide_each}
-use Rattle.token_readers.proofs.Optional.{OptionFits, decide_option}
+use Rattle.token_readers.proofs.More.{Both, BothFit, AnyOf, map_reads, both_reads, all_end, decide_both, decide_each}
+use Rattle.token_readers.proofs.Optional.{OptionFits, OptionEnds, decide_option}
 use Rattle.token_readers.proofs.Mapped.{Makes, all_made, both_made, same_made, found_made, failed_made, deep_reading_made, then_made, syntax_made, deep_made}
 use Rattle.token_readers.proofs.Places as places
+use Rattle.token_readers.proofs.OnePlace as one
 use Rattle.smv_lexer.specs.declared.keyword.Keyword.{Keyword}
 use Rattle.smv_lexer.specs.declared.sign.Sign.{Sign}
 use Rattle.smv_lexer.specs.Text.{Kind, Placed}
-use Rattle.smv_parser.specs.Words.{BeginsOn}
+use Rattle.smv_lexer.specs.Text.Kind.{key, mark}
+use Rattle.smv_parser.specs.Words.{Is, BeginsOn}
 use Rattle.smv_parser.specs.Program.{Lined, Section, Module, Program, greatest, section_depth, program_depth}
-use Rattle.smv_parser.specs.Programs.{DerivesModule, DerivesName, DerivesProgram, DerivesSection, OnLine}
+use Rattle.smv_parser.specs.Programs.{DerivesModule, DerivesName, DerivesProgram, DerivesSection, Each, OnLine, Parameters}
 use Rattle.smv_parser.specs.Tests.{is_sign, is_key, key_is, name_of}
-use Rattle.smv_parser.specs.Openings.{begins_section, formal_of, key_line}
+use Rattle.smv_parser.specs.Openings.{begins_section, formal_of, is_section, kind_section, key_line}
 use Rattle.smv_parser.specs.ProgramReading.{ClosedSection, closed_section, lined, listed, parameters_here, parameters, read_formals, read_module, read_program, read_section}
-use Rattle.smv_parser.proofs.TokenTests.{kind_is-key}
+use Rattle.smv_parser.proofs.TokenTests.{sign_is-kind, kind_is-key}
 use Rattle.smv_parser.proofs.Starts.{Settled, line_of_first, module_is_no_section, module_settled, section_settled}
 use Rattle.smv_parser.proofs.Parameters.{HereEnds, HereIs, each_from, each_to, here_reads, parameters_from, parameters_to}
-use Rattle.smv_parser.proofs.TokenReads.{AnyFits, Free, KeyIs, all_fit, decide_depth, formal_reads, key_reads, name_reads}
+use Rattle.smv_parser.proofs.TokenReads.{AnyFits, Free, KeyIs, all_fit, decide_depth, each_within, formal_reads, greatest_within, key_reads, name_reads}
 use Rattle.smv_parser.proofs.SectionReads.{SectionEnds, SectionLed, section_at_end, section_begins, section_from, section_goes_on, section_reads, section_settles, section_to}
 
 -- formals and sections, with what could still follow each

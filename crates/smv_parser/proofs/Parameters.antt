@@ -1,12 +1,15 @@
 -- Lists between commas, and parameters in parentheses, are read exactly.
-use Rattle.std.proofs.Common.{◌≡◌, true, false, ◌⊎◌, inl, inr, List, [], ◌∷◌, ◌++◌, length, Option, Some, None, refl, sym, ◌∙◌, ap, subst}
-use Rattle.token_readers.specs.Reading.{Reading, ◌>>=◌, expect, many, headed, enclosed, both, first_is}
+use Rattle.std.proofs.Common.{◌≡◌, ℕ, Bool, true, false, ◌⊎◌, inl, inr, ⊎_elim, List, [], ◌∷◌, ◌++◌, length, Option, Some, None, refl, sym, ◌∙◌, ap, subst, append_assoc}
+use Rattle.token_readers.specs.Optional.{optional}
+use Rattle.token_readers.specs.Reading.{Reading, ◌>>=◌, expect, many, headed, enclosed, both, choose, first_is}
 use Rattle.token_readers.specs.Reading.Reading.{found}
 use Rattle.token_readers.proofs.Readers.{Reads, EachOf, EachFits, ManyEnds, IsToken, expect_reads, choose_reads}
 use Rattle.token_readers.proofs.More.{Headed, Enclosed, Both, BothFit, map_reads, headed_reads, enclosed_reads, list_reads, all_end, decide_each}
 use Rattle.token_readers.proofs.Optional.{OptionIs, OptionFits, OptionEnds, optional_reads}
 use Rattle.smv_lexer.specs.declared.sign.Sign.{Sign}
 use Rattle.smv_lexer.specs.Text.{Kind, Placed}
+use Rattle.smv_lexer.specs.Text.Kind.{mark}
+use Rattle.smv_parser.specs.Words.{Is}
 use Rattle.smv_parser.specs.Programs.{Each, AfterComma, Commas, Parameters}
 use Rattle.smv_parser.specs.Tests.{is_sign, sign_is, sign_number}
 use Rattle.smv_parser.specs.ProgramReading.{commas, inside, parameters_here, listed}

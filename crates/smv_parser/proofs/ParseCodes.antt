@@ -1,5 +1,5 @@
 -- What the reader of programs says of all the tokens.
-use Rattle.std.proofs.Common.{◌≡◌, ℕ, suc, ◌+◌, ◌-◌, ◌≤◌, List, [], ◌∷◌, length, refl, sym, ◌∙◌, ap, subst, arith, false}
+use Rattle.std.proofs.Common.{◌≡◌, ℕ, zero, suc, ◌+◌, ◌-◌, ◌≤◌, List, [], ◌∷◌, length, refl, sym, ◌∙◌, ap, subst, arith, false}
 use Rattle.std.specs.Prelude.{◌==◌}
 use Rattle.token_readers.specs.Reading.{Reading}
 use Rattle.token_readers.specs.Reading.Reading.{found, syntax_error, too_deep}

@@ -1,14 +1,15 @@
 -- Plain types are read exactly.
-use Rattle.std.proofs.Common.{◌≡◌, ℕ, zero, suc, ◌≤◌, true, false, inl, List, [], ◌∷◌, ◌++◌, refl, sym, ◌∙◌, ap, subst, arith, append_assoc}
-use Rattle.token_readers.specs.Reading.{Reading, accept, enclosed, headed, both}
+use Rattle.std.proofs.Common.{◌≡◌, ℕ, zero, suc, ◌+◌, ◌≤◌, ◌<◌, true, false, ◌⊎◌, inl, inr, List, [], ◌∷◌, ◌++◌, refl, sym, ◌∙◌, ap, subst, arith, append_assoc}
+use Rattle.token_readers.specs.Reading.{Reading, accept, after_first, enclosed, headed, both, switch}
 use Rattle.token_readers.proofs.Readers.{Reads, EachFits, ManyEnds}
-use Rattle.token_readers.proofs.More.{Headed, Enclosed, Both, BothFit, AnyOf, Alternative, map_reads, renamed_reads, give_reads, headed_reads, enclosed_reads, both_reads, no_alternative, switch_reads, decide_each}
+use Rattle.token_readers.proofs.More.{Headed, Enclosed, Both, BothFit, AnyOf, Alternative, map_reads, renamed_reads, give_reads, headed_reads, enclosed_reads, both_reads, no_alternative, switch_reads, decide_both, decide_each}
 use Rattle.smv_lexer.specs.declared.keyword.Keyword.{Keyword}
 use Rattle.smv_lexer.specs.declared.sign.Sign.{Sign}
 use Rattle.smv_lexer.specs.Text.{Kind, Placed}
+use Rattle.smv_lexer.specs.Text.Kind.{key, mark}
 use Rattle.smv_parser.specs.declared.openings.PlainLead.{PlainLead}
 use Rattle.smv_parser.specs.declared.openings.TypeLead.{TypeLead}
-use Rattle.smv_parser.specs.Words.{BeginsOn}
+use Rattle.smv_parser.specs.Words.{Is, BeginsOn}
 use Rattle.smv_parser.specs.Program.{Lined, Constant, Plain, PlainForm, plain_on, plain_depth}
 use Rattle.smv_parser.specs.Programs.{Commas, DerivesConstant, DerivesPlain, OnLine}
 use Rattle.smv_parser.specs.Tests.{is_sign, is_key, sign_is, sign_number, key_number, number_in, number_of}
@@ -20,7 +21,7 @@ use Rattle.smv_parser.proofs.Operands.{sign_token, key_token, open_alternative, 
 use Rattle.smv_parser.proofs.Shapes.{is_it, sign_of}
 use Rattle.smv_parser.proofs.Starts.{TypeIs, type_is, line_of_first}
 use Rattle.smv_parser.proofs.Parameters.{commas_reads, list_closes}
-use Rattle.smv_parser.proofs.TokenReads.{AnyFits, Free, NumberIs, RangeIs, number_token, all_fit, constant_reads, number_reads, range_reads}
+use Rattle.smv_parser.proofs.TokenReads.{AnyFits, Free, NumberIs, RangeIs, number_token, all_fit, constant_reads, decide_depth, number_reads, range_reads}
 
 pub plain_depth_pos : (p : Plain) → 1 ≤ plain_depth p
 plain_depth_pos (plain_on l PlainForm.boolean) = omega arith

@@ -1,8 +1,9 @@
 -- One step each of the code of sections and modules, in terms of reading.
-use Rattle.std.proofs.Common.{◌≡◌, ℕ, true, false, List, [], ◌∷◌, length, refl, sym, ◌∙◌, ap, subst, arith, Option, Some, None}
+use Rattle.std.proofs.Common.{◌≡◌, ℕ, zero, suc, ◌+◌, ◌-◌, Bool, true, false, List, [], ◌∷◌, map, length, refl, sym, ◌∙◌, ap, subst, arith, Option, Some, None}
 use Rattle.token_readers.specs.Optional.{optional}
 use Rattle.token_readers.specs.Reading.{Reading, ◌>>=◌, accept, after_first, enclosed, expect, first_is, headed, both, many, switch}
 use Rattle.token_readers.specs.Reading.Reading.{found, syntax_error, too_deep}
+use Rattle.token_readers.proofs.Readers.{found-then}
 use Rattle.token_readers.proofs.Mapped.{then_made}
 use Rattle.smv_lexer.specs.declared.keyword.Keyword.{Keyword}
 use Rattle.smv_lexer.specs.declared.sign.Sign.{Sign}
@@ -13,9 +14,9 @@ use Rattle.smv_parser.specs.declared.program.LeftKind.{LeftKind}
 use Rattle.smv_parser.specs.declared.reader.Failure.{Failure}
 use Rattle.smv_parser.specs.Gives.{Fails, IsSyntaxError}
 use Rattle.smv_parser.specs.Tree.{Tree}
-use Rattle.smv_parser.specs.Program.{Section}
+use Rattle.smv_parser.specs.Program.{Lined, Section}
 use Rattle.smv_parser.specs.Programs.{greatest_depth}
-use Rattle.smv_parser.specs.Tests.{is_sign, name_of}
+use Rattle.smv_parser.specs.Tests.{is_sign, is_key, name_of}
 use Rattle.smv_parser.specs.Openings.{begins_left, begins_name, begins_section, formal_of, key_line, left_of, section_lead, some_is}
 use Rattle.smv_parser.specs.Reading.{path_line, read, read_path}
 use Rattle.smv_parser.specs.ProgramReading.{ClosedSection, closed_section, left_by, left_tail, lined, parameters, path_within, read_assignment, read_closing, read_condition, read_declaration, read_definition, read_formals, read_left, read_module, read_section, read_type, section_by, section_tail}

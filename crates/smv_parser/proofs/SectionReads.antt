@@ -1,24 +1,25 @@
 -- Sections are read exactly.
-use Rattle.std.proofs.Common.{◌≡◌, ℕ, ◌≤◌, Bool, true, false, ◌⊎◌, inl, inr, List, [], ◌∷◌, ◌++◌, length, Option, Some, None, refl, sym, ◌∙◌, ap, subst, arith}
+use Rattle.std.proofs.Common.{◌≡◌, ℕ, ◌+◌, ◌≤◌, cond, Bool, true, false, ◌⊎◌, inl, inr, List, [], ◌∷◌, ◌++◌, length, Option, Some, None, refl, sym, ◌∙◌, ap, subst, arith, append-nil}
 use Rattle.token_readers.specs.Optional.{optional}
-use Rattle.token_readers.specs.Reading.{expect, many, first_is}
+use Rattle.token_readers.specs.Reading.{Reading, ◌>>=◌, after_first, both, expect, many, switch, first_is}
 use Rattle.token_readers.proofs.Readers.{Reads, EachOf, EachFits, ManyEnds, expect_reads, many_reads}
 use Rattle.token_readers.proofs.More.{Both, BothFit, AnyOf, Alternative, map_reads, both_reads, no_alternative, switch_reads, all_end}
 use Rattle.token_readers.proofs.Optional.{OptionIs, OptionFits, OptionEnds, optional_reads}
 use Rattle.smv_lexer.specs.declared.keyword.Keyword.{Keyword}
 use Rattle.smv_lexer.specs.declared.sign.Sign.{Sign}
-use Rattle.smv_lexer.specs.Text.{Placed}
-use Rattle.smv_lexer.specs.Text.Kind.{mark}
+use Rattle.smv_lexer.specs.Text.{Kind, Placed}
+use Rattle.smv_lexer.specs.Text.Kind.{key, mark}
 use Rattle.smv_parser.specs.declared.openings.SectionLead.{SectionLead}
 use Rattle.smv_parser.specs.declared.program.Condition.{Condition}
 use Rattle.smv_parser.specs.Tree.{Tree, depth}
-use Rattle.smv_parser.specs.Words.{Lone, BeginsOn}
-use Rattle.smv_parser.specs.Program.{Lined, Declaration, Assignment, Definition, Section, type_depth, assignment_depth, section_depth}
-use Rattle.smv_parser.specs.Programs.{DerivesAssignment, DerivesDeclaration, DerivesDefinition, DerivesSection, Expression, OnLine}
-use Rattle.smv_parser.specs.Tests.{is_sign, sign_number}
-use Rattle.smv_parser.specs.Openings.{begins_left, begins_name, begins_section, is_section, kind_section, section_lead, some_is}
-use Rattle.smv_parser.specs.Reading.{read}
+use Rattle.smv_parser.specs.Words.{Is, Lone, BeginsOn}
+use Rattle.smv_parser.specs.Program.{Lined, Declaration, Assignment, Definition, Section, greatest, type_depth, assignment_depth, section_depth}
+use Rattle.smv_parser.specs.Programs.{DerivesAssignment, DerivesCondition, DerivesDeclaration, DerivesDefinition, DerivesSection, Expression, OnLine, condition_word}
+use Rattle.smv_parser.specs.Tests.{is_sign, sign_is, sign_number}
+use Rattle.smv_parser.specs.Openings.{begins_left, begins_name, begins_section, is_section, kind_is_word, kind_left, kind_section, section_lead, some_is}
+use Rattle.smv_parser.specs.Reading.{begins_part, read}
 use Rattle.smv_parser.specs.ProgramReading.{ClosedSection, closed_section, lined, read_assignment, read_closing, read_declaration, read_definition, section_by, section_tail}
+use Rattle.smv_parser.proofs.TokenTests.{sign_is-kind}
 use Rattle.smv_parser.proofs.Follow.{Ends}
 use Rattle.smv_parser.proofs.Operands.{sign_token, key_token, open_alternative, ends_at, ends_at_sign}
 use Rattle.smv_parser.proofs.Shapes.{is_it, sign_of}

@@ -1,5 +1,5 @@
 -- What single tokens above expressions are.
-use Rattle.std.proofs.Common.{◌≡◌, ℕ, cond, Bool, true, false, List, ◌∷◌, Option, Some, None, refl, sym, ◌∙◌, ap, subst}
+use Rattle.std.proofs.Common.{◌≡◌, ℕ, cond, Bool, true, false, List, [], ◌∷◌, Option, Some, None, refl, sym, ◌∙◌, ap, subst}
 use Rattle.smv_lexer.specs.declared.keyword.Keyword.{Keyword}
 use Rattle.smv_lexer.specs.declared.sign.Sign.{Sign}
 use Rattle.smv_lexer.specs.Text.{Kind, Placed}
@@ -11,10 +11,10 @@ use Rattle.smv_parser.specs.declared.program.Condition.{Condition}
 use Rattle.smv_parser.specs.declared.program.LeftKind.{LeftKind}
 use Rattle.smv_parser.specs.Program.{Lined, Constant}
 use Rattle.smv_parser.specs.Words.{truth_word, Is, Lone, BeginsOn}
-use Rattle.smv_parser.specs.Programs.{DerivesConstant, condition_word}
-use Rattle.smv_parser.specs.Tests.{is_key, sign_is, key_is, word_in, name_of, kind_operator}
+use Rattle.smv_parser.specs.Programs.{DerivesConstant, DerivesName, OnLine, condition_word}
+use Rattle.smv_parser.specs.Tests.{is_sign, is_key, sign_is, key_is, sign_number, key_number, word_in, number_in, name_of, number_of, kind_operator}
 use Rattle.smv_parser.specs.Openings.{on_its_line, some_is, key_type, sign_type, kind_type, key_section, kind_section, is_section, key_left, kind_left, kind_is_word, formal_of, key_truth, truth_in, constant_in, constant_of, key_line}
-use Rattle.smv_parser.proofs.TokenTests.{key_is-kind, kind_is-key, word_in-kind}
+use Rattle.smv_parser.proofs.TokenTests.{key_is-kind, kind_is-key, word_in-kind, number_in-kind}
 
 -- types
 

@@ -1,15 +1,15 @@
 -- Single tokens, and what two of them enclose, are read exactly.
-use Rattle.std.proofs.Common.{◌≡◌, ℕ, ◌≤◌, leb, ◌<◌, true, false, ◌⊎◌, inl, inr, List, [], ◌∷◌, ◌++◌, Some, refl, sym, ◌∙◌, ap, subst, arith}
+use Rattle.std.proofs.Common.{◌≡◌, ℕ, ◌≤◌, leb, ◌<◌, Bool, true, false, ◌⊎◌, inl, inr, List, [], ◌∷◌, ◌++◌, max, Some, refl, sym, ◌∙◌, ap, subst, arith}
 use Rattle.std.proofs.lemmas.Bool.Decides.{leb_tells}
-use Rattle.token_readers.specs.Reading.{accept, enclosed, both}
+use Rattle.token_readers.specs.Reading.{Reading, accept, enclosed, both}
 use Rattle.token_readers.proofs.Readers.{Reads, EachFits}
 use Rattle.token_readers.proofs.More.{IsKnown, Enclosed, Both, BothFit, accept_reads, enclosed_reads, both_reads, renamed_reads}
 use Rattle.smv_lexer.specs.declared.keyword.Keyword.{Keyword}
 use Rattle.smv_lexer.specs.declared.sign.Sign.{Sign}
 use Rattle.smv_lexer.specs.Text.{Kind, Placed}
-use Rattle.smv_lexer.specs.Text.Kind.{key}
+use Rattle.smv_lexer.specs.Text.Kind.{key, mark}
 use Rattle.smv_parser.specs.Words.{Is, Lone, BeginsOn}
-use Rattle.smv_parser.specs.Program.{Constant, greatest}
+use Rattle.smv_parser.specs.Program.{Lined, Constant, greatest}
 use Rattle.smv_parser.specs.Programs.{DerivesConstant, DerivesName, DerivesRange, OnLine}
 use Rattle.smv_parser.specs.Tests.{is_sign, sign_number, word_in, number_in, name_of, number_of}
 use Rattle.smv_parser.specs.Openings.{formal_of, constant_of, key_line}

@@ -1,8 +1,10 @@
 -- One step each of the code of types, in terms of reading.
-use Rattle.std.proofs.Common.{◌≡◌, ℕ, zero, suc, ◌-◌, ◌≤◌, Bool, true, false, List, [], ◌∷◌, length, refl, sym, ◌∙◌, ap, subst, arith, le-leb, Option, Some, None}
+use Rattle.std.proofs.Common.{◌≡◌, ℕ, zero, suc, ◌+◌, ◌-◌, ◌≤◌, ◌<◌, Bool, true, false, List, [], ◌∷◌, map, length, refl, sym, ◌∙◌, ap, subst, arith, le-leb, Option, Some, None}
+use Rattle.std.proofs.lemmas.Bool.{lt-leb}
 use Rattle.token_readers.specs.Reading.{Reading, ◌>>=◌, accept, accepted, after_first, enclosed, headed, both, switch}
 use Rattle.token_readers.specs.Reading.Reading.{found, syntax_error, too_deep}
-use Rattle.token_readers.proofs.Mapped.{then_made}
+use Rattle.token_readers.proofs.Readers.{found-then}
+use Rattle.token_readers.proofs.Mapped.{then_made, then_then, then_same}
 use Rattle.smv_lexer.specs.declared.keyword.Keyword.{Keyword}
 use Rattle.smv_lexer.specs.declared.sign.Sign.{Sign}
 use Rattle.smv_lexer.specs.Text.{Placed}
@@ -10,9 +12,9 @@ use Rattle.smv_parser.specs.declared.openings.PlainLead.{PlainLead}
 use Rattle.smv_parser.specs.declared.openings.TypeLead.{TypeLead}
 use Rattle.smv_parser.specs.Gives.{IsSyntaxError, IsTooDeep}
 use Rattle.smv_parser.specs.Tree.{Tree}
-use Rattle.smv_parser.specs.Program.{Lined, PlainForm, TypeForm, plain_on}
+use Rattle.smv_parser.specs.Program.{Lined, Plain, PlainForm, TypeForm, plain_on}
 use Rattle.smv_parser.specs.Tests.{is_sign, is_key, name_of, number_of}
-use Rattle.smv_parser.specs.Openings.{constant_of, on_its_line, type_lead}
+use Rattle.smv_parser.specs.Openings.{constant_of, formal_of, on_its_line, type_lead}
 use Rattle.smv_parser.specs.Reading.{front_line, read, value_of, with_room}
 use Rattle.smv_parser.specs.ProgramReading.{Head, OpenType, plain_head, process_head, name_head, no_head, commas, head_of, is_open, lined, listed, named, parameters, parameters_here, plain_line, read_range, boolean_tail, enumeration_tail, range_tail, array_tail, plain_by, plain_step, read_plain, process_tail, type_by, open_type, read_type, read_instance}
 

@@ -1,33 +1,35 @@
 -- Types are read exactly.
-use Rattle.std.proofs.Common.{◌≡◌, ℕ, ◌≤◌, Bool, true, false, inl, List, [], ◌∷◌, ◌++◌, Option, Some, None, refl, sym, ◌∙◌, ap, subst, arith}
-use Rattle.token_readers.specs.Reading.{◌>>=◌, accept, enclosed, first_is}
+use Rattle.std.proofs.Common.{◌≡◌, ℕ, ◌+◌, ◌≤◌, Bool, true, false, ◌⊎◌, inl, inr, List, [], ◌∷◌, ◌++◌, Option, Some, None, refl, sym, ◌∙◌, ap, subst, arith}
+use Rattle.token_readers.specs.Reading.{Reading, ◌>>=◌, accept, after_first, enclosed, both, switch, first_is}
 use Rattle.token_readers.specs.Reading.Reading.{found}
 use Rattle.token_readers.proofs.Readers.{Reads, EachFits}
 use Rattle.token_readers.proofs.More.{Enclosed, Both, BothFit, AnyOf, Alternative, map_reads, enclosed_reads, both_reads, reads_alternative, no_alternative, switch_reads}
-use Rattle.token_readers.proofs.Optional.{OptionFits}
+use Rattle.token_readers.proofs.Optional.{OptionFits, decide_option}
 use Rattle.token_readers.proofs.Mapped.{reads_same, enclosed_made}
 use Rattle.smv_lexer.specs.declared.keyword.Keyword.{Keyword}
 use Rattle.smv_lexer.specs.declared.sign.Sign.{Sign}
 use Rattle.smv_lexer.specs.Text.{Kind, Placed}
 use Rattle.smv_lexer.specs.Text.Kind.{word, key, mark}
+use Rattle.smv_parser.specs.declared.openings.PlainLead.{PlainLead}
 use Rattle.smv_parser.specs.declared.openings.TypeLead.{TypeLead}
 use Rattle.smv_parser.specs.Tree.{Tree, depth}
 use Rattle.smv_parser.specs.Words.{Is, BeginsOn}
 use Rattle.smv_parser.specs.Program.{Lined, Plain, PlainForm, TypeForm, plain_on, plain_depth, greatest, type_depth}
-use Rattle.smv_parser.specs.Programs.{DerivesName, DerivesPlain, DerivesType, Expression, OnLine}
+use Rattle.smv_parser.specs.Programs.{DerivesName, DerivesPlain, DerivesType, Expression, OnLine, Parameters}
 use Rattle.smv_parser.specs.Tests.{is_sign, sign_is, sign_number, kind_lead, sign_lead}
 use Rattle.smv_parser.specs.Openings.{formal_of, kind_type, type_lead}
-use Rattle.smv_parser.specs.Reading.{read, leads}
+use Rattle.smv_parser.specs.Reading.{read, leads, begins_expression}
 use Rattle.smv_parser.specs.ProgramReading.{lined, OpenType, Head, plain_head, process_head, name_head, no_head, head_of, is_open, listed, named, parameters_here, plain_line, read_plain, process_tail, type_by, open_type, read_type}
 use Rattle.smv_parser.proofs.TokenTests.{sign_is-kind}
 use Rattle.smv_parser.proofs.Follow.{Ends}
 use Rattle.smv_parser.proofs.Leads.{first_leads}
+use Rattle.smv_parser.proofs.Operators.{some_name, some_tree}
 use Rattle.smv_parser.proofs.Operands.{sign_token, key_token, open_alternative, ends_at_sign, comma_goes_on}
 use Rattle.smv_parser.proofs.Whole.{expression_reads}
 use Rattle.smv_parser.proofs.Starts.{line_of_first}
 use Rattle.smv_parser.proofs.Parameters.{HereIs, HereEnds, here_reads, parameters_to, parameters_from}
 use Rattle.smv_parser.proofs.TokenReads.{AnyFits, Free, decide_depth, each_within, greatest_within, formal_reads, same_first_line}
-use Rattle.smv_parser.proofs.PlainReads.{PlainTail, plain_begins, plain_reads, plain_shape, some_plain}
+use Rattle.smv_parser.proofs.PlainReads.{PlainTail, PlainLed, plain_begins, plain_reads, plain_shape, some_plain}
 
 -- no expression begins with a closing parenthesis
 sign_no_paren : (s : Sign) → leads (sign_lead s) ≡ true → sign_is Sign.CloseParen (mark s) ≡ false

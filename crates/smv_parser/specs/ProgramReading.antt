@@ -1,20 +1,20 @@
 -- Reading what stands above expressions from left to right, within a depth.
-use Rattle.std.specs.Prelude.{ℕ, zero, suc, Bool, true, false, length, List, [], ◌∷◌, Option, Some, None}
+use Rattle.std.specs.Prelude.{◌≡◌, ℕ, zero, suc, Bool, true, false, length, List, [], ◌∷◌, Option, Some, None, map}
 use Rattle.token_readers.specs.Optional.{optional}
 use Rattle.token_readers.specs.Reading.{Reading, ◌>>=◌, accept, expect, switch, choose, many, after_first, headed, enclosed, both}
 use Rattle.token_readers.specs.Reading.Reading.{found, syntax_error, too_deep}
 use Rattle.smv_lexer.specs.declared.keyword.Keyword.{Keyword}
 use Rattle.smv_lexer.specs.declared.sign.Sign.{Sign}
-use Rattle.smv_lexer.specs.Text.{Placed}
+use Rattle.smv_lexer.specs.Text.{Kind, Placed}
 use Rattle.smv_parser.specs.declared.openings.PlainLead.{PlainLead}
 use Rattle.smv_parser.specs.declared.openings.SectionLead.{SectionLead}
 use Rattle.smv_parser.specs.declared.openings.TypeLead.{TypeLead}
 use Rattle.smv_parser.specs.declared.program.LeftKind.{LeftKind}
 use Rattle.smv_parser.specs.Tree.{Tree, PathTree}
-use Rattle.smv_parser.specs.Program.{Lined, Plain, PlainForm, TypeForm, Declaration, Left, Assignment, Definition, Section, Module, Program, plain_on}
+use Rattle.smv_parser.specs.Program.{Lined, Constant, Plain, PlainForm, TypeForm, Declaration, Left, Assignment, Definition, Section, Module, Program, plain_on}
 use Rattle.smv_parser.specs.Tests.{is_sign, is_key, name_of, number_of}
 use Rattle.smv_parser.specs.Openings.{begins_left, begins_name, begins_section, constant_of, formal_of, key_line, left_of, section_lead, some_is, type_lead}
-use Rattle.smv_parser.specs.Reading.{path_line, read, read_path, value_of, with_room}
+use Rattle.smv_parser.specs.Reading.{path_line, read, read_path, text_of, value_of, with_room}
 
 abbrev pub lined : {A : Type 0} → ℕ → A → Lined A
 lined line x = record { form = x; line = line }

@@ -1,9 +1,10 @@
 -- Readers that differ only in what they make of what is read.
-use Rattle.std.proofs.Common.{◌≡◌, ℕ, zero, suc, ◌+◌, Bool, true, false, cond, List, [], ◌∷◌, ◌++◌, map, length, take, refl, sym, ◌∙◌, ap, subst}
-use Rattle.token_readers.specs.Reading.{Reading, ◌>>=◌, expect, first_is, many, enclosed, both}
+use Rattle.std.proofs.Common.{◌≡◌, ℕ, zero, suc, ◌+◌, ◌-◌, ◌≤◌, ◌<◌, Bool, true, false, cond, ◌⊎◌, List, [], ◌∷◌, ◌++◌, map, length, take, Option, Some, None, refl, sym, ◌∙◌, ap, subst}
+use Rattle.token_readers.specs.Reading.{Reading, ◌>>=◌, expect, first_is, many, headed, enclosed, both}
 use Rattle.token_readers.specs.Reading.Reading.{found, syntax_error, too_deep}
 use Rattle.token_readers.specs.Places.{Begins, BeginsWithin, IsSyntaxPlace, IsTooDeepPlace}
 use Rattle.token_readers.proofs.Readers.{Reads, Outcome, Completes}
+use Rattle.token_readers.proofs.Places as places
 
 -- run' reads what run reads, and makes it into f of it
 abbrev pub Makes : {T A B : Type 0} → (A → B) → (List T → Reading T A) → (List T → Reading T B) → Type 0

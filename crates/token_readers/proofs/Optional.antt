@@ -1,7 +1,7 @@
 -- What may be left out is read exactly.
-use Rattle.std.proofs.Common.{◌≡◌, Bool, true, false, ◌⊎◌, inl, List, [], ◌∷◌, ◌++◌, Option, Some, None, refl, sym, ◌∙◌, ap, subst}
+use Rattle.std.proofs.Common.{◌≡◌, ℕ, Bool, true, false, cond, ◌⊎◌, inl, inr, List, [], ◌∷◌, ◌++◌, Option, Some, None, refl, sym, ◌∙◌, ap, subst}
 use Rattle.token_readers.specs.Reading.{Reading, ◌>>=◌, first_is}
-use Rattle.token_readers.specs.Reading.Reading.{found}
+use Rattle.token_readers.specs.Reading.Reading.{found, syntax_error, too_deep}
 use Rattle.token_readers.specs.Optional.{optional}
 use Rattle.token_readers.proofs.Readers.{SameHead, Outcome, Completes, Reads}
 use Rattle.token_readers.proofs.More.{map_reads, transfer}

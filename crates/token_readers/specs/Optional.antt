@@ -1,5 +1,5 @@
 -- What may be left out.
-use Rattle.std.specs.Prelude.{Bool, cond, List, Option, Some, None}
+use Rattle.std.specs.Prelude.{◌≡◌, Bool, false, cond, List, [], ◌∷◌, Option, Some, None}
 use Rattle.token_readers.specs.Reading.{Reading, ◌>>=◌, first_is}
 use Rattle.token_readers.specs.Reading.Reading.{found}
 

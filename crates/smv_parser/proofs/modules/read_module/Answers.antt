@@ -1,5 +1,6 @@
-use Rattle.std.proofs.Common.{ℕ, length, map, sym, ◌∙◌, ap}
+use Rattle.std.proofs.Common.{◌≡◌, ℕ, List, length, map, sym, ◌∙◌, ap}
 use Rattle.std.proofs.lemmas.Result.{err_from_is_err_and}
+use Rattle.smv_lexer.specs.View as tokens
 use Rattle.smv_lexer.specs.View.{views}
 use Rattle.token_readers.proofs.Readers.{found-then}
 use Rattle.smv_parser.specs.Programs.{greatest_depth}

@@ -1,7 +1,8 @@
-use Rattle.std.proofs.Common.{◌≡◌, ◌-◌, length, map, List, [], ◌∷◌, sym, ◌∙◌, ap, subst, arith, eqb-true}
+use Rattle.std.proofs.Common.{◌≡◌, ◌-◌, ℕ, length, map, List, [], ◌∷◌, sym, ◌∙◌, ap, subst, arith, eqb-true}
 use Rattle.token_readers.specs.Reading.Reading.{found}
 use Rattle.smv_lexer.specs.Text.{Placed}
 use Rattle.smv_lexer.specs.View.{views}
+use Rattle.smv_parser.specs.Program.{Program}
 use Rattle.smv_parser.specs.Programs.{IsSyntaxPlace}
 use Rattle.smv_parser.specs.ProgramView as view
 use Rattle.smv_parser.proofs.Codes.{length-views}

@@ -1,9 +1,10 @@
-use Rattle.std.proofs.Common.{◌∙◌}
+use Rattle.std.proofs.Common.{◌≡◌, ℕ, List, length, map, sym, ◌∙◌, ap}
 use Rattle.std.proofs.lemmas.Result.{err_from_is_err_and}
+use Rattle.smv_lexer.specs.View as tokens
 use Rattle.smv_lexer.specs.View.{views}
 use Rattle.token_readers.proofs.Readers.{found-then}
 use Rattle.smv_parser.specs.Programs.{greatest_depth}
-use Rattle.smv_parser.proofs.Codes.{Fails-then}
+use Rattle.smv_parser.proofs.Codes.{Fails-then, length-views}
 use Rattle.smv_parser.proofs.SectionCodes.{assignment_is}
 use Rattle.smv_parser.proofs.sections.read_assignment.Goals as goal
 

@@ -1,7 +1,9 @@
-use Rattle.std.proofs.Common.{◌∙◌}
+use Rattle.std.proofs.Common.{◌≡◌, ℕ, List, length, map, sym, ◌∙◌, ap}
 use Rattle.std.proofs.lemmas.Result.{err_from_is_err_and}
+use Rattle.smv_lexer.specs.View as tokens
 use Rattle.smv_lexer.specs.View.{views}
 use Rattle.token_readers.proofs.Readers.{found-then}
+use Rattle.smv_parser.specs.Programs.{greatest_depth}
 use Rattle.smv_parser.proofs.Codes.{Fails-then, enclosed_fails, enclosed_fails_after, enclosed_found, headed_fails, headed_is}
 use Rattle.smv_lexer.specs.declared.sign.Sign.{Sign}
 use Rattle.token_readers.specs.Reading.{enclosed}

@@ -1,12 +1,14 @@
-use Rattle.std.proofs.Common.{ℕ, ◌-◌, length, map, sym, ◌∙◌, ap, arith, ⊎_elim}
+use Rattle.std.proofs.Common.{◌≡◌, ℕ, ◌-◌, ◌≤◌, length, map, sym, ◌∙◌, ap, arith, ⊎_elim}
 use Rattle.std.proofs.lemmas.Result.{err_from_is_err_and}
 use Rattle.smv_lexer.specs.declared.keyword.Keyword.{Keyword}
 use Rattle.smv_lexer.specs.declared.sign.Sign.{Sign}
+use Rattle.smv_lexer.specs.Text.{Placed}
 use Rattle.smv_lexer.specs.View as tokens
 use Rattle.smv_lexer.specs.View.{views}
-use Rattle.token_readers.specs.Reading.{accept, enclosed}
+use Rattle.token_readers.specs.Reading.{accept, enclosed, headed, both}
 use Rattle.token_readers.specs.Reading.Reading.{found}
 use Rattle.token_readers.proofs.Readers.{found-then}
+use Rattle.smv_parser.specs.declared.openings.PlainLead.{PlainLead}
 use Rattle.smv_parser.specs.declared.openings.TypeLead.{TypeLead}
 use Rattle.smv_parser.specs.Openings.{constant_of}
 use Rattle.smv_parser.specs.Program.{PlainForm, plain_on}

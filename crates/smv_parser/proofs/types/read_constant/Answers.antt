@@ -1,7 +1,8 @@
-use Rattle.std.proofs.Common.{ℕ, List, Bool, Option, Some, length, sym, ◌∙◌, ap}
+use Rattle.std.proofs.Common.{◌≡◌, ℕ, List, Bool, Option, Some, length, sym, ◌∙◌, ap}
 use Rattle.smv_lexer.specs.declared.token.TokenKind.{TokenKind}
 use Rattle.smv_lexer.specs.View as tokens
 use Rattle.smv_lexer.specs.View.{views}
+use Rattle.token_readers.specs.Reading.Reading.{found}
 use Rattle.smv_parser.specs.Program.{Constant}
 use Rattle.smv_parser.specs.Openings.{constant_in, constant_of, on_its_line, truth_in}
 use Rattle.smv_parser.specs.ProgramReading.{lined}
