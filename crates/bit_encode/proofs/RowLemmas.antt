@@ -117,7 +117,7 @@ flat_unused =
     (distinct_by bytes_eq bytes_self (map (λ (v : Variable). v.name) unused_model.vars) refl)
     (All-from_recursion V unused_model.vars (
       typed unused_model x (lit< tt) (distinct_by same same_self x.values refl) (All-from_recursion K x.values (lit< tt, (lit< tt, (lit< tt, tt)))),
-      (typed unused_model y (lit< tt) (distinct_by same same_self y.values refl) (All-from_recursion K y.values (lit< tt, tt)), tt)
+      (typed unused_model y (lit< tt) (distinct_by same same_self y.values refl) (All-from_recursion K y.values (lit< tt, tt)), tt),
     ))
 
 pub flat_mixed : IsFlat mixed_model
@@ -135,6 +135,8 @@ flat_mixed =
     (distinct_by bytes_eq bytes_self (map (λ (v : Variable). v.name) mixed_model.vars) refl)
     (All-from_recursion V mixed_model.vars (
       typed mixed_model flag (lit< tt) (distinct_by same same_self flag.values refl) (All-from_recursion K flag.values (tt, (tt, tt))),
-      (typed mixed_model count (lit< tt) (distinct_by same same_self count.values refl) (All-from_recursion K count.values (tt, (tt, (tt, (tt, (tt, tt)))))),
-      (typed mixed_model y (lit< tt) (distinct_by same same_self y.values refl) (All-from_recursion K y.values (lit< tt, tt)), tt))
+      (
+        typed mixed_model count (lit< tt) (distinct_by same same_self count.values refl) (All-from_recursion K count.values (tt, (tt, (tt, (tt, (tt, tt)))))),
+        (typed mixed_model y (lit< tt) (distinct_by same same_self y.values refl) (All-from_recursion K y.values (lit< tt, tt)), tt),
+      ),
     ))

@@ -12,9 +12,9 @@ use crate::command::{Command, read_words};
 use crate::decision::decide_all;
 use crate::outcome::status_of;
 use crate::report::report;
+use first_form::{FirstRefusal, one_model, read_first};
 use kripke_model::models::Ruled;
 use smv_outside::{Files, LoadFault, Sink};
-use first_form::{FirstRefusal, one_model, read_first};
 use std::alloc::{AllocError, Global};
 
 /// The greatest number of bytes of a model's text.

@@ -1,9 +1,9 @@
 use super::*;
+use first_form::read_first;
 use kripke_model::Name;
 use kripke_model::expressions::{Expr, Value};
 use kripke_model::states::State;
 use smv_outside::{Entry, MemFiles, MemSink, have_distinct_names};
-use first_form::read_first;
 use std::alloc::{AllocError, Global};
 use std::test::Fail;
 use tree_engine::leaves::leaf;
