@@ -1,7 +1,7 @@
 //! Layouts: which bit of a list speaks of which variable.
 
 ghost use Rattle.std.specs.Prelude.{◌≡◌, ◌+◌, ◌*◌, ◌<◌, ◌≤◌, ℕ, IfOk, IfErr, OnOk, IfNone, IfSome, length};
-ghost use Rattle.bit_encode.specs.Code.{IsOrder, IsStateOf, HasBit, IsValid, IsUnused, types_of, code, field, bit_place, bit_count};
+ghost use Rattle.bit_encode.specs.Code.{IsOrder, IsStateOf, HasBit, IsValid, IsUnused, types_of, code, field, bit_place, bit_count, width_of};
 ghost use Rattle.bit_encode.specs.Binary.{number};
 ghost use Rattle.bit_encode.specs.Layouts.{Refuses, Accepts};
 ghost use Rattle.bit_encode.specs.Laws.{CodesDiffer, CodesAreValid, ValidAreCodes, FieldsSpell, PlacesDiffer, PlacesWithin};
@@ -103,6 +103,15 @@ impl Layout {
         ensures few { result ≤ MAX_STATE_BITS }
     {
         self.bits
+    }
+
+    /// How many bits a variable has, from 0 to 64.
+    pub fn width(&self, var: u32) -> u32
+        requires { var < length self.now.types }
+        ensures bits { result ≡ width_of self.now.types var }
+        ensures few { result ≤ 64 }
+    {
+        self.domains[var as usize].width()
     }
 
     /// The level of a variable's bit in the current state: twice its place among the bits. Bit 0 is the most

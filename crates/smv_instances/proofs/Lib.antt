@@ -1,0 +1,14 @@
+pub mod NameLemmas
+pub mod ListSteps
+pub mod FirstSteps
+pub mod TableLemmas
+pub mod CountLemmas
+pub mod ConstantLemmas
+pub mod RowLemmas
+pub mod BodyLemmas
+pub mod WalkLemmas
+pub mod PushLemmas
+pub mod InsideLemmas
+pub mod SymbolLemmas
+pub mod BuildLemmas
+pub mod FindLemmas

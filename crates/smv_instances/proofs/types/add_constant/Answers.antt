@@ -1,0 +1,14 @@
+use Rattle.std.proofs.Common.{◌≡◌, refl, sym, subst}
+use Rattle.smv_instances.specs.Program.{Constant}
+use Rattle.smv_instances.specs.Plain.{plain_constant}
+use Rattle.std.specs.Prelude.{IfOk, not, if◌then◌else◌, ◌++◌, ◌∷◌, []}
+use Rattle.std.specs.List.{list_any}
+use Rattle.std.specs.Str.{bytes_eq}
+use Rattle.smv_instances.proofs.ConstantLemmas.{name_added}
+use Rattle.smv_instances.proofs.types.add_constant.Goals as goal
+
+pub returns-in-Name-clause-kept : goal.returns-in-Name-clause-kept
+returns-in-Name-clause-kept c =
+    let atom : plain_constant c.args.constant.now ≡ Constant.Atom c.in-Name.name = rw c.in-Name.is refl in
+    let said : c.as_str.result.now ≡ c.in-Name.name = c.as_str.ensures in
+    rw (atom, ← said) (name_added c.insert.result c.args.names.now c.insert.new.self c.args.numbers.now.keys c.as_str.result.now c.insert.ensures.added c.insert.ensures.names)

@@ -1,0 +1,14 @@
+pub mod Program
+pub mod Abstract
+pub mod Plain
+pub mod Entries
+pub mod Instances
+pub mod Declarations
+pub mod Numbered
+pub mod Answers
+pub mod Counting
+pub mod Tables
+pub mod Walk
+pub mod Constants
+pub mod Symbols
+pub mod Built

@@ -1,0 +1,10 @@
+pub mod Once
+pub mod Resolution
+pub mod GraphLemmas
+pub mod SearchLemmas
+pub mod AdvanceLemmas
+pub mod ComponentLemmas
+pub mod StepLemmas
+pub mod Circles
+pub mod WrittenLemmas
+pub mod MentionLemmas

@@ -1,0 +1,6 @@
+//! What the paths of a program denote, and what its definitions are refused for.
+#![tactic(auto)]
+
+pub mod graph;
+pub mod mentions;
+pub mod order;

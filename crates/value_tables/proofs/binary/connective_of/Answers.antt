@@ -1,0 +1,22 @@
+use Rattle.std.proofs.Common.{sym, subst, ◌∙◌}
+use Rattle.bdd_nodes.specs.Store.{value_of}
+use Rattle.value_tables.specs.declared.pick.Test.{Test}
+use Rattle.value_tables.specs.Cells.{Reads, AreCells}
+use Rattle.value_tables.specs.Tables.{alone, value_tested, one_tested, membership, truths, connective, guard_of, paired}
+use Rattle.kripke_model.specs.Evaluation.{binary}
+use Rattle.value_tables.proofs.StepLemmas.{if_ok}
+use Rattle.value_tables.proofs.OperatorLemmas.{boolean_tested}
+use Rattle.value_tables.proofs.BinaryLemmas.{reads_as, connective_is, connective_single}
+use Rattle.value_tables.proofs.binary.connective_of.Goals as goal
+
+pub returns-clause-reads : goal.returns-clause-reads
+returns-clause-reads g c =
+    let t = c.tested_pair.new.engine.store in
+    if_ok c.combined.result c.combined.ensures.reads (λ w h bits r q x y.
+    reads_as _ _ (connective c.args.op (guard_of r) (guard_of q)) (binary c.args.op r q) (connective_is c.args.op r q c.requires.op)
+    (h bits (guard_of r) (guard_of q)
+    (subst (λ xs. Reads (λ n. value_of t n bits) xs (truths (guard_of r))) (sym c.deref.ensures.value) (reads_as _ _ (one_tested Test.Boolean r) (truths (guard_of r)) (boolean_tested r) (c.in_ok-pair.ensures.reads_left bits r x)))
+    (subst (λ xs. Reads (λ n. value_of t n bits) xs (truths (guard_of q))) (sym c.deref-2.ensures.value) (reads_as _ _ (one_tested Test.Boolean q) (truths (guard_of q)) (boolean_tested q) (c.in_ok-pair.ensures.reads_right bits q y)))))
+
+pub returns-clause-single : goal.returns-clause-single
+returns-clause-single g c = if_ok c.combined.result c.combined.ensures.single (λ t h e. connective_single c.args.op c.requires.op)

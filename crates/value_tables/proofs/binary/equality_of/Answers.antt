@@ -1,0 +1,22 @@
+use Rattle.std.proofs.Common.{sym, subst, ◌∙◌}
+use Rattle.bdd_nodes.specs.Store.{value_of}
+use Rattle.value_tables.specs.declared.pick.Test.{Test}
+use Rattle.value_tables.specs.Cells.{Reads, AreCells}
+use Rattle.value_tables.specs.Tables.{alone, value_tested, one_tested, membership, truths, connective, guard_of, paired}
+use Rattle.kripke_model.specs.Evaluation.{binary}
+use Rattle.value_tables.proofs.StepLemmas.{if_ok}
+use Rattle.value_tables.proofs.OperatorLemmas.{boolean_tested}
+use Rattle.value_tables.proofs.BinaryLemmas.{reads_as, equality_is, equality_single}
+use Rattle.value_tables.proofs.binary.equality_of.Goals as goal
+
+pub returns-clause-reads : goal.returns-clause-reads
+returns-clause-reads g c =
+    let t = c.tested_pair.new.engine.store in
+    if_ok c.compared.result c.compared.ensures.reads (λ w h bits r q x y.
+    reads_as _ _ (membership (value_tested Test.Any r) (alone (value_tested Test.Any q))) (binary c.args.op r q) (equality_is c.args.op r q c.requires.op)
+    (h bits (value_tested Test.Any r) (one_tested Test.Any q)
+    (subst (λ xs. Reads (λ n. value_of t n bits) xs (one_tested Test.Any r)) (sym c.deref.ensures.value) (c.in_ok-pair.ensures.reads_left bits r x))
+    (subst (λ xs. Reads (λ n. value_of t n bits) xs (one_tested Test.Any q)) (sym c.deref-2.ensures.value) (c.in_ok-pair.ensures.reads_right bits q y))))
+
+pub returns-clause-single : goal.returns-clause-single
+returns-clause-single g c = if_ok c.compared.result c.compared.ensures.single (λ t h e. equality_single c.args.op c.requires.op)

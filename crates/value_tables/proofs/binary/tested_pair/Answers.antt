@@ -1,0 +1,15 @@
+use Rattle.value_tables.proofs.RegionLemmas.{AreCells-grows}
+use Rattle.value_tables.proofs.BinaryLemmas.{reads_grows}
+use Rattle.value_tables.proofs.binary.tested_pair.Goals as goal
+
+pub tested-requires-2 : goal.tested-requires-2
+tested-requires-2 g c = AreCells-grows c.args.engine.now.store c.tested.new.engine.store c.tested.ensures.keeps.grows c.args.right.now.cells.items c.requires.right
+
+pub returns-clause-left : goal.returns-clause-left
+returns-clause-left g c = AreCells-grows c.tested.new.engine.store c.tested-2.new.engine.store c.tested-2.ensures.keeps.grows _ c.in_ok-left.ensures.cells
+
+pub returns-clause-reads_left : goal.returns-clause-reads_left
+returns-clause-reads_left g c = λ bits r o. reads_grows c.tested.new.engine.store c.tested-2.new.engine.store c.tested-2.ensures.keeps.grows _ c.in_ok-left.ensures.cells.has bits _ (c.in_ok-left.ensures.reads bits r o.reads o.proper o.few)
+
+pub returns-clause-reads_right : goal.returns-clause-reads_right
+returns-clause-reads_right g c = λ bits r o. c.in_ok-right.ensures.reads bits r (reads_grows c.args.engine.now.store c.tested.new.engine.store c.tested.ensures.keeps.grows c.args.right.now.cells.items c.requires.right.has bits r o.reads) o.proper o.few

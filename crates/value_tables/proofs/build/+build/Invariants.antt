@@ -1,0 +1,40 @@
+use Rattle.std.proofs.Common.{◌≡◌, ◌+◌, ◌*◌, ◌&&◌, ◌||◌, Bool, List, drop}
+use Rattle.bdd_nodes.specs.Store.{value_of, Has}
+use Rattle.bdd_ops.specs.Engine.{store_of}
+use Rattle.kripke_model.specs.declared.expressions.Value.{Value}
+use Rattle.kripke_model.specs.Evaluation.{Checked}
+use Rattle.kripke_model.specs.Reading.{term_of, terms_in, arms_in}
+use Rattle.kripke_model.specs.Size.{node_count, element_nodes, arm_nodes}
+use Rattle.value_tables.specs.Work.{Keeps}
+use Rattle.value_tables.specs.Cells.{shows, same_reading, any_of, Reads, AreCells}
+use Rattle.value_tables.specs.States.{elements_meaning, arms_meaning}
+use Rattle.value_tables.specs.Tables.{all_values}
+use Rattle.value_tables.proofs.build.+build.Given as goal
+
+abbrev pub decreases-build : goal.decreases-build
+decreases-build g l = 2 * node_count (term_of l.expr.now)
+
+abbrev pub decreases-build_elements : goal.decreases-build_elements
+decreases-build_elements g l = 2 * element_nodes (terms_in l.elements.now) + 1
+
+abbrev pub decreases-build_arms : goal.decreases-build_arms
+decreases-build_arms g l = 2 * arm_nodes (arms_in l.arms.now) + 1
+
+-- the cells are those of the elements so far
+abbrev pub invariant-build_elements-loop-element : goal.invariant-build_elements-loop-element
+invariant-build_elements-loop-element g l = record {
+  cells : AreCells (store_of l.engine) l.cells.items;
+  so_far : (bits : List Bool) → (c : Checked (List Value)) × Reads (λ r. value_of (store_of l.engine) r bits) l.cells.items c
+      × (elements_meaning l.layout l.model l.next (terms_in l.elements) bits ≡ all_values c (elements_meaning l.layout l.model l.next (terms_in (drop l.element-index l.elements)) bits));
+  keeps : Keeps l.initial.engine l.engine l.initial.steps l.steps;
+}
+
+-- the cells are those of the arms so far, and the rest is that of the arms that are left
+abbrev pub invariant-build_arms-loop-arm : goal.invariant-build_arms-loop-arm
+invariant-build_arms-loop-arm g l = record {
+  cells : AreCells (store_of l.engine) l.cells.items;
+  left : Has (store_of l.engine) l.left;
+  shows : (bits : List Bool) (k : Checked Value) → any_of (same_reading k) (arms_meaning l.layout l.model l.next (arms_in l.arms) bits)
+      ≡ (shows (λ r. value_of (store_of l.engine) r bits) l.cells.items k || (value_of (store_of l.engine) l.left bits && any_of (same_reading k) (arms_meaning l.layout l.model l.next (arms_in (drop l.arm-index l.arms)) bits)));
+  keeps : Keeps l.initial.engine l.engine l.initial.steps l.steps;
+}

@@ -1,0 +1,24 @@
+use Rattle.std.proofs.Common.{◌∙◌, ◌||◌, ap, sym}
+use Rattle.bdd_nodes.specs.Store.{value_of}
+use Rattle.value_tables.specs.Tables.{alone}
+use Rattle.value_tables.proofs.RegionLemmas.{has-grows, pairs-grows}
+use Rattle.value_tables.proofs.OperatorLemmas.{paired_shows}
+use Rattle.value_tables.proofs.pairs.calculated.Goals as goal
+
+pub pair_up-requires-clause-left : goal.pair_up-requires-clause-left
+pair_up-requires-clause-left g c = has-grows c.args.engine.now.store c.faults_of.new.engine.store c.faults_of.ensures.keeps.grows c.args.left.now c.requires.left.has
+
+pub pair_up-requires-clause-right : goal.pair_up-requires-clause-right
+pair_up-requires-clause-right g c = has-grows c.args.engine.now.store c.faults_of.new.engine.store c.faults_of.ensures.keeps.grows c.args.right.now c.requires.right.has
+
+pub returns-clause-reads : goal.returns-clause-reads
+returns-clause-reads g c =
+    let s = c.args.engine.now.store in
+    let f = c.faults_of.new.engine.store in
+    let left = c.args.left.now in
+    let right = c.args.right.now in
+    λ bits a b x y. record {
+      each = λ k. c.in_ok-pair_up.ensures.shows bits k
+          ∙ (λ i. c.in_ok-faults.ensures.shows bits (alone a) (alone b) x y k i || pairs-grows s f c.faults_of.ensures.keeps.grows left right c.requires.left.has c.requires.right.has bits c.args.op k i)
+          ∙ paired_shows (λ q. value_of s q bits) c.args.op left right a b x y k;
+    }

@@ -1,0 +1,17 @@
+use Rattle.std.proofs.Common.{◌∙◌, ◌&&◌, ◌||◌, ap, sym, subst}
+use Rattle.bdd_nodes.specs.Store.{value_of}
+use Rattle.bdd_nodes.proofs.Tables.{value_of-true}
+use Rattle.value_tables.specs.declared.pick.Pick.{Pick}
+use Rattle.value_tables.specs.Cells.{shows, any_cell}
+use Rattle.value_tables.specs.Pick.{becomes}
+use Rattle.value_tables.proofs.OperatorLemmas.{negated_shows}
+use Rattle.value_tables.proofs.sets.negated.Goals as goal
+
+pub returns-clause-reads : goal.returns-clause-reads
+returns-clause-reads g c =
+    let t = c.tested.new.engine.store in
+    λ bits r h proper flag. record {
+      each = λ k. c.in_ok-spread.ensures.shows bits k
+          ∙ (λ i. shows (λ n. value_of t n bits) (c.new-cells.ensures.items i) k || (any_cell (λ n. value_of t n bits) (becomes Pick.Negated k) (c.deref.ensures.value i) && value_of-true t.nodes.keys bits i))
+          ∙ negated_shows (λ n. value_of t n bits) _ r (c.in_ok-boolean.ensures.reads bits r h proper flag) k;
+    }

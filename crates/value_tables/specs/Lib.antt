@@ -1,0 +1,6 @@
+pub mod Work
+pub mod Cells
+pub mod Pick
+pub mod Tables
+pub mod States
+pub mod Regions

@@ -1,0 +1,23 @@
+-- What an engine keeps and how much it grows.
+use Rattle.std.specs.Prelude.{◌≡◌, ℕ, ◌+◌, ◌*◌, ◌^◌, ◌≤◌, Bool, List, length}
+use Rattle.bdd_nodes.specs.declared.store.Store.{Store}
+use Rattle.bdd_nodes.specs.Store.{levels_of, triples, Has, value_of, Grows}
+use Rattle.bdd_ops.specs.declared.engine.Engine.{Engine}
+use Rattle.bdd_ops.specs.Engine.{store_of, capacity_of, lists_of, refused_of}
+
+-- work of an engine: earlier diagrams keep their meaning, and so do the lists of levels; steps are counted
+pub record Keeps (old new : Engine) (before after : ℕ) : Type 0 where
+  pub grows : Grows (store_of old) (store_of new)
+  pub refused : refused_of old ≤ refused_of new
+  pub lists : lists_of new ≡ lists_of old
+  pub capacity : capacity_of new ≡ capacity_of old
+  pub steps : before ≤ after
+
+-- the table grows by at most k times as many triples as one operation may add
+pub record Spends (k : ℕ) (old new : Store) : Type 0 where
+  pub count : length (triples new) ≤ length (triples old) + k * 2 ^ levels_of old
+
+-- a diagram of the store with this value at each list of bits
+pub record IsRegion (s : Store) (r : ℕ) (f : List Bool → Bool) : Type 0 where
+  pub has : Has s r
+  pub value : (bits : List Bool) → value_of s r bits ≡ f bits

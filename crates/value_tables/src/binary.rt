@@ -1,0 +1,197 @@
+//! The operators of two operands.
+
+ghost use Rattle.std.specs.Prelude.{◌≡◌, true, List, Bool, IfOk, IfErr};
+ghost use Rattle.bdd_nodes.specs.Store.{value_of};
+ghost use Rattle.bdd_nodes.specs.Refusal.{IsRefusalOf};
+ghost use Rattle.bdd_ops.specs.Engine.{store_of};
+ghost use Rattle.kripke_model.specs.declared.expressions.Value.{Value as Values};
+ghost use Rattle.kripke_model.specs.Evaluation.{Checked, binary};
+ghost use Rattle.value_tables.specs.Work.{Keeps};
+ghost use Rattle.value_tables.specs.Cells.{Reads, AreCells};
+ghost use Rattle.value_tables.specs.Tables.{IsOperand, IsSingle, one_tested, IsUnion, IsMember, IsEquality, IsConnective, IsArithmetic};
+
+use crate::cells::Cell;
+use crate::operands::{Table, tested};
+use crate::operators::{combined, compared};
+use crate::pairs::calculated;
+use crate::pick::Test;
+use crate::sets::united;
+use bdd_nodes::{Steps, StoreRefusal};
+use bdd_ops::Engine;
+use kripke_model::expressions::BinOp;
+use std::alloc::Global;
+use std::sync::ledger::Ledger;
+
+/// Two tested operands.
+#[derive(Drop)]
+struct Pair {
+    left: Vec<Cell>,
+    right: Vec<Cell>,
+}
+
+/// Both operands tested, the left one first.
+fn tested_pair<L: Ledger>(
+    alloc: Global,
+    engine: &mut Engine,
+    test: Test,
+    left: &Table,
+    right: &Table,
+    steps: &mut Steps<L>,
+) -> Result<Pair, StoreRefusal>
+    requires left { AreCells (store_of engine.old) left.now.cells.items }
+    requires right { AreCells (store_of engine.old) right.now.cells.items }
+    ensures left { IfOk result (λ p. AreCells (store_of engine.new) p.left.items) }
+    ensures right { IfOk result (λ p. AreCells (store_of engine.new) p.right.items) }
+    ensures reads_left { IfOk result (λ p. (bits : List Bool) (c : Checked (List Values)) → IsOperand (λ r. value_of (store_of engine.old) r bits) left.now.cells.items left.now.single c
+        → Reads (λ r. value_of (store_of engine.new) r bits) p.left.items (one_tested test c)) }
+    ensures reads_right { IfOk result (λ p. (bits : List Bool) (d : Checked (List Values)) → IsOperand (λ r. value_of (store_of engine.old) r bits) right.now.cells.items right.now.single d
+        → Reads (λ r. value_of (store_of engine.new) r bits) p.right.items (one_tested test d)) }
+    ensures held { IfErr result (IsRefusalOf (store_of engine.new)) }
+    ensures keeps { Keeps engine.old engine.new steps.old steps.new }
+{
+    let left = tested(alloc, engine, left, test, steps)?;
+    let right = tested(alloc, engine, right, test, steps)?;
+    Ok(Pair { left, right })
+}
+
+fn union_of<L: Ledger>(
+    alloc: Global,
+    engine: &mut Engine,
+    op: BinOp,
+    left: &Table,
+    right: &Table,
+    steps: &mut Steps<L>,
+) -> Result<Table, StoreRefusal>
+    requires op { IsUnion op }
+    requires left { AreCells (store_of engine.old) left.now.cells.items }
+    requires right { AreCells (store_of engine.old) right.now.cells.items }
+    ensures cells { IfOk result (λ t. AreCells (store_of engine.new) t.cells.items) }
+    ensures reads { IfOk result (λ t. (bits : List Bool) (c d : Checked (List Values)) → IsOperand (λ r. value_of (store_of engine.old) r bits) left.now.cells.items left.now.single c → IsOperand (λ r. value_of (store_of engine.old) r bits) right.now.cells.items right.now.single d
+        → Reads (λ r. value_of (store_of engine.new) r bits) t.cells.items (binary op c d)) }
+    ensures single { IfOk result (λ t. t.single ≡ true → (c d : Checked (List Values)) → IsSingle (binary op c d)) }
+    ensures held { IfErr result (IsRefusalOf (store_of engine.new)) }
+    ensures keeps { Keeps engine.old engine.new steps.old steps.new }
+{
+    let cells = united(alloc, engine, &left.cells, &right.cells, steps)?;
+    Ok(Table {
+        cells,
+        single: false,
+    })
+}
+
+fn member_of<L: Ledger>(
+    alloc: Global,
+    engine: &mut Engine,
+    op: BinOp,
+    left: &Table,
+    right: &Table,
+    steps: &mut Steps<L>,
+) -> Result<Table, StoreRefusal>
+    requires op { IsMember op }
+    requires left { AreCells (store_of engine.old) left.now.cells.items }
+    requires right { AreCells (store_of engine.old) right.now.cells.items }
+    ensures cells { IfOk result (λ t. AreCells (store_of engine.new) t.cells.items) }
+    ensures reads { IfOk result (λ t. (bits : List Bool) (c d : Checked (List Values)) → IsOperand (λ r. value_of (store_of engine.old) r bits) left.now.cells.items left.now.single c → IsOperand (λ r. value_of (store_of engine.old) r bits) right.now.cells.items right.now.single d
+        → Reads (λ r. value_of (store_of engine.new) r bits) t.cells.items (binary op c d)) }
+    ensures single { IfOk result (λ t. t.single ≡ true → (c d : Checked (List Values)) → IsSingle (binary op c d)) }
+    ensures held { IfErr result (IsRefusalOf (store_of engine.new)) }
+    ensures keeps { Keeps engine.old engine.new steps.old steps.new }
+{
+    let one = tested(alloc, engine, left, Test::Any, steps)?;
+    compared(alloc, engine, &one, &right.cells, steps)
+}
+
+fn equality_of<L: Ledger>(
+    alloc: Global,
+    engine: &mut Engine,
+    op: BinOp,
+    left: &Table,
+    right: &Table,
+    steps: &mut Steps<L>,
+) -> Result<Table, StoreRefusal>
+    requires op { IsEquality op }
+    requires left { AreCells (store_of engine.old) left.now.cells.items }
+    requires right { AreCells (store_of engine.old) right.now.cells.items }
+    ensures cells { IfOk result (λ t. AreCells (store_of engine.new) t.cells.items) }
+    ensures reads { IfOk result (λ t. (bits : List Bool) (c d : Checked (List Values)) → IsOperand (λ r. value_of (store_of engine.old) r bits) left.now.cells.items left.now.single c → IsOperand (λ r. value_of (store_of engine.old) r bits) right.now.cells.items right.now.single d
+        → Reads (λ r. value_of (store_of engine.new) r bits) t.cells.items (binary op c d)) }
+    ensures single { IfOk result (λ t. t.single ≡ true → (c d : Checked (List Values)) → IsSingle (binary op c d)) }
+    ensures held { IfErr result (IsRefusalOf (store_of engine.new)) }
+    ensures keeps { Keeps engine.old engine.new steps.old steps.new }
+{
+    let pair = tested_pair(alloc, engine, Test::Any, left, right, steps)?;
+    compared(alloc, engine, &pair.left, &pair.right, steps)
+}
+
+fn connective_of<L: Ledger>(
+    alloc: Global,
+    engine: &mut Engine,
+    op: BinOp,
+    left: &Table,
+    right: &Table,
+    steps: &mut Steps<L>,
+) -> Result<Table, StoreRefusal>
+    requires op { IsConnective op }
+    requires left { AreCells (store_of engine.old) left.now.cells.items }
+    requires right { AreCells (store_of engine.old) right.now.cells.items }
+    ensures cells { IfOk result (λ t. AreCells (store_of engine.new) t.cells.items) }
+    ensures reads { IfOk result (λ t. (bits : List Bool) (c d : Checked (List Values)) → IsOperand (λ r. value_of (store_of engine.old) r bits) left.now.cells.items left.now.single c → IsOperand (λ r. value_of (store_of engine.old) r bits) right.now.cells.items right.now.single d
+        → Reads (λ r. value_of (store_of engine.new) r bits) t.cells.items (binary op c d)) }
+    ensures single { IfOk result (λ t. t.single ≡ true → (c d : Checked (List Values)) → IsSingle (binary op c d)) }
+    ensures held { IfErr result (IsRefusalOf (store_of engine.new)) }
+    ensures keeps { Keeps engine.old engine.new steps.old steps.new }
+{
+    let pair = tested_pair(alloc, engine, Test::Boolean, left, right, steps)?;
+    combined(alloc, engine, op, &pair.left, &pair.right, steps)
+}
+
+fn outcome_of<L: Ledger>(
+    alloc: Global,
+    engine: &mut Engine,
+    op: BinOp,
+    left: &Table,
+    right: &Table,
+    steps: &mut Steps<L>,
+) -> Result<Table, StoreRefusal>
+    requires op { IsArithmetic op }
+    requires left { AreCells (store_of engine.old) left.now.cells.items }
+    requires right { AreCells (store_of engine.old) right.now.cells.items }
+    ensures cells { IfOk result (λ t. AreCells (store_of engine.new) t.cells.items) }
+    ensures reads { IfOk result (λ t. (bits : List Bool) (c d : Checked (List Values)) → IsOperand (λ r. value_of (store_of engine.old) r bits) left.now.cells.items left.now.single c → IsOperand (λ r. value_of (store_of engine.old) r bits) right.now.cells.items right.now.single d
+        → Reads (λ r. value_of (store_of engine.new) r bits) t.cells.items (binary op c d)) }
+    ensures single { IfOk result (λ t. t.single ≡ true → (c d : Checked (List Values)) → IsSingle (binary op c d)) }
+    ensures held { IfErr result (IsRefusalOf (store_of engine.new)) }
+    ensures keeps { Keeps engine.old engine.new steps.old steps.new }
+{
+    let pair = tested_pair(alloc, engine, Test::Number, left, right, steps)?;
+    calculated(alloc, engine, op, &pair.left, &pair.right, steps)
+}
+
+/// The table of an operator on two tables.
+pub(crate) fn binary_of<L: Ledger>(
+    alloc: Global,
+    engine: &mut Engine,
+    op: BinOp,
+    left: &Table,
+    right: &Table,
+    steps: &mut Steps<L>,
+) -> Result<Table, StoreRefusal>
+    requires left { AreCells (store_of engine.old) left.now.cells.items }
+    requires right { AreCells (store_of engine.old) right.now.cells.items }
+    ensures cells { IfOk result (λ t. AreCells (store_of engine.new) t.cells.items) }
+    ensures reads { IfOk result (λ t. (bits : List Bool) (c d : Checked (List Values)) → IsOperand (λ r. value_of (store_of engine.old) r bits) left.now.cells.items left.now.single c → IsOperand (λ r. value_of (store_of engine.old) r bits) right.now.cells.items right.now.single d
+        → Reads (λ r. value_of (store_of engine.new) r bits) t.cells.items (binary op c d)) }
+    ensures single { IfOk result (λ t. t.single ≡ true → (c d : Checked (List Values)) → IsSingle (binary op c d)) }
+    ensures held { IfErr result (IsRefusalOf (store_of engine.new)) }
+    ensures keeps { Keeps engine.old engine.new steps.old steps.new }
+{
+    match op {
+        BinOp::Union => union_of(alloc, engine, op, left, right, steps),
+        BinOp::Member => member_of(alloc, engine, op, left, right, steps),
+        BinOp::Eq => equality_of(alloc, engine, op, left, right, steps),
+        BinOp::And | BinOp::Or | BinOp::Implies | BinOp::Iff => {
+            connective_of(alloc, engine, op, left, right, steps)
+        }
+        _ => outcome_of(alloc, engine, op, left, right, steps),
+    }
+}

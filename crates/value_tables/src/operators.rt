@@ -1,0 +1,155 @@
+//! The operators on tables.
+
+ghost use Rattle.std.specs.Prelude.{◌≡◌, ◌≤◌, ◌+◌, ◌*◌, ◌^◌, ◌&&◌, ◌||◌, not, if◌then◌else◌, ℕ, Bool, true, false, List, [], ◌∷◌, ◌++◌, Ok, IfOk, IfErr, OnOk, All, length};
+ghost use Rattle.bdd_nodes.specs.Store.{Has, value_of, levels_of};
+ghost use Rattle.bdd_nodes.specs.Refusal.{IsRefusalOf};
+ghost use Rattle.bdd_ops.specs.Engine.{store_of};
+ghost use Rattle.kripke_model.specs.declared.expressions.Value.{Value as Values};
+ghost use Rattle.kripke_model.specs.Evaluation.{Checked};
+ghost use Rattle.value_tables.specs.declared.cells.Cell.{Cell as Cells};
+ghost use Rattle.value_tables.specs.Work.{Keeps, Spends, IsRegion};
+ghost use Rattle.value_tables.specs.Cells.{same_reading, shows, Reads, AreCells};
+ghost use Rattle.value_tables.specs.Pick.{truth_of};
+ghost use Rattle.value_tables.specs.Tables.{logic, alone, IsTable, membership, truths, connective};
+
+use crate::cells::{Cell, add, region_of};
+use crate::counts::matched;
+use crate::operands::{Faults, Table, faults_of, tested};
+use crate::pick::{Pick, Test, truth};
+use crate::regions::{alike, join, meet, outside};
+use crate::spread::spread;
+use bdd_nodes::{Ref, Steps, StoreRefusal};
+use bdd_ops::Engine;
+use kripke_model::expressions::{BinOp, FaultKind, Value};
+use std::alloc::Global;
+use std::sync::ledger::Ledger;
+
+/// The table of one reading, everywhere.
+pub(crate) fn everywhere(
+    alloc: Global,
+    engine: &Engine,
+    reading: Result<Value, FaultKind>,
+) -> Result<Table, StoreRefusal>
+    ensures table { IfOk result (λ t. IsTable (store_of engine.now) t.cells.items t.single (λ bits. alone reading)) }
+    ensures few { IfOk result (λ t. length t.cells.items ≤ 1) }
+    ensures held { IfErr result (IsRefusalOf (store_of engine.now)) }
+{
+    let mut cells = Vec::new(alloc);
+    let region = Ref::TRUE;
+    let Ok(()) = cells.push(Cell { reading, region }) else {
+        return Err(StoreRefusal::Memory);
+    };
+    Ok(Table {
+        cells,
+        single: true,
+    })
+}
+
+/// The table of 0 and 1: 1 where the hit is, 0 where neither it nor a fault is.
+fn decided<L: Ledger>(
+    engine: &mut Engine,
+    faults: Faults,
+    hit: Ref,
+    steps: &mut Steps<L>,
+) -> Result<Table, StoreRefusal>
+    requires cells { AreCells (store_of engine.old) faults.cells.items }
+    requires region { Has (store_of engine.old) faults.region }
+    requires hit { Has (store_of engine.old) hit }
+    ensures cells { IfOk result (λ t. AreCells (store_of engine.new) t.cells.items) }
+    ensures single { IfOk result (λ t. t.single ≡ true) }
+    ensures shows { IfOk result (λ t. (bits : List Bool) (k : Checked Values) → shows (λ r. value_of (store_of engine.new) r bits) t.cells.items k
+        ≡ ((shows (λ r. value_of (store_of engine.old) r bits) faults.cells.items k
+        || (same_reading k (Ok (truth_of false)) && not (value_of (store_of engine.old) hit bits || value_of (store_of engine.old) faults.region bits)))
+        || (same_reading k (Ok (truth_of true)) && (value_of (store_of engine.old) hit bits && not (value_of (store_of engine.old) faults.region bits))))) }
+    ensures few { IfOk result (λ t. length t.cells.items ≤ length faults.cells.items + 2) }
+    ensures held { IfErr result (IsRefusalOf (store_of engine.new)) }
+    ensures keeps { Keeps engine.old engine.new steps.old steps.new }
+    ensures spends { Spends 6 (store_of engine.old) (store_of engine.new) }
+{
+    let mut cells = faults.cells;
+    let covered = join(engine, hit, faults.region, steps)?;
+    let no = outside(engine, covered, steps)?;
+    let sound = outside(engine, faults.region, steps)?;
+    let yes = meet(engine, hit, sound, steps)?;
+    add(engine, &mut cells, Ok(truth(false)), no, steps)?;
+    add(engine, &mut cells, Ok(truth(true)), yes, steps)?;
+    Ok(Table {
+        cells,
+        single: true,
+    })
+}
+
+/// `in` on a left operand of one value; with a right operand of one value, `=`.
+pub(crate) fn compared<L: Ledger>(
+    alloc: Global,
+    engine: &mut Engine,
+    left: &[Cell],
+    right: &[Cell],
+    steps: &mut Steps<L>,
+) -> Result<Table, StoreRefusal>
+    requires left { AreCells (store_of engine.old) left.now }
+    requires right { AreCells (store_of engine.old) right.now }
+    ensures cells { IfOk result (λ t. AreCells (store_of engine.new) t.cells.items) }
+    ensures single { IfOk result (λ t. t.single ≡ true) }
+    ensures reads { IfOk result (λ t. (bits : List Bool) (a : Checked Values) (d : Checked (List Values)) → Reads (λ r. value_of (store_of engine.old) r bits) left.now (alone a) → Reads (λ r. value_of (store_of engine.old) r bits) right.now d
+        → Reads (λ r. value_of (store_of engine.new) r bits) t.cells.items (membership a d)) }
+    ensures held { IfErr result (IsRefusalOf (store_of engine.new)) }
+    ensures keeps { Keeps engine.old engine.new steps.old steps.new }
+    ensures spends { Spends (5 * length left.now + 3 * length right.now + 8) (store_of engine.old) (store_of engine.new) }
+{
+    let faults = faults_of(alloc, engine, left, right, steps)?;
+    let hit = matched(engine, left, right, steps)?;
+    decided(engine, faults, hit, steps)
+}
+
+/// The region where the connective of two regions holds.
+fn connected<L: Ledger>(
+    engine: &mut Engine,
+    op: BinOp,
+    a: Ref,
+    b: Ref,
+    steps: &mut Steps<L>,
+) -> Result<Ref, StoreRefusal>
+    requires a { Has (store_of engine.old) a }
+    requires b { Has (store_of engine.old) b }
+    ensures region { IfOk result (λ r. IsRegion (store_of engine.new) r (λ bits. logic op (value_of (store_of engine.old) a bits) (value_of (store_of engine.old) b bits))) }
+    ensures held { IfErr result (IsRefusalOf (store_of engine.new)) }
+    ensures keeps { Keeps engine.old engine.new steps.old steps.new }
+    ensures spends { Spends 2 (store_of engine.old) (store_of engine.new) }
+{
+    match op {
+        BinOp::And => meet(engine, a, b, steps),
+        BinOp::Or => join(engine, a, b, steps),
+        BinOp::Implies => {
+            let not_a = outside(engine, a, steps)?;
+            join(engine, not_a, b, steps)
+        }
+        _ => alike(engine, a, b, steps),
+    }
+}
+
+/// `&`, `|`, `->` and `<->` on operands that are 0 or 1.
+pub(crate) fn combined<L: Ledger>(
+    alloc: Global,
+    engine: &mut Engine,
+    op: BinOp,
+    left: &[Cell],
+    right: &[Cell],
+    steps: &mut Steps<L>,
+) -> Result<Table, StoreRefusal>
+    requires left { AreCells (store_of engine.old) left.now }
+    requires right { AreCells (store_of engine.old) right.now }
+    ensures cells { IfOk result (λ t. AreCells (store_of engine.new) t.cells.items) }
+    ensures single { IfOk result (λ t. t.single ≡ true) }
+    ensures reads { IfOk result (λ t. (bits : List Bool) (a b : Checked Bool) → Reads (λ r. value_of (store_of engine.old) r bits) left.now (truths a) → Reads (λ r. value_of (store_of engine.old) r bits) right.now (truths b)
+        → Reads (λ r. value_of (store_of engine.new) r bits) t.cells.items (connective op a b)) }
+    ensures held { IfErr result (IsRefusalOf (store_of engine.new)) }
+    ensures keeps { Keeps engine.old engine.new steps.old steps.new }
+    ensures spends { Spends (3 * length left.now + 3 * length right.now + 10) (store_of engine.old) (store_of engine.new) }
+{
+    let faults = faults_of(alloc, engine, left, right, steps)?;
+    let a = region_of(left, Ok(truth(true)));
+    let b = region_of(right, Ok(truth(true)));
+    let hit = connected(engine, op, a, b, steps)?;
+    decided(engine, faults, hit, steps)
+}

@@ -1,0 +1,77 @@
+//! The operations on regions, with what the engine keeps said once.
+
+ghost use Rattle.std.specs.Prelude.{◌≡◌, ◌&&◌, ◌||◌, not, if◌then◌else◌, ℕ, IfOk, IfErr};
+ghost use Rattle.bdd_nodes.specs.Store.{Has, value_of};
+ghost use Rattle.bdd_nodes.specs.Refusal.{IsRefusalOf};
+ghost use Rattle.bdd_ops.specs.Engine.{store_of};
+ghost use Rattle.value_tables.specs.Work.{Keeps, Spends, IsRegion};
+
+use bdd_nodes::{Ref, Steps, StoreRefusal};
+use bdd_ops::Engine;
+use std::sync::ledger::Ledger;
+
+/// The region where both are.
+pub(crate) fn meet<L: Ledger>(
+    engine: &mut Engine,
+    f: Ref,
+    g: Ref,
+    steps: &mut Steps<L>,
+) -> Result<Ref, StoreRefusal>
+    requires f { Has (store_of engine.old) f }
+    requires g { Has (store_of engine.old) g }
+    ensures region { IfOk result (λ r. IsRegion (store_of engine.new) r (λ bits. value_of (store_of engine.old) f bits && value_of (store_of engine.old) g bits)) }
+    ensures held { IfErr result (IsRefusalOf (store_of engine.new)) }
+    ensures keeps { Keeps engine.old engine.new steps.old steps.new }
+    ensures spends { Spends 1 (store_of engine.old) (store_of engine.new) }
+{
+    engine.and(f, g, steps)
+}
+
+/// The region where one of them is.
+pub(crate) fn join<L: Ledger>(
+    engine: &mut Engine,
+    f: Ref,
+    g: Ref,
+    steps: &mut Steps<L>,
+) -> Result<Ref, StoreRefusal>
+    requires f { Has (store_of engine.old) f }
+    requires g { Has (store_of engine.old) g }
+    ensures region { IfOk result (λ r. IsRegion (store_of engine.new) r (λ bits. value_of (store_of engine.old) f bits || value_of (store_of engine.old) g bits)) }
+    ensures held { IfErr result (IsRefusalOf (store_of engine.new)) }
+    ensures keeps { Keeps engine.old engine.new steps.old steps.new }
+    ensures spends { Spends 1 (store_of engine.old) (store_of engine.new) }
+{
+    engine.or(f, g, steps)
+}
+
+/// The region where it is not.
+pub(crate) fn outside<L: Ledger>(
+    engine: &mut Engine,
+    f: Ref,
+    steps: &mut Steps<L>,
+) -> Result<Ref, StoreRefusal>
+    requires { Has (store_of engine.old) f }
+    ensures region { IfOk result (λ r. IsRegion (store_of engine.new) r (λ bits. not (value_of (store_of engine.old) f bits))) }
+    ensures held { IfErr result (IsRefusalOf (store_of engine.new)) }
+    ensures keeps { Keeps engine.old engine.new steps.old steps.new }
+    ensures spends { Spends 1 (store_of engine.old) (store_of engine.new) }
+{
+    engine.not(f, steps)
+}
+
+/// The region where both are or neither is.
+pub(crate) fn alike<L: Ledger>(
+    engine: &mut Engine,
+    f: Ref,
+    g: Ref,
+    steps: &mut Steps<L>,
+) -> Result<Ref, StoreRefusal>
+    requires f { Has (store_of engine.old) f }
+    requires g { Has (store_of engine.old) g }
+    ensures region { IfOk result (λ r. IsRegion (store_of engine.new) r (λ bits. if value_of (store_of engine.old) f bits then value_of (store_of engine.old) g bits else not (value_of (store_of engine.old) g bits))) }
+    ensures held { IfErr result (IsRefusalOf (store_of engine.new)) }
+    ensures keeps { Keeps engine.old engine.new steps.old steps.new }
+    ensures spends { Spends 1 (store_of engine.old) (store_of engine.new) }
+{
+    engine.iff(f, g, steps)
+}

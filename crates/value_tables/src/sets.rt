@@ -1,0 +1,106 @@
+//! Sets, negation and the arms of a `case`.
+
+ghost use Rattle.std.specs.Prelude.{◌≡◌, ◌≤◌, ◌+◌, ◌*◌, ◌||◌, ◌&&◌, true, Bool, List, IfOk, IfErr, OnOk, length};
+ghost use Rattle.bdd_nodes.specs.Store.{Has, value_of};
+ghost use Rattle.bdd_nodes.specs.Refusal.{IsRefusalOf};
+ghost use Rattle.bdd_ops.specs.Engine.{store_of};
+ghost use Rattle.kripke_model.specs.declared.expressions.Value.{Value as Values};
+ghost use Rattle.kripke_model.specs.Evaluation.{Checked};
+ghost use Rattle.value_tables.specs.Work.{Keeps, Spends};
+ghost use Rattle.value_tables.specs.Cells.{shows, Reads, AreCells};
+ghost use Rattle.value_tables.specs.Tables.{IsProper, IsSingle, all_values, negation, truths, arm_shows, goes_on};
+
+use crate::cells::{Cell, region_of};
+use crate::operands::{Table, faults_of, tested};
+use crate::pick::{Pick, Test, truth};
+use crate::regions::{meet, outside};
+use crate::spread::spread;
+use bdd_nodes::{Ref, Steps, StoreRefusal};
+use bdd_ops::Engine;
+use std::alloc::Global;
+use std::sync::ledger::Ledger;
+
+/// The values of both operands.
+pub(crate) fn united<L: Ledger>(
+    alloc: Global,
+    engine: &mut Engine,
+    left: &[Cell],
+    right: &[Cell],
+    steps: &mut Steps<L>,
+) -> Result<Vec<Cell>, StoreRefusal>
+    requires left { AreCells (store_of engine.old) left.now }
+    requires right { AreCells (store_of engine.old) right.now }
+    ensures cells { IfOk result (λ out. AreCells (store_of engine.new) out.items) }
+    ensures reads { IfOk result (λ out. (bits : List Bool) (c d : Checked (List Values)) → Reads (λ r. value_of (store_of engine.old) r bits) left.now c → Reads (λ r. value_of (store_of engine.old) r bits) right.now d
+        → Reads (λ r. value_of (store_of engine.new) r bits) out.items (all_values c d)) }
+    ensures held { IfErr result (IsRefusalOf (store_of engine.new)) }
+    ensures keeps { Keeps engine.old engine.new steps.old steps.new }
+    ensures spends { Spends (5 * length left.now + 5 * length right.now + 3) (store_of engine.old) (store_of engine.new) }
+{
+    let faults = faults_of(alloc, engine, left, right, steps)?;
+    let sound = outside(engine, faults.region, steps)?;
+    let mut cells = faults.cells;
+    spread(engine, left, Pick::Values, sound, &mut cells, steps)?;
+    spread(engine, right, Pick::Values, sound, &mut cells, steps)?;
+    Ok(cells)
+}
+
+/// `!` on an operand that is to be 0 or 1.
+pub(crate) fn negated<L: Ledger>(
+    alloc: Global,
+    engine: &mut Engine,
+    operand: &Table,
+    steps: &mut Steps<L>,
+) -> Result<Table, StoreRefusal>
+    requires { AreCells (store_of engine.old) operand.now.cells.items }
+    ensures cells { IfOk result (λ t. AreCells (store_of engine.new) t.cells.items) }
+    ensures single { IfOk result (λ t. t.single ≡ true) }
+    ensures reads { IfOk result (λ t. (bits : List Bool) (c : Checked (List Values)) → Reads (λ r. value_of (store_of engine.old) r bits) operand.now.cells.items c → IsProper c → (operand.now.single ≡ true → IsSingle c)
+        → Reads (λ r. value_of (store_of engine.new) r bits) t.cells.items (negation c)) }
+    ensures held { IfErr result (IsRefusalOf (store_of engine.new)) }
+    ensures keeps { Keeps engine.old engine.new steps.old steps.new }
+{
+    let boolean = tested(alloc, engine, operand, Test::Boolean, steps)?;
+    let mut cells = Vec::new(alloc);
+    spread(
+        engine,
+        &boolean,
+        Pick::Negated,
+        Ref::TRUE,
+        &mut cells,
+        steps,
+    )?;
+    Ok(Table {
+        cells,
+        single: true,
+    })
+}
+
+/// Adds what one arm of a `case` gives within the region that the arms before it left, and answers with the region
+/// that it leaves: that where its guard is 0.
+pub(crate) fn choose<L: Ledger>(
+    engine: &mut Engine,
+    guard: &[Cell],
+    right: &[Cell],
+    left: Ref,
+    out: &mut Vec<Cell>,
+    steps: &mut Steps<L>,
+) -> Result<Ref, StoreRefusal>
+    requires guard { AreCells (store_of engine.old) guard.now }
+    requires right { AreCells (store_of engine.old) right.now }
+    requires left { Has (store_of engine.old) left }
+    requires out { AreCells (store_of engine.old) out.old.items }
+    ensures cells { OnOk result (AreCells (store_of engine.new) out.new.items) }
+    ensures has { IfOk result (Has (store_of engine.new)) }
+    ensures shows { OnOk result ((bits : List Bool) (b : Checked Bool) (d : Checked (List Values)) → Reads (λ r. value_of (store_of engine.old) r bits) guard.now (truths b) → Reads (λ r. value_of (store_of engine.old) r bits) right.now d
+        → (k : Checked Values) → shows (λ r. value_of (store_of engine.new) r bits) out.new.items k ≡ (shows (λ r. value_of (store_of engine.old) r bits) out.old.items k || (value_of (store_of engine.old) left bits && arm_shows b d k))) }
+    ensures rest { IfOk result (λ r. (bits : List Bool) (b : Checked Bool) → Reads (λ q. value_of (store_of engine.old) q bits) guard.now (truths b)
+        → value_of (store_of engine.new) r bits ≡ (value_of (store_of engine.old) left bits && goes_on b)) }
+    ensures held { IfErr result (IsRefusalOf (store_of engine.new)) }
+    ensures keeps { Keeps engine.old engine.new steps.old steps.new }
+{
+    spread(engine, guard, Pick::Faults, left, out, steps)?;
+    let yes = meet(engine, region_of(guard, Ok(truth(true))), left, steps)?;
+    spread(engine, right, Pick::All, yes, out, steps)?;
+    meet(engine, region_of(guard, Ok(truth(false))), left, steps)
+}
