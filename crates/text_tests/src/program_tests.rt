@@ -1,10 +1,7 @@
 //! Programs as they are read, or the place where they are refused, counted by hand in tokens from 0.
 
-use crate::expressions::ExprKind;
-use crate::parsing::parse;
-use crate::program::{Condition, SectionKind, TypeKind};
-use crate::refusals::ParseRefusal;
 use smv_lexer::lex;
+use smv_parser::{Condition, ExprKind, ParseRefusal, SectionKind, TypeKind, parse};
 use std::alloc::{AllocError, Global};
 use std::test::Fail;
 
@@ -233,6 +230,41 @@ fn missing_operands(rt: HostRuntime) -> Result<(), Fail> {
     Ok(())
 }
 
+/// Expressions that go on no further, each the last of the text.
+#[test]
+fn failing_in_expressions(rt: HostRuntime) -> Result<(), Fail> {
+    let alloc = rt.alloc();
+    for (expression, at) in [
+        ("", 3),
+        ("U", 3),
+        ("- 1", 3),
+        ("a &", 5),
+        ("! * a", 4),
+        ("( a", 5),
+        ("( a b )", 5),
+        ("{ }", 4),
+        ("{ a, }", 6),
+        ("next a", 4),
+        ("a.1", 5),
+        ("a[]", 5),
+        ("case esac", 4),
+        ("case a : b esac", 7),
+        ("case a : b ;", 8),
+        ("case x :", 6),
+        ("E a", 4),
+        ("E [ a & b ]", 8),
+        ("A [ a U b", 8),
+    ] {
+        let text = both(alloc, "MODULE m SPEC", expression)?;
+        assert_eq!(rt;
+            answer(alloc, text.as_str()),
+            Outcome::Syntax(at),
+            "at {expression}"
+        );
+    }
+    Ok(())
+}
+
 /// `inner` in so many layers, between `front` and `back`.
 fn nested(
     alloc: Global,
@@ -252,6 +284,42 @@ fn nested(
     Ok(text)
 }
 
+/// How deep expressions are: in so many parentheses that the depth is 256 they are read, and in one more they are too deep.
+#[test]
+fn depths(rt: HostRuntime) -> Result<(), Fail> {
+    let alloc = rt.alloc();
+    for (expression, depth) in [
+        ("x", 1),
+        ("2147483647", 1),
+        ("TRUE", 1),
+        ("running", 1),
+        ("a = !b & c", 4),
+        ("!a = b", 3),
+        ("AG !a & b", 4),
+        ("value + carry_in mod 2", 3),
+        ("!!a -> b -> c", 5),
+        ("a in {b} union {c}", 4),
+        ("next(x) + 1", 3),
+        ("a.b[c + 1].d", 3),
+        ("case x : 1; 1 : {0, 1}; esac", 3),
+        ("E [ a U b ] & A [ 1 U c ]", 3),
+    ] {
+        let parts = ["MODULE m SPEC ", "(", expression, ")", ""];
+        let text = nested(alloc, 256 - depth, parts)?;
+        assert_eq!(rt;
+            answer(alloc, text.as_str()),
+            Outcome::Read,
+            "at {expression}"
+        );
+        let text = nested(alloc, 257 - depth, parts)?;
+        assert!(rt;
+            matches!(answer(alloc, text.as_str()), Outcome::TooDeep(_)),
+            "at {expression}"
+        );
+    }
+    Ok(())
+}
+
 /// 255 layers are read, and of 256 one is too deep. What stands behind the place changes nothing.
 #[test]
 fn greatest_depth(rt: HostRuntime) -> Result<(), Fail> {
@@ -264,6 +332,15 @@ fn greatest_depth(rt: HostRuntime) -> Result<(), Fail> {
         (["MODULE m SPEC ", "E [", "x", " U 1]", ""], 513),
         (["MODULE m SPEC ", "case 1 : ", "x", "; esac", ""], 768),
         (["MODULE m SPEC ", "a[", "x", "]", ""], 514),
+        (["MODULE m SPEC ", "EX ", "x", "", ""], 258),
+        (["MODULE m SPEC ", "AX ", "x", "", ""], 258),
+        (["MODULE m SPEC ", "EF ", "x", "", ""], 258),
+        (["MODULE m SPEC ", "AF ", "x", "", ""], 258),
+        (["MODULE m SPEC ", "EG ", "x", "", ""], 258),
+        (["MODULE m SPEC ", "AG ", "x", "", ""], 258),
+        (["MODULE m SPEC ", "A [1 U ", "x", "]", ""], 1023),
+        (["MODULE m SPEC ", "case ", "x", ": 1; esac", ""], 258),
+        (["MODULE m SPEC ", "x & ", "x", "", ""], 514),
         (["MODULE m ASSIGN ", "a[", "x", "]", " := 1;"], 514),
         (["MODULE m ASSIGN init(", "a[", "x", "]", ") := 1;"], 516),
         (["MODULE m ASSIGN next(x) := ", "(", "x", ")", ";"], 263),
