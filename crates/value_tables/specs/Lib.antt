@@ -4,3 +4,4 @@ pub mod Pick
 pub mod Tables
 pub mod States
 pub mod Regions
+pub mod Weights
