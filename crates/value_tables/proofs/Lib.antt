@@ -21,3 +21,4 @@ pub mod AllowanceLemmas
 pub mod ReadingCounts
 pub mod GrowthLemmas
 pub mod WidthLemmas
+pub mod SampleLemmas

@@ -5,3 +5,4 @@ pub mod Tables
 pub mod States
 pub mod Regions
 pub mod Weights
+pub mod Rows
