@@ -66,10 +66,10 @@ module _ {A : Type 0} (test : A → A → Bool) (self : (x : A) → test x x ≡
       let p = both (list_all (λ y. not (test x y)) xs) (differ xs) e in
       AllPairs-cons (λ a b. a ≢ b) x xs (others x xs p.0) (distinct_by xs p.1)
 
-bytes_self : (x : List ℕ) → bytes_eq x x ≡ true
+pub bytes_self : (x : List ℕ) → bytes_eq x x ≡ true
 bytes_self x = (bytes_eq-Decides x x).1 refl
 
-name_of : (x : List ℕ) → IsAtom x → IsVariableName x
+pub name_of : (x : List ℕ) → IsAtom x → IsVariableName x
 name_of x atom = ([], (x, [], atom, All-nil IsAtom, refl))
 
 module _ (symbols : List (List ℕ)) (vars : List Variable) where

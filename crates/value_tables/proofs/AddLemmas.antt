@@ -1,11 +1,11 @@
 -- One more region among the cells.
-use Rattle.std.proofs.Common.{◌≡◌, ◌≢◌, ℕ, zero, suc, ◌+◌, ◌<◌, ◌≤◌, Bool, true, false, cond, ◌&&◌, ◌||◌, List, [], ◌∷◌, ◌++◌, length, map, get_or, set, ltb, Option, None, Some, Err, inl, inr, refl, sym, ap, subst, ◌∙◌, arith}
-use Rattle.std.specs.Prelude.{All, position}
+use Rattle.std.proofs.Common.{◌≡◌, ◌≢◌, ℕ, zero, suc, ◌<◌, Bool, true, false, cond, ◌&&◌, ◌||◌, List, [], ◌∷◌, ◌++◌, length, get_or, set, ltb, None, Some, refl, sym, ap, subst, ◌∙◌, arith}
+use Rattle.std.specs.Prelude.{position}
 use Rattle.std.specs.List.{list_any, position_or_len}
-use Rattle.std.proofs.lemmas.Bool.{false≢true, or_cases, or_left, or_right, or_parts, or_from, ltb-false}
+use Rattle.std.proofs.lemmas.Bool.{or_parts, ltb-false}
 use Rattle.std.proofs.lemmas.List.Sums.{fails_before_first}
-use Rattle.std.proofs.lemmas.List.{map_push, map-set, set-get_or, get_or-map, length-set}
-use Rattle.std.proofs.lemmas.List.Elements.{All-head, All-tail, All-push, All-set, All-get_or, All-from_get_or}
+use Rattle.std.proofs.lemmas.List.{map_push, map-set, set-get_or, get_or-map}
+use Rattle.std.proofs.lemmas.List.Elements.{All-push, All-set, All-get_or, All-from_get_or}
 use Rattle.std.proofs.lemmas.List.Folds.{list_any-append, list_any_none}
 use Rattle.std.proofs.lemmas.List.Quantifiers.{position-Some}
 use Rattle.bdd_nodes.specs.declared.store.Store.{Store}
@@ -15,7 +15,7 @@ use Rattle.kripke_model.specs.declared.expressions.Value.{Value}
 use Rattle.kripke_model.specs.Evaluation.{Checked}
 use Rattle.value_tables.specs.declared.cells.Cell.{Cell}
 use Rattle.value_tables.specs.Work.{IsRegion}
-use Rattle.value_tables.specs.Cells.{same_reading, any_cell, shows, AreCells, AreOnce, readings_in}
+use Rattle.value_tables.specs.Cells.{same_reading, shows, AreCells, AreOnce, readings_in}
 use Rattle.value_tables.proofs.ReadingLists.{same_reading-true, once_push}
 use Rattle.value_tables.proofs.RegionLemmas.{never_true, has-grows, any_cell-grows}
 

@@ -1,5 +1,5 @@
 -- The operators of two operands, from their tested operands.
-use Rattle.std.proofs.Common.{◌≡◌, ℕ, zero, suc, ◌≤◌, Bool, true, false, not, ◌&&◌, ◌||◌, cond, List, [], ◌∷◌, ◌++◌, length, map, Result, Ok, Err, ℤ, pos, negsuc, refl, sym, subst, ap, ◌∙◌, arith}
+use Rattle.std.proofs.Common.{◌≡◌, ℕ, ◌≤◌, Bool, true, false, not, ◌&&◌, ◌||◌, cond, List, [], ◌∷◌, ◌++◌, length, Ok, Err, ℤ, pos, negsuc, refl, sym, subst, ap, ◌∙◌, arith}
 use Rattle.std.specs.Prelude.{int_le, filter, ◌+ℤ◌, ◌-ℤ◌, ◌*ℤ◌, int_div, int_rem, int_lt, All}
 use Rattle.std.specs.Ordering.{int_eq}
 use Rattle.std.specs.List.{list_any}
@@ -11,12 +11,12 @@ use Rattle.kripke_model.specs.declared.expressions.Value.{Value}
 use Rattle.kripke_model.specs.declared.expressions.Value.TheVariants.{Number, Symbol}
 use Rattle.kripke_model.specs.declared.expressions.BinOp.{BinOp}
 use Rattle.kripke_model.specs.declared.expressions.FaultKind.{FaultKind}
-use Rattle.kripke_model.specs.Evaluation.{Checked, ◌>>=◌, among, single, truth, boolean, number, as_boolean, as_number, in_range, divided, on_operands, on_numbers, on_booleans, binary, same, distinct}
+use Rattle.kripke_model.specs.Evaluation.{Checked, ◌>>=◌, among, single, truth, number, as_number, in_range, divided, on_numbers, binary, same, distinct}
 use Rattle.value_tables.specs.declared.cells.Cell.{Cell}
 use Rattle.value_tables.specs.declared.pick.Test.{Test}
-use Rattle.value_tables.specs.Cells.{same_reading, any_of, any_cell, Reads}
+use Rattle.value_tables.specs.Cells.{same_reading, any_of, Reads}
 use Rattle.value_tables.specs.Pick.{truth_of, tested_value, in_bounds, arithmetic, outcome}
-use Rattle.value_tables.specs.Tables.{alone, value_tested, membership, truths, connective, logic, paired, all_values, guard_of, IsSingle, IsUnion, IsMember, IsEquality, IsConnective, IsArithmetic}
+use Rattle.value_tables.specs.Tables.{alone, value_tested, membership, connective, logic, paired, all_values, guard_of, IsSingle, IsUnion, IsMember, IsEquality, IsConnective, IsArithmetic}
 use Rattle.value_tables.proofs.ReadingLists.{same-true}
 use Rattle.value_tables.proofs.OnceLemmas.{any_values}
 use Rattle.value_tables.proofs.RegionLemmas.{any_cell-grows}

@@ -1,5 +1,5 @@
 -- The tables of expressions.
-use Rattle.std.proofs.Common.{◌≡◌, ◌≢◌, ℕ, zero, suc, ◌+◌, ◌*◌, ◌<◌, ◌≤◌, Bool, true, false, cond, not, ◌&&◌, ◌||◌, List, [], ◌∷◌, length, get_or, drop, Result, Ok, Err, IfOk, refl, sym, subst, ap, ◌∙◌, arith}
+use Rattle.std.proofs.Common.{◌≡◌, ◌≢◌, ℕ, zero, suc, ◌+◌, ◌<◌, ◌≤◌, Bool, true, false, ◌&&◌, ◌||◌, List, [], ◌∷◌, length, get_or, Result, Ok, Err, IfOk, refl, sym, subst, ap, ◌∙◌, arith}
 use Rattle.bdd_nodes.specs.declared.store.Store.{Store}
 use Rattle.bdd_nodes.specs.Store.{Has, value_of, Grows}
 use Rattle.kripke_model.specs.declared.expressions.Value.{Value}

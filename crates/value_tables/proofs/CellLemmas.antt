@@ -1,11 +1,10 @@
 -- The region of a reading.
-use Rattle.std.proofs.Common.{◌≡◌, ℕ, ◌+◌, ◌<◌, ◌≤◌, Bool, true, false, ◌&&◌, ◌||◌, cond, List, [], ◌∷◌, length, get_or, drop, refl, sym, ap, ◌∙◌, arith}
-use Rattle.std.specs.List.{list_any}
+use Rattle.std.proofs.Common.{◌≡◌, ℕ, ◌+◌, ◌<◌, ◌≤◌, true, false, cond, List, length, get_or, drop, sym, ap, ◌∙◌}
 use Rattle.std.proofs.lemmas.List.{at_drop_more, at_drop_all}
 use Rattle.kripke_model.specs.declared.expressions.Value.{Value}
 use Rattle.kripke_model.specs.Evaluation.{Checked}
 use Rattle.value_tables.specs.declared.cells.Cell.{Cell}
-use Rattle.value_tables.specs.Cells.{same_reading, region_at, any_cell, shows, AreOnce, readings_in}
+use Rattle.value_tables.specs.Cells.{same_reading, region_at}
 
 module _ (cells : List Cell) (i : ℕ) (cell : Cell) (k : Checked Value) (lt : i < length cells) (is : cell ≡ get_or cells i cell) (so_far : region_at (drop i cells) k ≡ region_at cells k) where
   here : region_at cells k ≡ cond (same_reading k cell.reading) cell.region (region_at (drop (i + 1) cells) k)

@@ -1,5 +1,5 @@
 -- What expressions come to: some values, each once; and the parts of sets and of `case`.
-use Rattle.std.proofs.Common.{◌≡◌, ℕ, zero, suc, ◌+◌, ◌<◌, ◌≤◌, Bool, true, false, cond, not, ◌&&◌, ◌||◌, List, [], ◌∷◌, ◌++◌, length, get_or, drop, Result, Ok, Err, inl, inr, refl, sym, subst, ap, ◌∙◌, arith, append-nil, append_assoc}
+use Rattle.std.proofs.Common.{◌≡◌, ℕ, zero, suc, ◌+◌, ◌<◌, ◌≤◌, Bool, true, false, cond, not, ◌&&◌, ◌||◌, List, [], ◌∷◌, ◌++◌, length, get_or, drop, Ok, Err, refl, sym, subst, ap, ◌∙◌, arith, append-nil, append_assoc}
 use Rattle.std.proofs.lemmas.Bool.{or_parts, or_from}
 use Rattle.std.specs.Prelude.{filter}
 use Rattle.std.specs.List.{list_any}
@@ -7,14 +7,14 @@ use Rattle.kripke_model.specs.declared.expressions.Value.{Value}
 use Rattle.kripke_model.specs.declared.expressions.BinOp.{BinOp}
 use Rattle.kripke_model.specs.declared.expressions.Expr.{Expr}
 use Rattle.kripke_model.specs.declared.expressions.Arm.{Arm}
-use Rattle.kripke_model.specs.Term.{Term, Terms, Arms, none, more, esac, arm}
+use Rattle.kripke_model.specs.Term.{Term, Arms, none, more, esac, arm}
 use Rattle.kripke_model.specs.System.{System, State}
 use Rattle.kripke_model.specs.Reading.{term_of, terms_in, arms_in}
 use Rattle.kripke_model.specs.Evaluation.{Checked, ◌>>=◌, same, among, distinct, truth, boolean, binary, runs, eval, eval_elements, eval_arms}
-use Rattle.kripke_model.specs.Evaluable.{IsEvaluable, AreEvaluable, AreEvaluableArms}
+use Rattle.kripke_model.specs.Evaluable.{IsEvaluable, AreEvaluableArms}
 use Rattle.value_tables.specs.declared.pick.Test.{Test}
 use Rattle.value_tables.specs.Cells.{same_reading, any_of}
-use Rattle.value_tables.specs.Tables.{alone, IsProper, IsSingle, AreOnceValues, value_tested, membership, connective, guard_of, paired, all_values, negation, arm_shows, goes_on, IsMember, IsEquality, IsConnective, IsArithmetic}
+use Rattle.value_tables.specs.Tables.{alone, IsProper, IsSingle, AreOnceValues, value_tested, membership, connective, guard_of, paired, all_values, negation, arm_shows, goes_on, IsConnective, IsArithmetic}
 use Rattle.value_tables.proofs.BinaryLemmas.{member_is, equality_is, connective_is, arithmetic_is, one_truth}
 
 -- ---- each value once

@@ -16,3 +16,9 @@ pub mod PairLemmas
 pub mod RowLemmas
 mod QuotientLemmas
 pub mod StepLemmas
+pub mod WeightLemmas
+pub mod AllowanceLemmas
+pub mod ReadingCounts
+pub mod GrowthLemmas
+pub mod WidthLemmas
+pub mod SampleLemmas

@@ -1,15 +1,14 @@
 -- How many readings there are, where each stands once.
-use Rattle.std.proofs.Common.{◌≡◌, ℕ, suc, ◌+◌, ◌≤◌, Bool, true, false, cond, ◌&&◌, ◌||◌, List, [], ◌∷◌, length, map, Ok, Err, inl, inr, refl, sym, ap, subst, ◌∙◌, arith}
-use Rattle.std.specs.Prelude.{count_by}
+use Rattle.std.proofs.Common.{◌≡◌, ℕ, ◌+◌, ◌≤◌, Bool, true, false, cond, ◌&&◌, ◌||◌, List, [], ◌∷◌, length, map, Ok, Err, inl, inr, refl, sym, ap, subst, ◌∙◌, arith}
 use Rattle.std.specs.List.{list_any}
 use Rattle.std.proofs.lemmas.List.Sums.{sum_by-cons}
 use Rattle.std.proofs.lemmas.Bool.{false≢true, or_cases, or_left, or_right, or_parts, or_from}
 use Rattle.kripke_model.specs.declared.expressions.Value.{Value}
-use Rattle.kripke_model.specs.Evaluation.{Checked, same, among}
+use Rattle.kripke_model.specs.Evaluation.{Checked}
 use Rattle.value_tables.specs.declared.cells.Cell.{Cell}
-use Rattle.value_tables.specs.Cells.{same_reading, readings, any_of, any_cell, shows, Reads, AreOnce, readings_in, region_at}
+use Rattle.value_tables.specs.Cells.{same_reading, readings, shows, Reads, AreOnce, readings_in, region_at}
 use Rattle.value_tables.specs.Tables.{IsProper, AreOnceValues, count_on}
-use Rattle.value_tables.proofs.ReadingLists.{same_reading-true, same_reading-self, same_reading-sym, on, any_cell-on}
+use Rattle.value_tables.proofs.ReadingLists.{same_reading-true, same_reading-self, on, any_cell-on}
 
 -- ---- one reading taken out
 
@@ -103,6 +102,12 @@ pub counted_on : (v : ℕ → Bool) (cells : List Cell) (c : Checked (List Value
 counted_on v cells c once h proper =
     count_on-length v cells
     ∙ once_length (on v cells) (readings c) (once_on v cells once) (once_readings c proper) (λ k. sym (any_cell-on v (same_reading k) cells) ∙ h.each k)
+
+-- no more cells are on than the result has readings
+pub counted_most : (v : ℕ → Bool) (cells : List Cell) (c : Checked (List Value)) → AreOnce (readings_in cells) → Reads v cells c → count_on v cells ≤ length (readings c)
+counted_most v cells c once h =
+    subst (λ n. n ≤ length (readings c)) (sym (count_on-length v cells))
+    (once_le (on v cells) (readings c) (once_on v cells once) (λ k e. sym (h.each k) ∙ any_cell-on v (same_reading k) cells ∙ e))
 
 -- the region of a reading shows it
 pub region_shows : (v : ℕ → Bool) → v 0 ≡ false → (cells : List Cell) → AreOnce (readings_in cells) → (k : Checked Value) → v (region_at cells k) ≡ shows v cells k

@@ -1,21 +1,18 @@
 -- Operators on the results of tested operands.
-use Rattle.std.proofs.Common.{◌≡◌, ℕ, zero, suc, ◌≤◌, Bool, true, false, not, ◌&&◌, ◌||◌, cond, List, [], ◌∷◌, ◌++◌, length, map, Result, Ok, Err, ℤ, pos, negsuc, refl, sym, ap, ◌∙◌, arith}
-use Rattle.std.specs.Prelude.{int_le, filter, ◌+ℤ◌, ◌-ℤ◌, ◌*ℤ◌, int_div, int_rem, int_lt}
-use Rattle.std.specs.Ordering.{int_eq}
+use Rattle.std.proofs.Common.{◌≡◌, ℕ, zero, suc, Bool, true, false, not, ◌&&◌, ◌||◌, List, map, Ok, Err, pos, negsuc, refl, sym, ap, ◌∙◌}
 use Rattle.std.specs.List.{list_any}
 use Rattle.std.proofs.lemmas.List.{map-append}
 use Rattle.std.proofs.lemmas.List.Folds.{list_any-append}
 use Rattle.kripke_model.specs.declared.expressions.Value.{Value}
 use Rattle.kripke_model.specs.declared.expressions.Value.TheVariants.{Number, Symbol}
 use Rattle.kripke_model.specs.declared.expressions.BinOp.{BinOp}
-use Rattle.kripke_model.specs.declared.expressions.FaultKind.{FaultKind}
-use Rattle.kripke_model.specs.Evaluation.{Checked, ◌>>=◌, among, single, truth, boolean, number, as_boolean, as_number, in_range, divided, on_numbers, on_booleans, binary, same, distinct}
+use Rattle.kripke_model.specs.Evaluation.{Checked, ◌>>=◌, single, truth, as_boolean}
 use Rattle.value_tables.specs.declared.cells.Cell.{Cell}
 use Rattle.value_tables.specs.declared.pick.Pick.{Pick}
 use Rattle.value_tables.specs.declared.pick.Test.{Test}
-use Rattle.value_tables.specs.Cells.{same_reading, readings, any_of, any_cell, shows, Reads, AreOnce, readings_in, region_at}
-use Rattle.value_tables.specs.Pick.{truth_of, tested_value, becomes, in_bounds, arithmetic, outcome}
-use Rattle.value_tables.specs.Tables.{is_failure, is_fault_of, alone, one_tested, both, membership, truths, connective, logic, pairs_to, paired, all_values, guard_of, negation, arm_shows, goes_on}
+use Rattle.value_tables.specs.Cells.{same_reading, any_of, any_cell, Reads, AreOnce, readings_in, region_at}
+use Rattle.value_tables.specs.Pick.{truth_of, tested_value, becomes, outcome}
+use Rattle.value_tables.specs.Tables.{is_failure, is_fault_of, alone, one_tested, both, truths, pairs_to, paired, all_values, guard_of, negation, arm_shows, goes_on}
 use Rattle.value_tables.proofs.ReadingLists.{reads-any}
 use Rattle.value_tables.proofs.OnceLemmas.{any_values, region_shows}
 use Rattle.value_tables.proofs.ResultLemmas.{any_alone}

@@ -1,5 +1,5 @@
 -- The bits of a pair of states show these two states.
-use Rattle.std.proofs.Common.{◌≡◌, ◌⊎◌, ℕ, zero, suc, ◌+◌, ◌-◌, ◌*◌, ◌<◌, ◌≤◌, min, Bool, true, false, cond, List, [], ◌∷◌, length, get_or, take, drop, pos, inl, inr, refl, sym, subst, ap, ◌∙◌, arith}
+use Rattle.std.proofs.Common.{◌≡◌, ◌⊎◌, ℕ, zero, suc, ◌+◌, ◌-◌, ◌*◌, ◌<◌, ◌≤◌, min, Bool, true, false, cond, List, [], ◌∷◌, length, get_or, take, drop, pos, inl, inr, refl, sym, ap, ◌∙◌, arith}
 use Rattle.std.specs.List.{slice_index_or}
 use Rattle.std.proofs.lemmas.Bool.{cases_lt}
 use Rattle.std.proofs.lemmas.List.{drop_more, ext_get_or}
@@ -7,10 +7,10 @@ use Rattle.kripke_model.specs.declared.expressions.Value.{Value}
 use Rattle.kripke_model.specs.declared.expressions.Value.TheVariants.{Number}
 use Rattle.kripke_model.specs.System.{State, value_in}
 use Rattle.bit_encode.specs.Binary.{number}
-use Rattle.bit_encode.specs.Code.{Coding, IsStateOf, IsValid, HasBit, values_of, width_of, place, code, field, first_bit, bit_place, bit_count}
+use Rattle.bit_encode.specs.Code.{Coding, IsStateOf, values_of, width_of, place, code, field, first_bit, bit_count}
 use Rattle.bit_encode.specs.Laws.{CodesAreValid, FieldsSpell, PlacesWithin}
 use Rattle.bit_encode.proofs.CodeLemmas.{place-lt, value_at_place}
-use Rattle.value_tables.specs.States.{level_at, bits_from, code_shown, value_shown, state_shown, values_shown, alternated, pair_code}
+use Rattle.value_tables.specs.States.{level_at, bits_from, code_shown, value_shown, state_shown, alternated, pair_code}
 use Rattle.value_tables.proofs.ShownLemmas.{variable_shown, length-shown}
 
 -- the bits at even places, and those at odd ones

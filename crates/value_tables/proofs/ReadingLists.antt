@@ -1,5 +1,5 @@
 -- Lists of readings with the same members.
-use Rattle.std.proofs.Common.{◌≡◌, ℕ, zero, suc, Bool, true, false, cond, ◌&&◌, ◌||◌, List, [], ◌∷◌, ◌++◌, length, Ok, Err, inl, inr, refl, sym, ap, subst, ◌∙◌, arith}
+use Rattle.std.proofs.Common.{◌≡◌, ℕ, zero, suc, Bool, true, false, cond, ◌&&◌, ◌||◌, List, [], ◌∷◌, ◌++◌, Ok, Err, inl, inr, refl, sym, ap, ◌∙◌}
 use Rattle.std.specs.List.{list_any}
 use Rattle.std.proofs.lemmas.Bool.{false≢true, or_cases, or_left, or_right, or_parts, or_from, eqb-true, eq-eqb}
 use Rattle.std.proofs.lemmas.Bool.Decides.{Decides-int_eq}
@@ -10,7 +10,7 @@ use Rattle.kripke_model.specs.declared.expressions.FaultKind.{FaultKind}
 use Rattle.kripke_model.specs.declared.expressions.FaultKind.TheVariants.{ManyValues, NotNumber, NotBoolean, ZeroDivisor, Overflow, OutOfType}
 use Rattle.kripke_model.specs.Evaluation.{Checked, same}
 use Rattle.value_tables.specs.declared.cells.Cell.{Cell}
-use Rattle.value_tables.specs.Cells.{fault_number, same_reading, readings, any_of, any_cell, shows, Reads, AreOnce}
+use Rattle.value_tables.specs.Cells.{fault_number, same_reading, readings, any_of, any_cell, Reads, AreOnce}
 
 -- ---- equal readings
 

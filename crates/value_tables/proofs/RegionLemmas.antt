@@ -1,5 +1,5 @@
 -- Regions of a store that grows.
-use Rattle.std.proofs.Common.{◌≡◌, ◌≢◌, ℕ, ◌+◌, ◌*◌, ◌^◌, ◌<◌, ◌≤◌, get_or, take, cond, Bool, true, false, ◌&&◌, ◌||◌, List, [], ◌∷◌, length, Ok, Err, refl, sym, ap, subst, ◌∙◌, arith}
+use Rattle.std.proofs.Common.{◌≡◌, ℕ, ◌+◌, ◌*◌, ◌^◌, ◌<◌, ◌≤◌, get_or, take, cond, Bool, true, false, ◌&&◌, ◌||◌, List, [], ◌∷◌, length, Ok, Err, refl, sym, ap, subst, ◌∙◌, arith}
 use Rattle.std.specs.Prelude.{All}
 use Rattle.std.proofs.Math.Nat.{mul-le-mul_left}
 use Rattle.std.proofs.lemmas.List.Elements.{All-head, All-tail, All-weaker, All-get_or}
@@ -7,7 +7,7 @@ use Rattle.std.proofs.lemmas.List.{take_all}
 use Rattle.std.proofs.lemmas.List.Folds.{list_any_more}
 use Rattle.bdd_nodes.specs.declared.store.Store.{Store}
 use Rattle.bdd_nodes.specs.Store.{levels_of, triples, Has, value_of, Grows}
-use Rattle.bdd_nodes.proofs.Tables.{Grows-same, Grows-then, value_of-false, value_of-true}
+use Rattle.bdd_nodes.proofs.Tables.{Grows-same, Grows-then, value_of-false}
 use Rattle.bdd_nodes.proofs.Canonical.{canonical}
 use Rattle.bdd_ops.specs.declared.engine.Engine.{Engine}
 use Rattle.bdd_ops.specs.Engine.{store_of, cache_of, lists_of, refused_of}

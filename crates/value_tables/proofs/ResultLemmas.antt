@@ -1,24 +1,23 @@
 -- What the cells of an operator's table show, from what its operands' cells show.
-use Rattle.std.proofs.Common.{◌≡◌, ◌≢◌, ℕ, ◌≤◌, Bool, true, false, not, ◌&&◌, ◌||◌, cond, ltb, List, [], ◌∷◌, ◌++◌, length, map, Result, Ok, Err, pos, Option, refl, sym, subst, ap, ◌∙◌, arith}
+use Rattle.std.proofs.Common.{◌≡◌, ◌≢◌, ℕ, Bool, true, false, not, ◌&&◌, ◌||◌, ltb, List, [], ◌∷◌, length, map, Ok, Err, pos, refl, sym, subst, ap, ◌∙◌, arith}
 use Rattle.std.specs.List.{list_any}
-use Rattle.std.proofs.lemmas.Bool.{le-ltb, lt-ltb}
-use Rattle.std.proofs.lemmas.List.Folds.{list_any-append}
+use Rattle.std.proofs.lemmas.Bool.{lt-ltb}
 use Rattle.std.proofs.lemmas.List.Elements.{All-cons, All-nil}
 use Rattle.bdd_nodes.specs.declared.store.Store.{Store}
-use Rattle.bdd_nodes.specs.Store.{Has, value_of}
+use Rattle.bdd_nodes.specs.Store.{Has}
 use Rattle.bdd_nodes.proofs.Tables.{value_of-true}
 use Rattle.kripke_model.specs.declared.expressions.Value.{Value}
-use Rattle.kripke_model.specs.declared.expressions.Value.TheVariants.{Number, Symbol}
+use Rattle.kripke_model.specs.declared.expressions.Value.TheVariants.{Number}
 use Rattle.kripke_model.specs.declared.expressions.BinOp.{BinOp}
 use Rattle.kripke_model.specs.declared.expressions.FaultKind.{FaultKind}
-use Rattle.kripke_model.specs.Evaluation.{Checked, ◌>>=◌, among, single, truth, same}
+use Rattle.kripke_model.specs.Evaluation.{Checked, among, single, truth, same}
 use Rattle.value_tables.specs.declared.cells.Cell.{Cell}
 use Rattle.value_tables.specs.declared.pick.Pick.{Pick}
 use Rattle.value_tables.specs.declared.pick.Test.{Test}
-use Rattle.value_tables.specs.Cells.{same_reading, readings, any_of, any_cell, shows, Reads, AreOnce, readings_in, region_at}
+use Rattle.value_tables.specs.Cells.{same_reading, readings, any_of, any_cell, Reads, AreOnce, readings_in, region_at}
 use Rattle.value_tables.specs.Pick.{truth_of, tested_value, becomes}
-use Rattle.value_tables.specs.Tables.{is_fault, is_failure, is_fault_of, alone, IsProper, IsSingle, count_on, at_region, pairs_to, logic, one_tested, both, membership, truths, connective, IsTable}
-use Rattle.value_tables.proofs.ReadingLists.{reads-any, same_reading-self}
+use Rattle.value_tables.specs.Tables.{is_fault, is_failure, is_fault_of, alone, IsProper, IsSingle, count_on, at_region, logic, one_tested, both, membership, truths, connective, IsTable}
+use Rattle.value_tables.proofs.ReadingLists.{reads-any}
 use Rattle.value_tables.proofs.OnceLemmas.{any_values, counted_on, region_shows}
 
 or_none : (a : Bool) → (a || false) ≡ a

@@ -1,8 +1,8 @@
 -- The rows of cells.
-use Rattle.std.proofs.Common.{◌≡◌, ◌≢◌, ℕ, suc, ◌+◌, ◌<◌, Bool, true, false, ◌&&◌, ◌||◌, ◌==◌, List, [], ◌∷◌, ◌++◌, length, map, get_or, take, Result, Ok, Err, refl, sym, subst, ap, ◌∙◌, arith, append_assoc, append-nil}
-use Rattle.std.specs.Prelude.{All, AllPairs}
+use Rattle.std.proofs.Common.{◌≡◌, ◌≢◌, ℕ, ◌+◌, ◌<◌, Bool, true, false, ◌&&◌, ◌||◌, ◌==◌, List, [], ◌∷◌, ◌++◌, length, map, get_or, take, Ok, Err, refl, sym, subst, ap, ◌∙◌, append_assoc, append-nil}
+use Rattle.std.specs.Prelude.{All}
 use Rattle.std.specs.List.{list_any}
-use Rattle.std.proofs.lemmas.Bool.{false≢true, or_parts, or_from}
+use Rattle.std.proofs.lemmas.Bool.{or_parts, or_from}
 use Rattle.std.proofs.lemmas.List.{take_more}
 use Rattle.std.proofs.lemmas.List.Folds.{list_any-append}
 use Rattle.std.proofs.lemmas.List.Elements.{All-nil, All-cons, All-head, All-tail}
@@ -21,11 +21,10 @@ use Rattle.bdd_nodes.specs.Store.{Has, value_of}
 use Rattle.value_tables.specs.declared.cells.Cell.{Cell}
 use Rattle.value_tables.specs.declared.value_regions.Row.{Row}
 use Rattle.value_tables.specs.declared.value_regions.FaultRow.{FaultRow}
-use Rattle.value_tables.specs.Cells.{fault_number, same_reading, any_of, any_cell, shows, AreOnce, readings_in}
+use Rattle.value_tables.specs.Cells.{fault_number, same_reading, any_of, shows, AreOnce, readings_in}
 use Rattle.value_tables.specs.Tables.{AreOnceValues, IsTable}
 use Rattle.value_tables.specs.States.{meaning_of, pair_code}
 use Rattle.value_tables.specs.Regions.{has_value, has_fault, among_faults, AreOnceFaults, rows_of, faults_of, rows_in, faults_in, is_fault_kind, AreRegions}
-use Rattle.value_tables.proofs.ReadingLists.{same_reading-self}
 use Rattle.value_tables.proofs.OnceLemmas.{any_values}
 use Rattle.value_tables.proofs.PairLemmas.{shown_state}
 

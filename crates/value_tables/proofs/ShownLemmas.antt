@@ -1,19 +1,19 @@
 -- The states that a list of bits shows.
-use Rattle.std.proofs.Common.{◌≡◌, ◌≢◌, ℕ, zero, suc, ◌+◌, ◌-◌, ◌*◌, ◌^◌, ◌<◌, ◌≤◌, min, ◌⊎◌, Bool, true, false, cond, not, Ok, ◌&&◌, ◌||◌, ltb, leb, eqb, List, [], ◌∷◌, length, get_or, pos, inl, inr, refl, sym, subst, ap, ◌∙◌, arith}
+use Rattle.std.proofs.Common.{◌≡◌, ℕ, zero, suc, ◌+◌, ◌-◌, ◌^◌, ◌<◌, ◌≤◌, min, ◌⊎◌, Bool, true, false, cond, Ok, ◌&&◌, ◌||◌, ltb, leb, eqb, List, [], ◌∷◌, length, get_or, pos, inl, inr, refl, sym, subst, ap, ◌∙◌, arith}
 use Rattle.std.specs.List.{slice_index_or}
 use Rattle.std.proofs.lemmas.Bool.{lt-ltb, le-ltb, le-leb, lt-leb, eq-eqb, ne_eqb, cases_lt, cases_eq, cases_order}
-use Rattle.std.proofs.lemmas.List.{get_or_past, get_or_default}
+use Rattle.std.proofs.lemmas.List.{get_or_past}
 use Rattle.kripke_model.specs.declared.expressions.Value.{Value}
 use Rattle.kripke_model.specs.declared.expressions.Value.TheVariants.{Number}
-use Rattle.kripke_model.specs.System.{State, value_in}
+use Rattle.kripke_model.specs.System.{value_in}
 use Rattle.kripke_model.specs.Evaluation.{Checked}
 use Rattle.value_tables.specs.Cells.{same_reading}
 use Rattle.bdd_nodes.specs.declared.store.Store.{Store}
-use Rattle.bdd_nodes.specs.Store.{levels_of, Has, level_of, value_of, node_of, Grows, IsNodeOf, triple}
+use Rattle.bdd_nodes.specs.Store.{Has, level_of, value_of, Grows, IsNodeOf, triple}
 use Rattle.bdd_nodes.proofs.Tables.{value_of-node, value_of-true, value_of-false}
 use Rattle.bdd_nodes.proofs.Canonical.{level_of-node}
 use Rattle.bit_encode.specs.Binary.{number}
-use Rattle.bit_encode.specs.Code.{Coding, values_of, width_of, bit_place}
+use Rattle.bit_encode.specs.Code.{Coding, values_of}
 use Rattle.bit_encode.proofs.BinaryLemmas.{number-lt}
 use Rattle.value_tables.specs.Work.{IsRegion}
 use Rattle.value_tables.specs.States.{level_at, bits_from, code_shown, is_code, value_shown, values_shown, state_shown}

@@ -1,11 +1,11 @@
 -- Tables of cells: what an expression comes to, and the region where it does. A reading is one value or a fault.
-use Rattle.std.specs.Prelude.{◌≡◌, ◌≢◌, ℕ, Bool, false, ◌&&◌, ◌==◌, List, [], ◌∷◌, length, map, Result, Ok, Err, All, if◌then◌else◌}
-use Rattle.std.specs.List.{list_any, position_or_len}
+use Rattle.std.specs.Prelude.{◌≡◌, ◌≢◌, ℕ, Bool, false, ◌&&◌, ◌==◌, List, [], ◌∷◌, map, Ok, Err, All, if◌then◌else◌}
+use Rattle.std.specs.List.{list_any}
 use Rattle.kripke_model.specs.declared.expressions.Value.{Value}
 use Rattle.kripke_model.specs.declared.expressions.FaultKind.{FaultKind}
 use Rattle.kripke_model.specs.Evaluation.{Checked, same}
 use Rattle.bdd_nodes.specs.declared.store.Store.{Store}
-use Rattle.bdd_nodes.specs.Store.{Has, value_of}
+use Rattle.bdd_nodes.specs.Store.{Has}
 use Rattle.value_tables.specs.declared.cells.Cell.{Cell}
 
 abbrev pub fault_number : FaultKind → ℕ

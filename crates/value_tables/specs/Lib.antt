@@ -4,3 +4,5 @@ pub mod Pick
 pub mod Tables
 pub mod States
 pub mod Regions
+pub mod Weights
+pub mod Rows

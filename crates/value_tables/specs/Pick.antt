@@ -1,9 +1,9 @@
 -- What becomes of a reading.
-use Rattle.std.specs.Prelude.{Bool, true, false, not, ◌&&◌, if◌then◌else◌, ℤ, pos, negsuc, int_div, int_rem, int_lt, int_le, ◌+ℤ◌, ◌-ℤ◌, ◌*ℤ◌, Result, Ok, Err, Option, Some, None}
+use Rattle.std.specs.Prelude.{Bool, true, false, not, ◌&&◌, if◌then◌else◌, ℤ, pos, negsuc, int_div, int_rem, int_lt, int_le, ◌+ℤ◌, ◌-ℤ◌, ◌*ℤ◌, Ok, Err, Option, Some, None}
 use Rattle.std.specs.Ordering.{int_eq}
 use Rattle.std.specs.Option.{option_map_or}
 use Rattle.kripke_model.specs.declared.expressions.Value.{Value}
-use Rattle.kripke_model.specs.declared.expressions.Value.TheVariants.{Number, Symbol}
+use Rattle.kripke_model.specs.declared.expressions.Value.TheVariants.{Number}
 use Rattle.kripke_model.specs.declared.expressions.BinOp.{BinOp}
 use Rattle.kripke_model.specs.declared.expressions.FaultKind.{FaultKind}
 use Rattle.kripke_model.specs.Evaluation.{Checked, ◌>>=◌, as_number, as_boolean, same}

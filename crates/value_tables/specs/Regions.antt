@@ -1,12 +1,12 @@
 -- What the regions of an expression's values and faults say.
-use Rattle.std.specs.Prelude.{◌≡◌, ◌≢◌, ℕ, Bool, false, ◌&&◌, ◌==◌, List, [], ◌∷◌, ◌++◌, map, All, Result, Ok, Err}
+use Rattle.std.specs.Prelude.{◌≡◌, ◌≢◌, ℕ, Bool, false, ◌&&◌, ◌==◌, List, [], ◌∷◌, ◌++◌, map, All, Ok, Err}
 use Rattle.std.specs.List.{list_any}
 use Rattle.kripke_model.specs.declared.expressions.Value.{Value}
 use Rattle.kripke_model.specs.declared.expressions.FaultKind.{FaultKind}
 use Rattle.kripke_model.specs.Term.{Term}
 use Rattle.kripke_model.specs.System.{System, State}
 use Rattle.kripke_model.specs.Step.{IsState}
-use Rattle.kripke_model.specs.Evaluation.{Checked, eval, same, among, values, fault_of}
+use Rattle.kripke_model.specs.Evaluation.{Checked, eval, same, among, values}
 use Rattle.bdd_nodes.specs.declared.store.Store.{Store}
 use Rattle.bdd_nodes.specs.Store.{Has, value_of}
 use Rattle.bit_encode.specs.Code.{Coding}

@@ -1,5 +1,5 @@
 -- The states that a list of bits shows: those of a variable's code in the current and in the next state alternate.
-use Rattle.std.specs.Prelude.{◌≡◌, ℕ, zero, suc, ◌+◌, ◌-◌, ◌*◌, Bool, false, if◌then◌else◌, nat_le, nat_eq, List, [], ◌∷◌, length, min, pos}
+use Rattle.std.specs.Prelude.{ℕ, zero, suc, ◌+◌, ◌-◌, ◌*◌, Bool, false, if◌then◌else◌, nat_le, nat_eq, List, [], ◌∷◌, length, min, pos}
 use Rattle.std.specs.List.{slice_index_or}
 use Rattle.kripke_model.specs.declared.expressions.Value.{Value}
 use Rattle.kripke_model.specs.declared.expressions.Value.TheVariants.{Number}

@@ -1,6 +1,5 @@
 -- What a table says of an expression.
-use Rattle.std.specs.Prelude.{◌≡◌, ℕ, ◌≤◌, Bool, true, false, not, ◌&&◌, ◌||◌, if◌then◌else◌, nat_lt, List, [], ◌∷◌, ◌++◌, length, count_by, Result, Ok, Err}
-use Rattle.std.specs.List.{list_any}
+use Rattle.std.specs.Prelude.{◌≡◌, ℕ, ◌≤◌, Bool, true, false, not, ◌&&◌, ◌||◌, if◌then◌else◌, List, [], ◌∷◌, ◌++◌, length, count_by, Ok, Err}
 use Rattle.kripke_model.specs.declared.expressions.Value.{Value}
 use Rattle.kripke_model.specs.declared.expressions.BinOp.{BinOp}
 use Rattle.kripke_model.specs.Evaluation.{Checked, ◌>>=◌, among, single, truth, boolean}
@@ -9,7 +8,7 @@ use Rattle.bdd_nodes.specs.Store.{value_of}
 use Rattle.value_tables.specs.declared.cells.Cell.{Cell}
 use Rattle.value_tables.specs.declared.pick.Pick.{Pick}
 use Rattle.value_tables.specs.declared.pick.Test.{Test}
-use Rattle.value_tables.specs.Cells.{same_reading, readings, any_of, any_cell, region_at, Reads, AreCells}
+use Rattle.value_tables.specs.Cells.{same_reading, any_of, any_cell, region_at, Reads, AreCells}
 use Rattle.value_tables.specs.Pick.{becomes, tested_value, outcome}
 
 abbrev pub is_fault : Checked Value → Bool

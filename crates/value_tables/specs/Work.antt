@@ -17,6 +17,18 @@ pub record Keeps (old new : Engine) (before after : ℕ) : Type 0 where
 pub record Spends (k : ℕ) (old new : Store) : Type 0 where
   pub count : length (triples new) ≤ length (triples old) + k * 2 ^ levels_of old
 
+-- how many triples an expression of n nodes may add, in units of what one operation may add, which is u triples
+abbrev pub allowance : ℕ → ℕ → ℕ
+allowance n u = 16 * ((n + 1) * (n + 1)) * u
+
+-- the same for a list of elements or of arms with n nodes in all
+abbrev pub list_allowance : ℕ → ℕ → ℕ
+list_allowance n u = 16 * (n * (n + 4)) * u
+
+-- the same for an operator on tables of l and r cells
+abbrev pub operator_allowance : ℕ → ℕ → ℕ → ℕ
+operator_allowance l r u = 10 * (l + r) + 20 + 2 * u
+
 -- a diagram of the store with this value at each list of bits
 pub record IsRegion (s : Store) (r : ℕ) (f : List Bool → Bool) : Type 0 where
   pub has : Has s r

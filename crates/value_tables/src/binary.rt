@@ -1,12 +1,13 @@
 //! The operators of two operands.
 
-ghost use Rattle.std.specs.Prelude.{◌≡◌, true, List, Bool, IfOk, IfErr};
-ghost use Rattle.bdd_nodes.specs.Store.{value_of};
+ghost use Rattle.std.specs.Prelude.{◌≡◌, ◌≤◌, ◌+◌, ◌*◌, ◌^◌, true, List, Bool, IfOk, IfErr, length};
+ghost use Rattle.bdd_nodes.specs.Store.{levels_of, value_of};
 ghost use Rattle.bdd_nodes.specs.Refusal.{IsRefusalOf};
 ghost use Rattle.bdd_ops.specs.Engine.{store_of};
 ghost use Rattle.kripke_model.specs.declared.expressions.Value.{Value as Values};
 ghost use Rattle.kripke_model.specs.Evaluation.{Checked, binary};
-ghost use Rattle.value_tables.specs.Work.{Keeps};
+ghost use Rattle.value_tables.specs.Work.{Keeps, Spends, operator_allowance};
+ghost use Rattle.value_tables.specs.Weights.{AreOperands};
 ghost use Rattle.value_tables.specs.Cells.{Reads, AreCells};
 ghost use Rattle.value_tables.specs.Tables.{IsOperand, IsSingle, one_tested, IsUnion, IsMember, IsEquality, IsConnective, IsArithmetic};
 
@@ -48,6 +49,9 @@ fn tested_pair<L: Ledger>(
         → Reads (λ r. value_of (store_of engine.new) r bits) p.right.items (one_tested test d)) }
     ensures held { IfErr result (IsRefusalOf (store_of engine.new)) }
     ensures keeps { Keeps engine.old engine.new steps.old steps.new }
+    ensures few_left { IfOk result (λ p. length p.left.items ≤ length left.now.cells.items + 1) }
+    ensures few_right { IfOk result (λ p. length p.right.items ≤ length right.now.cells.items + 1) }
+    ensures spends { Spends (5 * length left.now.cells.items + 5 * length right.now.cells.items + 4) (store_of engine.old) (store_of engine.new) }
 {
     let left = tested(alloc, engine, left, test, steps)?;
     let right = tested(alloc, engine, right, test, steps)?;
@@ -71,6 +75,7 @@ fn union_of<L: Ledger>(
     ensures single { IfOk result (λ t. t.single ≡ true → (c d : Checked (List Values)) → IsSingle (binary op c d)) }
     ensures held { IfErr result (IsRefusalOf (store_of engine.new)) }
     ensures keeps { Keeps engine.old engine.new steps.old steps.new }
+    ensures spends { Spends (operator_allowance (length left.now.cells.items) (length right.now.cells.items) (2 ^ levels_of (store_of engine.old))) (store_of engine.old) (store_of engine.new) }
 {
     let cells = united(alloc, engine, &left.cells, &right.cells, steps)?;
     Ok(Table {
@@ -96,6 +101,7 @@ fn member_of<L: Ledger>(
     ensures single { IfOk result (λ t. t.single ≡ true → (c d : Checked (List Values)) → IsSingle (binary op c d)) }
     ensures held { IfErr result (IsRefusalOf (store_of engine.new)) }
     ensures keeps { Keeps engine.old engine.new steps.old steps.new }
+    ensures spends { Spends (operator_allowance (length left.now.cells.items) (length right.now.cells.items) (2 ^ levels_of (store_of engine.old))) (store_of engine.old) (store_of engine.new) }
 {
     let one = tested(alloc, engine, left, Test::Any, steps)?;
     compared(alloc, engine, &one, &right.cells, steps)
@@ -118,6 +124,7 @@ fn equality_of<L: Ledger>(
     ensures single { IfOk result (λ t. t.single ≡ true → (c d : Checked (List Values)) → IsSingle (binary op c d)) }
     ensures held { IfErr result (IsRefusalOf (store_of engine.new)) }
     ensures keeps { Keeps engine.old engine.new steps.old steps.new }
+    ensures spends { Spends (operator_allowance (length left.now.cells.items) (length right.now.cells.items) (2 ^ levels_of (store_of engine.old))) (store_of engine.old) (store_of engine.new) }
 {
     let pair = tested_pair(alloc, engine, Test::Any, left, right, steps)?;
     compared(alloc, engine, &pair.left, &pair.right, steps)
@@ -140,6 +147,7 @@ fn connective_of<L: Ledger>(
     ensures single { IfOk result (λ t. t.single ≡ true → (c d : Checked (List Values)) → IsSingle (binary op c d)) }
     ensures held { IfErr result (IsRefusalOf (store_of engine.new)) }
     ensures keeps { Keeps engine.old engine.new steps.old steps.new }
+    ensures spends { Spends (operator_allowance (length left.now.cells.items) (length right.now.cells.items) (2 ^ levels_of (store_of engine.old))) (store_of engine.old) (store_of engine.new) }
 {
     let pair = tested_pair(alloc, engine, Test::Boolean, left, right, steps)?;
     combined(alloc, engine, op, &pair.left, &pair.right, steps)
@@ -162,6 +170,8 @@ fn outcome_of<L: Ledger>(
     ensures single { IfOk result (λ t. t.single ≡ true → (c d : Checked (List Values)) → IsSingle (binary op c d)) }
     ensures held { IfErr result (IsRefusalOf (store_of engine.new)) }
     ensures keeps { Keeps engine.old engine.new steps.old steps.new }
+    ensures spends { AreOperands (store_of engine.old) left.now.cells.items left.now.single → AreOperands (store_of engine.old) right.now.cells.items right.now.single
+        → Spends (operator_allowance (length left.now.cells.items) (length right.now.cells.items) (2 ^ levels_of (store_of engine.old))) (store_of engine.old) (store_of engine.new) }
 {
     let pair = tested_pair(alloc, engine, Test::Number, left, right, steps)?;
     calculated(alloc, engine, op, &pair.left, &pair.right, steps)
@@ -184,6 +194,8 @@ pub(crate) fn binary_of<L: Ledger>(
     ensures single { IfOk result (λ t. t.single ≡ true → (c d : Checked (List Values)) → IsSingle (binary op c d)) }
     ensures held { IfErr result (IsRefusalOf (store_of engine.new)) }
     ensures keeps { Keeps engine.old engine.new steps.old steps.new }
+    ensures spends { AreOperands (store_of engine.old) left.now.cells.items left.now.single → AreOperands (store_of engine.old) right.now.cells.items right.now.single
+        → Spends (operator_allowance (length left.now.cells.items) (length right.now.cells.items) (2 ^ levels_of (store_of engine.old))) (store_of engine.old) (store_of engine.new) }
 {
     match op {
         BinOp::Union => union_of(alloc, engine, op, left, right, steps),

@@ -1,13 +1,14 @@
 //! The table of an expression, by recursion.
 
-ghost use Rattle.std.specs.Prelude.{◌≡◌, ◌*◌, ◌&&◌, true, List, Bool, IfOk, IfErr, length};
+ghost use Rattle.std.specs.Prelude.{◌≡◌, ◌+◌, ◌*◌, ◌^◌, ◌&&◌, true, List, Bool, IfOk, IfErr, length};
 ghost use Rattle.bdd_nodes.specs.Store.{levels_of};
 ghost use Rattle.bdd_nodes.specs.Refusal.{IsRefusalOf};
 ghost use Rattle.bdd_ops.specs.Engine.{store_of};
 ghost use Rattle.bit_encode.specs.Code.{types_of, bit_count};
 ghost use Rattle.kripke_model.specs.Evaluable.{IsEvaluable, AreEvaluable, AreEvaluableArms};
 ghost use Rattle.kripke_model.specs.Reading.{term_of, terms_in, arms_in};
-ghost use Rattle.value_tables.specs.Work.{Keeps};
+ghost use Rattle.kripke_model.specs.Size.{node_count, element_nodes, arm_nodes};
+ghost use Rattle.value_tables.specs.Work.{Keeps, Spends, allowance, list_allowance};
 ghost use Rattle.value_tables.specs.States.{meaning_of, elements_meaning, arms_meaning};
 ghost use Rattle.value_tables.specs.Tables.{IsTable, IsSetTable};
 
@@ -43,6 +44,7 @@ pub(crate) fn build<L: Ledger>(
     ensures table { IfOk result (λ t. IsTable (store_of engine.new) t.cells.items t.single (meaning_of layout.now model.now next (term_of expr.now))) }
     ensures held { IfErr result (IsRefusalOf (store_of engine.new)) }
     ensures keeps { Keeps engine.old engine.new steps.old steps.new }
+    ensures spends { Spends (allowance (node_count (term_of expr.now)) (2 ^ levels_of (store_of engine.old))) (store_of engine.old) (store_of engine.new) }
 {
     match expr {
         Expr::Const(value) => everywhere(alloc, engine, Ok(*value)),
@@ -89,6 +91,7 @@ fn build_elements<L: Ledger>(
     ensures table { IfOk result (λ cells. IsSetTable (store_of engine.new) cells.items (elements_meaning layout.now model.now next (terms_in elements.now))) }
     ensures held { IfErr result (IsRefusalOf (store_of engine.new)) }
     ensures keeps { Keeps engine.old engine.new steps.old steps.new }
+    ensures spends { Spends (list_allowance (element_nodes (terms_in elements.now)) (2 ^ levels_of (store_of engine.old))) (store_of engine.old) (store_of engine.new) }
 {
     let mut cells = Vec::new(alloc);
     for element in elements {
@@ -115,6 +118,7 @@ fn build_arms<L: Ledger>(
     ensures table { IfOk result (λ t. IsTable (store_of engine.new) t.cells.items t.single (arms_meaning layout.now model.now next (arms_in arms.now))) }
     ensures held { IfErr result (IsRefusalOf (store_of engine.new)) }
     ensures keeps { Keeps engine.old engine.new steps.old steps.new }
+    ensures spends { Spends (allowance (1 + arm_nodes (arms_in arms.now)) (2 ^ levels_of (store_of engine.old))) (store_of engine.old) (store_of engine.new) }
 {
     let mut cells = Vec::new(alloc);
     let mut left = Ref::TRUE;

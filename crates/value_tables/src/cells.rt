@@ -84,6 +84,7 @@ pub(crate) fn add<L: Ledger>(
     ensures held { IfErr result (IsRefusalOf (store_of engine.new)) }
     ensures keeps { Keeps engine.old engine.new steps.old steps.new }
     ensures spends { Spends 1 (store_of engine.old) (store_of engine.new) }
+    ensures stays { region ≡ 0 → Spends 0 (store_of engine.old) (store_of engine.new) }
 {
     if region == Ref::FALSE {
         return Ok(());

@@ -13,6 +13,8 @@ mod pick;
 mod regions;
 mod sets;
 mod spread;
+#[cfg(test)]
+mod tests;
 mod value_regions;
 mod variables;
 

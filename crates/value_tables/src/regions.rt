@@ -23,6 +23,8 @@ pub(crate) fn meet<L: Ledger>(
     ensures held { IfErr result (IsRefusalOf (store_of engine.new)) }
     ensures keeps { Keeps engine.old engine.new steps.old steps.new }
     ensures spends { Spends 1 (store_of engine.old) (store_of engine.new) }
+    // an operation that answers the empty region adds nothing
+    ensures stays { IfOk result (λ r. r ≡ 0 → Spends 0 (store_of engine.old) (store_of engine.new)) }
 {
     engine.and(f, g, steps)
 }

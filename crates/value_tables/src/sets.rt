@@ -59,6 +59,7 @@ pub(crate) fn negated<L: Ledger>(
         → Reads (λ r. value_of (store_of engine.new) r bits) t.cells.items (negation c)) }
     ensures held { IfErr result (IsRefusalOf (store_of engine.new)) }
     ensures keeps { Keeps engine.old engine.new steps.old steps.new }
+    ensures spends { Spends (7 * length operand.now.cells.items + 4) (store_of engine.old) (store_of engine.new) }
 {
     let boolean = tested(alloc, engine, operand, Test::Boolean, steps)?;
     let mut cells = Vec::new(alloc);
@@ -98,6 +99,7 @@ pub(crate) fn choose<L: Ledger>(
         → value_of (store_of engine.new) r bits ≡ (value_of (store_of engine.old) left bits && goes_on b)) }
     ensures held { IfErr result (IsRefusalOf (store_of engine.new)) }
     ensures keeps { Keeps engine.old engine.new steps.old steps.new }
+    ensures spends { Spends (2 * length guard.now + 2 * length right.now + 2) (store_of engine.old) (store_of engine.new) }
 {
     spread(engine, guard, Pick::Faults, left, out, steps)?;
     let yes = meet(engine, region_of(guard, Ok(truth(true))), left, steps)?;

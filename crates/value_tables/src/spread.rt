@@ -10,6 +10,7 @@ ghost use Rattle.value_tables.specs.declared.cells.Cell.{Cell as Cells};
 ghost use Rattle.value_tables.specs.Work.{Keeps, Spends};
 ghost use Rattle.value_tables.specs.Cells.{shows, any_cell, AreCells};
 ghost use Rattle.value_tables.specs.Pick.{becomes};
+ghost use Rattle.value_tables.specs.Weights.{overlap, overlaps};
 
 use crate::cells::{Cell, add};
 use crate::pick::Pick;
@@ -38,6 +39,8 @@ fn put<L: Ledger>(
     ensures held { IfErr result (IsRefusalOf (store_of engine.new)) }
     ensures keeps { Keeps engine.old engine.new steps.old steps.new }
     ensures spends { Spends 2 (store_of engine.old) (store_of engine.new) }
+    ensures thrifty { OnOk result (Spends (2 * overlap (store_of engine.old) cell.region within) (store_of engine.old) (store_of engine.new)) }
+    ensures frugal { Spends (2 * overlap (store_of engine.old) cell.region within + 1) (store_of engine.old) (store_of engine.new) }
 {
     match pick.apply(cell.reading) {
         Some(reading) => {
@@ -68,6 +71,8 @@ pub(crate) fn spread<L: Ledger>(
     ensures held { IfErr result (IsRefusalOf (store_of engine.new)) }
     ensures keeps { Keeps engine.old engine.new steps.old steps.new }
     ensures spends { Spends (2 * length cells.now) (store_of engine.old) (store_of engine.new) }
+    ensures thrifty { OnOk result (Spends (2 * overlaps (store_of engine.old) cells.now within) (store_of engine.old) (store_of engine.new)) }
+    ensures frugal { Spends (2 * overlaps (store_of engine.old) cells.now within + 1) (store_of engine.old) (store_of engine.new) }
 {
     for cell in cells {
         put(engine, *cell, pick, within, out, steps)?;

@@ -1,11 +1,11 @@
-use Rattle.std.proofs.Common.{sym, subst, ◌∙◌}
+use Rattle.std.proofs.Common.{sym, subst, ◌+◌, ◌*◌, length, ap, arith}
 use Rattle.bdd_nodes.specs.Store.{value_of}
 use Rattle.value_tables.specs.declared.pick.Test.{Test}
-use Rattle.value_tables.specs.Cells.{Reads, AreCells}
-use Rattle.value_tables.specs.Tables.{alone, value_tested, one_tested, membership, truths, connective, guard_of, paired}
+use Rattle.value_tables.specs.Cells.{Reads}
+use Rattle.value_tables.specs.Tables.{alone, value_tested, one_tested, membership}
 use Rattle.kripke_model.specs.Evaluation.{binary}
+use Rattle.value_tables.proofs.RegionLemmas.{Spends-then}
 use Rattle.value_tables.proofs.StepLemmas.{if_ok}
-use Rattle.value_tables.proofs.OperatorLemmas.{boolean_tested}
 use Rattle.value_tables.proofs.BinaryLemmas.{reads_as, equality_is, equality_single}
 use Rattle.value_tables.proofs.binary.equality_of.Goals as goal
 
@@ -20,3 +20,10 @@ returns-clause-reads g c =
 
 pub returns-clause-single : goal.returns-clause-single
 returns-clause-single g c = if_ok c.compared.result c.compared.ensures.single (λ t h e. equality_single c.args.op c.requires.op)
+
+pub returns-clause-spends : goal.returns-clause-spends
+returns-clause-spends g c =
+    let l = ap length c.deref.ensures.value in
+    let r = ap length c.deref-2.ensures.value in
+    Spends-then c.args.engine.now.store c.tested_pair.new.engine.store c.compared.new.engine.store (5 * length c.args.left.now.cells.items + 5 * length c.args.right.now.cells.items + 4) (5 * length c.deref.result.now + 3 * length c.deref-2.result.now + 8) _ c.tested_pair.ensures.keeps.grows.levels
+    (omega (arith, l, r, c.in_ok-pair.ensures.few_left, c.in_ok-pair.ensures.few_right)) c.tested_pair.ensures.spends c.compared.ensures.spends

@@ -1,10 +1,10 @@
-use Rattle.std.proofs.Common.{sym, subst, ◌∙◌}
+use Rattle.std.proofs.Common.{◌+◌, ◌*◌, length, sym, subst, ap, arith}
 use Rattle.bdd_nodes.specs.Store.{value_of}
 use Rattle.value_tables.specs.declared.pick.Test.{Test}
 use Rattle.value_tables.specs.Cells.{Reads, AreCells}
 use Rattle.value_tables.specs.Tables.{value_tested, one_tested, membership}
 use Rattle.kripke_model.specs.Evaluation.{binary}
-use Rattle.value_tables.proofs.RegionLemmas.{AreCells-grows}
+use Rattle.value_tables.proofs.RegionLemmas.{AreCells-grows, Spends-then}
 use Rattle.value_tables.proofs.StepLemmas.{if_ok}
 use Rattle.value_tables.proofs.BinaryLemmas.{reads_grows, reads_as, member_is, member_single}
 use Rattle.value_tables.proofs.binary.member_of.Goals as goal
@@ -24,3 +24,10 @@ returns-clause-reads g c =
 
 pub returns-clause-single : goal.returns-clause-single
 returns-clause-single g c = if_ok c.compared.result c.compared.ensures.single (λ t h e. member_single c.args.op c.requires.op)
+
+pub returns-clause-spends : goal.returns-clause-spends
+returns-clause-spends g c =
+    let l = ap length c.deref.ensures.value in
+    let r = ap length c.deref-2.ensures.value in
+    Spends-then c.args.engine.now.store c.tested.new.engine.store c.compared.new.engine.store (5 * length c.args.left.now.cells.items + 2) (5 * length c.deref.result.now + 3 * length c.deref-2.result.now + 8) _ c.tested.ensures.keeps.grows.levels
+    (omega (arith, l, r, c.in_ok-one.ensures.few)) c.tested.ensures.spends c.compared.ensures.spends

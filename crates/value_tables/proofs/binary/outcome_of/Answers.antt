@@ -1,12 +1,15 @@
-use Rattle.std.proofs.Common.{sym, subst, ◌∙◌}
+use Rattle.std.proofs.Common.{◌+◌, ◌*◌, ◌^◌, ◌≤◌, List, length, sym, subst, ap, arith}
 use Rattle.bdd_nodes.specs.Store.{value_of}
 use Rattle.value_tables.specs.declared.pick.Test.{Test}
-use Rattle.value_tables.specs.Cells.{Reads, AreCells}
-use Rattle.value_tables.specs.Tables.{alone, value_tested, one_tested, membership, truths, connective, guard_of, paired}
+use Rattle.value_tables.specs.Cells.{Reads}
+use Rattle.value_tables.specs.Tables.{alone, value_tested, one_tested, paired}
 use Rattle.kripke_model.specs.Evaluation.{binary}
+use Rattle.value_tables.specs.declared.cells.Cell.{Cell}
+use Rattle.value_tables.specs.Weights.{AreApart}
+use Rattle.value_tables.proofs.RegionLemmas.{Spends-then}
+use Rattle.value_tables.proofs.ReadingCounts.{amount_single, reads-apart}
 use Rattle.value_tables.proofs.StepLemmas.{if_ok}
-use Rattle.value_tables.proofs.OperatorLemmas.{boolean_tested}
-use Rattle.value_tables.proofs.BinaryLemmas.{reads_as, arithmetic_is, arithmetic_single}
+use Rattle.value_tables.proofs.BinaryLemmas.{single_alone, reads_as, arithmetic_is, arithmetic_single}
 use Rattle.value_tables.proofs.binary.outcome_of.Goals as goal
 
 pub returns-clause-reads : goal.returns-clause-reads
@@ -20,3 +23,17 @@ returns-clause-reads g c =
 
 pub returns-clause-single : goal.returns-clause-single
 returns-clause-single g c = if_ok c.calculated.result c.calculated.ensures.single (λ t h e. arithmetic_single c.args.op c.requires.op)
+
+pub returns-clause-spends : goal.returns-clause-spends
+returns-clause-spends g c =
+    let s = c.args.engine.now.store in
+    let t = c.tested_pair.new.engine.store in
+    let pair = c.in_ok-pair.pair in
+    λ left right.
+    let apart_left : AreApart t c.deref.result.now = subst (AreApart t) (sym c.deref.ensures.value) (reads-apart t pair.left.items c.in_ok-pair.ensures.left (λ bits. let o = left.result bits in (one_tested Test.Number o.0, c.in_ok-pair.ensures.reads_left bits o.0 o.1, amount_single _ (single_alone (value_tested Test.Number o.0))))) in
+    let apart_right : AreApart t c.deref-2.result.now = subst (AreApart t) (sym c.deref-2.ensures.value) (reads-apart t pair.right.items c.in_ok-pair.ensures.right (λ bits. let o = right.result bits in (one_tested Test.Number o.0, c.in_ok-pair.ensures.reads_right bits o.0 o.1, amount_single _ (single_alone (value_tested Test.Number o.0))))) in
+    let l : length c.deref.result.now ≤ length c.args.left.now.cells.items + 1 = subst (λ (xs : List Cell). length xs ≤ length c.args.left.now.cells.items + 1) (sym c.deref.ensures.value) c.in_ok-pair.ensures.few_left in
+    let r : length c.deref-2.result.now ≤ length c.args.right.now.cells.items + 1 = subst (λ (xs : List Cell). length xs ≤ length c.args.right.now.cells.items + 1) (sym c.deref-2.ensures.value) c.in_ok-pair.ensures.few_right in
+    let same = ap (λ n. 2 ^ n) c.tested_pair.ensures.keeps.grows.levels in
+    Spends-then s t c.calculated.new.engine.store (5 * length c.args.left.now.cells.items + 5 * length c.args.right.now.cells.items + 4) _ _ c.tested_pair.ensures.keeps.grows.levels
+    (omega (arith, l, r, same)) c.tested_pair.ensures.spends (c.calculated.ensures.spends apart_left apart_right)

@@ -1,4 +1,4 @@
-use Rattle.std.proofs.Common.{◌≡◌, ℕ, suc, ◌+◌, ◌*◌, ◌<◌, ◌&&◌, ◌||◌, cond, drop, get_or, Bool, true, false, Ok, Err, List, [], refl, sym, ◌∙◌, ap, arith, rules, subst}
+use Rattle.std.proofs.Common.{◌≡◌, ◌+◌, ◌*◌, ◌^◌, ◌<◌, ◌≤◌, length, take, ◌&&◌, ◌||◌, cond, drop, Bool, true, Ok, List, [], refl, sym, ◌∙◌, ap, arith, rules, subst}
 use Rattle.std.proofs.lemmas.Bool.{false≢true}
 use Rattle.bdd_nodes.specs.Store.{value_of, levels_of}
 use Rattle.bdd_ops.specs.Engine.{store_of}
@@ -17,11 +17,15 @@ use Rattle.value_tables.specs.declared.pick.Test.{Test}
 use Rattle.value_tables.specs.Cells.{same_reading, any_of, Reads, AreCells}
 use Rattle.value_tables.specs.States.{meaning_of, arms_meaning, elements_meaning, state_shown}
 use Rattle.value_tables.specs.Tables.{guard_of, one_tested, truths, all_values}
-use Rattle.value_tables.proofs.RegionLemmas.{any_cell-grows, AreCells-grows, Keeps-same, keeps_join}
+use Rattle.value_tables.proofs.RegionLemmas.{any_cell-grows, AreCells-grows, Keeps-same, keeps_join, Spends-same}
 use Rattle.value_tables.proofs.OperatorLemmas.{boolean_tested}
 use Rattle.value_tables.proofs.BinaryLemmas.{reads_grows, reads_as}
 use Rattle.value_tables.proofs.EvalLemmas.{eval_proper, elements_at, elements_past, arms_at, arms_past, values_assoc, values_first, values_last, arm_split}
-use Rattle.value_tables.proofs.BuildLemmas.{term_table, not_table, binary_table, braces_table, IsTable-grows, evaluable_at, arm_evaluable_at, elements_evaluable, nodes_at, arm_nodes_at, no_cells, no_values, no_arms, last_arm}
+use Rattle.value_tables.proofs.BuildLemmas.{operand, term_table, not_table, binary_table, braces_table, IsTable-grows, evaluable_at, arm_evaluable_at, elements_evaluable, nodes_at, arm_nodes_at, no_cells, no_values, no_arms, last_arm}
+use Rattle.value_tables.specs.declared.cells.Cell.{Cell}
+use Rattle.value_tables.specs.Work.{Spends, allowance, list_allowance}
+use Rattle.value_tables.proofs.ReadingCounts.{few_more, none_few, eval_amount, node_count-some, reads-few, table-few}
+use Rattle.value_tables.proofs.GrowthLemmas.{nodes_of, nodes_of_arms, nodes_step, nodes_more_le, nodes_all, arms_step, arms_more_le, arms_all, variable_spends, running_spends, next_spends, not_spends, left_spends, both_spend, binary_spends, element_started, element_spends, list_spends, arm_guard, arm_tested, arm_right, arm_spends, arms_spend}
 use Rattle.value_tables.proofs.build.+build.Goals as goal
 
 pub build-returns-in-Const-clause-table : goal.build-returns-in-Const-clause-table
@@ -96,7 +100,12 @@ build_elements-loop-element-preserved g t c =
             r.2 ∙ ap (all_values r.0) (elements_at m (state_shown lay c.args.next bits) (state_shown lay true bits) es n e c.loop-element-test.true
                 ∙ ap (λ (x : Expr). all_values (eval m (term_of x) (state_shown lay c.args.next bits) (state_shown lay true bits)) (elements_meaning lay m c.args.next (terms_in (drop (n + 1) es)) bits)) (sym c.element-item.is))
                 ∙ values_assoc r.0 (f bits) (elements_meaning lay m c.args.next (terms_in (drop (n + 1) es)) bits),
+            few_more r.0 (f bits) (nodes_of (take n es)) (node_count (term_of e)) (nodes_of (take (n + 1) es)) r.3 (eval_amount m (term_of e) (state_shown lay c.args.next bits) (state_shown lay true bits)) (nodes_step es n e c.loop-element-test.true c.element-item.is),
           );
+      spends = element_spends c.args.engine.now.store s b c.united.new.engine.store i.keeps.grows to_b (nodes_of (take n es)) (node_count (term_of e)) (nodes_of (take (n + 1) es)) (length c.deref.result.now) (length c.deref-in-loop-element.result.now)
+          (node_count-some (term_of e)) (nodes_step es n e c.loop-element-test.true c.element-item.is) i.spends c.build.ensures.spends c.united.ensures.spends
+          (subst (λ (xs : List Cell). length xs ≤ nodes_of (take n es) * 2 ^ levels_of s) (sym c.deref.ensures.value) (reads-few s c.loop-element.cells.items (nodes_of (take n es)) i.cells (λ bits. let r = i.so_far bits in (r.0, r.1, r.3))))
+          (subst (λ (xs : List Cell). length xs ≤ node_count (term_of e) * 2 ^ levels_of b) (sym c.deref-in-loop-element.ensures.value) (table-few b c.in_ok-table.table.cells.items _ f (node_count (term_of e)) c.in_ok-table.ensures.table (λ bits. eval_amount m (term_of e) (state_shown lay c.args.next bits) (state_shown lay true bits))));
       keeps = keeps_join (keeps_join i.keeps c.build.ensures.keeps) c.united.ensures.keeps;
     }
 
@@ -136,6 +145,14 @@ build_arms-loop-arm-preserved g t c =
           ∙ ap (λ (x : Arm). guard_of (eval m (term_of x.guard) (state_shown lay c.args.next bits) (state_shown lay true bits)) >>= λ b. cond b (eval m (term_of x.right) (state_shown lay c.args.next bits) (state_shown lay true bits)) rest) (sym c.arm-item.is)) j))))
           (c.in_ok-left.ensures.shows bits (guard_of (f bits)) (d bits) (guard bits) (right bits) k)
           (c.in_ok-left.ensures.rest bits (guard_of (f bits)) (guard bits));
+      spends = arm_spends c.args.engine.now.store s0 s1 i.keeps.grows c.build.ensures.keeps.grows (nodes_of_arms (take n arms)) (node_count (term_of a.guard)) (node_count (term_of a.right)) (nodes_of_arms (take (n + 1) arms)) (length c.in_ok-guard.guard.cells.items)
+          (node_count-some (term_of a.guard)) (node_count-some (term_of a.right)) (arms_step arms n a c.loop-arm-test.true c.arm-item.is) i.spends c.build.ensures.spends
+          s2 c.tested.ensures.keeps.grows (table-few s1 c.in_ok-guard.guard.cells.items _ f (node_count (term_of a.guard)) c.in_ok-guard.ensures.table (λ bits. eval_amount m (term_of a.guard) (state_shown lay c.args.next bits) (state_shown lay true bits))) c.tested.ensures.spends
+          s3 c.build-in-loop-arm.ensures.keeps.grows c.build-in-loop-arm.ensures.spends
+          c.choose.new.engine.store (length c.deref.result.now) (length c.deref-in-loop-arm.result.now)
+          (subst (λ (xs : List Cell). length xs ≤ length c.in_ok-guard.guard.cells.items + 1) (sym c.deref.ensures.value) c.in_ok-guard-2.ensures.few)
+          (subst (λ (xs : List Cell). length xs ≤ node_count (term_of a.right) * 2 ^ levels_of s3) (sym c.deref-in-loop-arm.ensures.value) (table-few s3 c.in_ok-right.right.cells.items _ d (node_count (term_of a.right)) c.in_ok-right.ensures.table (λ bits. eval_amount m (term_of a.right) (state_shown lay c.args.next bits) (state_shown lay true bits))))
+          c.choose.ensures.spends;
       keeps = keeps_join (keeps_join (keeps_join (keeps_join i.keeps c.build.ensures.keeps) c.tested.ensures.keeps) c.build-in-loop-arm.ensures.keeps) c.choose.ensures.keeps;
     }
 
@@ -161,7 +178,8 @@ build-returns-in_ok-right-in-Binary-clause-keeps g t c = keeps_join (keeps_join 
 pub build_elements-loop-element-init : goal.build_elements-loop-element-init
 build_elements-loop-element-init g t c = record {
   cells = no_cells c.args.engine.now.store _ c.new-cells.ensures.items;
-  so_far = λ bits. (Ok [], no_values _ _ c.new-cells.ensures.items, sym (values_first _));
+  so_far = λ bits. (Ok [], no_values _ _ c.new-cells.ensures.items, sym (values_first _), none_few _);
+  spends = Spends-same c.args.engine.now.store _;
   keeps = Keeps-same c.args.engine.now c.args.steps.now;
 }
 
@@ -196,6 +214,7 @@ build_arms-loop-arm-init g t c = record {
   cells = no_cells c.args.engine.now.store _ c.new-cells.ensures.items;
   left = omega arith;
   shows = λ bits k. no_arms c.args.engine.now.store _ bits k _ c.new-cells.ensures.items;
+  spends = Spends-same c.args.engine.now.store _;
   keeps = Keeps-same c.args.engine.now c.args.steps.now;
 }
 
@@ -252,3 +271,195 @@ build_arms-returns-clause-table g t c =
       };
       at_most_one = λ e bits. absurd (false≢true e);
     }
+
+-- ---- growth
+
+pub build-returns-in-Const-clause-spends : goal.build-returns-in-Const-clause-spends
+build-returns-in-Const-clause-spends g t c = Spends-same c.args.engine.now.store _
+
+pub build-returns-in-Var-clause-spends : goal.build-returns-in-Var-clause-spends
+build-returns-in-Var-clause-spends g t c = variable_spends c.args.engine.now.store c.variable.new.engine.store (node_count (term_of c.args.expr.now)) c.variable.ensures.spends
+
+pub build-returns-in-Running-clause-spends : goal.build-returns-in-Running-clause-spends
+build-returns-in-Running-clause-spends g t c = running_spends c.args.engine.now.store c.running.new.engine.store (node_count (term_of c.args.expr.now)) c.running.ensures.spends
+
+pub build-returns-in-Next-clause-spends : goal.build-returns-in-Next-clause-spends
+build-returns-in-Next-clause-spends g t c =
+    next_spends c.args.engine.now.store c.build.new.engine.store (node_count (term_of c.deref.result.now)) (node_count (term_of c.args.expr.now))
+    (ap node_count (ap term_of c.in-Next.is ∙ ap (λ (x : Expr). Term.Next (term_of x)) (sym c.deref.ensures))) c.build.ensures.spends
+
+pub build-returns-in_ok-operand-in-Not-clause-spends : goal.build-returns-in_ok-operand-in-Not-clause-spends
+build-returns-in_ok-operand-in-Not-clause-spends g t c =
+    let lay = c.args.layout.now in
+    let m = c.args.model.now in
+    let e : Term = term_of c.deref-in-Not.result.now in
+    let is : term_of c.args.expr.now ≡ Term.Not e = ap term_of c.in-Not.is ∙ ap (λ (x : Expr). Term.Not (term_of x)) (sym c.deref-in-Not.ensures) in
+    let s = c.args.engine.now.store in
+    let b = c.build-in-Not.new.engine.store in
+    not_spends s b c.negated.new.engine.store c.build-in-Not.ensures.keeps.grows (node_count e) (node_count (term_of c.args.expr.now)) (length c.in_ok-operand-in-Not.operand.cells.items) (ap node_count is)
+    c.build-in-Not.ensures.spends c.negated.ensures.spends
+    (table-few b c.in_ok-operand-in-Not.operand.cells.items _ (meaning_of lay m c.args.next e) (node_count e) c.in_ok-operand-in-Not.ensures.table (λ bits. eval_amount m e (state_shown lay c.args.next bits) (state_shown lay true bits)))
+
+pub build-returns-in_ok-right-in-Binary-clause-spends : goal.build-returns-in_ok-right-in-Binary-clause-spends
+build-returns-in_ok-right-in-Binary-clause-spends g t c =
+    let lay = c.args.layout.now in
+    let m = c.args.model.now in
+    let a : Term = term_of c.deref-in-Binary.result.now in
+    let b : Term = term_of c.deref-in-Binary-2.result.now in
+    let is : term_of c.args.expr.now ≡ Term.Binary c.in-Binary.op a b = ap term_of c.in-Binary.is ∙ (λ i. Term.Binary c.in-Binary.op (term_of (sym c.deref-in-Binary.ensures i)) (term_of (sym c.deref-in-Binary-2.ensures i))) in
+    let good : IsEvaluable m a × IsEvaluable m b = subst (λ (x : Term). IsEvaluable m x) is c.requires.evaluable in
+    let s = c.build-in-Binary.new.engine.store in
+    let z = c.build-in-Binary-2.new.engine.store in
+    let f : List Bool → Checked (List Value) = meaning_of lay m c.args.next a in
+    let h : List Bool → Checked (List Value) = meaning_of lay m c.args.next b in
+    let left = c.in_ok-left-in-Binary.left in
+    let right = c.in_ok-right-in-Binary.right in
+    let there = IsTable-grows s z c.build-in-Binary-2.ensures.keeps.grows left.cells.items left.single f c.in_ok-left-in-Binary.ensures.table in
+    binary_spends c.args.engine.now.store s z c.binary_of.new.engine.store c.build-in-Binary.ensures.keeps.grows c.build-in-Binary-2.ensures.keeps.grows (node_count a) (node_count b) (node_count (term_of c.args.expr.now))
+    (length left.cells.items) (length right.cells.items) (ap node_count is) c.build-in-Binary.ensures.spends c.build-in-Binary-2.ensures.spends
+    (c.binary_of.ensures.spends
+    (record { result = λ bits. (f bits, operand z left.cells.items left.single f there (λ xs. eval_proper m a _ _ good.0) bits) })
+    (record { result = λ bits. (h bits, operand z right.cells.items right.single h c.in_ok-right-in-Binary.ensures.table (λ xs. eval_proper m b _ _ good.1) bits) }))
+    (table-few s left.cells.items left.single f (node_count a) c.in_ok-left-in-Binary.ensures.table (λ bits. eval_amount m a (state_shown lay c.args.next bits) (state_shown lay true bits)))
+    (table-few z right.cells.items right.single h (node_count b) c.in_ok-right-in-Binary.ensures.table (λ bits. eval_amount m b (state_shown lay c.args.next bits) (state_shown lay true bits)))
+
+pub build-returns-in_ok-cells-in-Braces-clause-spends : goal.build-returns-in_ok-cells-in-Braces-clause-spends
+build-returns-in_ok-cells-in-Braces-clause-spends g t c =
+    list_spends c.args.engine.now.store c.build_elements.new.engine.store (element_nodes (terms_in c.deref-in-Braces.result.now)) (node_count (term_of c.args.expr.now))
+    (ap node_count (ap term_of c.in-Braces.is ∙ braces_term c.in-Braces.elements ∙ ap (λ (x : List Expr). Term.Braces (terms_in x)) (sym c.deref-in-Braces.ensures.value))) c.build_elements.ensures.spends
+
+pub build-returns-in-Case-clause-spends : goal.build-returns-in-Case-clause-spends
+build-returns-in-Case-clause-spends g t c =
+    subst (λ n. Spends (allowance n (2 ^ levels_of c.args.engine.now.store)) c.args.engine.now.store c.build_arms.new.engine.store)
+    (sym (ap node_count (ap term_of c.in-Case.is ∙ case_term c.in-Case.arms ∙ ap (λ (x : List Arm). Term.Case (arms_in x)) (sym c.deref-in-Case.ensures.value)))) c.build_arms.ensures.spends
+
+pub build_elements-returns-clause-spends : goal.build_elements-returns-clause-spends
+build_elements-returns-clause-spends g t c =
+    let s = c.args.engine.now.store in
+    subst (λ n. Spends (list_allowance n (2 ^ levels_of s)) s c.loop-element.engine.store) (nodes_all c.args.elements.now c.loop-element.element-index c.loop-element-test.false) c.loop-element.invariant.spends
+
+pub build_arms-returns-clause-spends : goal.build_arms-returns-clause-spends
+build_arms-returns-clause-spends g t c =
+    arms_spend c.args.engine.now.store c.loop-arm.engine.store c.add.new.engine.store c.loop-arm.invariant.keeps.grows (nodes_of_arms (take c.loop-arm.arm-index c.args.arms.now)) (arm_nodes (arms_in c.args.arms.now))
+    (sym (arms_all c.args.arms.now c.loop-arm.arm-index c.loop-arm-test.false)) c.loop-arm.invariant.spends c.add.ensures.spends
+
+-- ---- growth where the store is full, or memory ran out
+
+pub build-returns-in_err-operand-in-Not-clause-spends : goal.build-returns-in_err-operand-in-Not-clause-spends
+build-returns-in_err-operand-in-Not-clause-spends g t c =
+    let e : Term = term_of c.deref-in-Not.result.now in
+    let is : term_of c.args.expr.now ≡ Term.Not e = ap term_of c.in-Not.is ∙ ap (λ (x : Expr). Term.Not (term_of x)) (sym c.deref-in-Not.ensures) in
+    next_spends c.args.engine.now.store c.build-in-Not.new.engine.store (node_count e) (node_count (term_of c.args.expr.now)) (ap node_count is) c.build-in-Not.ensures.spends
+
+pub build-returns-in_err-left-in-Binary-clause-spends : goal.build-returns-in_err-left-in-Binary-clause-spends
+build-returns-in_err-left-in-Binary-clause-spends g t c =
+    let a : Term = term_of c.deref-in-Binary.result.now in
+    let is : term_of c.args.expr.now ≡ Term.Binary c.in-Binary.op a (term_of c.in-Binary.b.value) = ap term_of c.in-Binary.is ∙ ap (λ (x : Expr). Term.Binary c.in-Binary.op (term_of x) (term_of c.in-Binary.b.value)) (sym c.deref-in-Binary.ensures) in
+    left_spends c.args.engine.now.store c.build-in-Binary.new.engine.store (node_count a) (node_count (term_of c.in-Binary.b.value)) (node_count (term_of c.args.expr.now)) (ap node_count is) c.build-in-Binary.ensures.spends
+
+pub build-returns-in_err-right-in-Binary-clause-spends : goal.build-returns-in_err-right-in-Binary-clause-spends
+build-returns-in_err-right-in-Binary-clause-spends g t c =
+    let a : Term = term_of c.deref-in-Binary.result.now in
+    let b : Term = term_of c.deref-in-Binary-2.result.now in
+    let is : term_of c.args.expr.now ≡ Term.Binary c.in-Binary.op a b = ap term_of c.in-Binary.is ∙ (λ i. Term.Binary c.in-Binary.op (term_of (sym c.deref-in-Binary.ensures i)) (term_of (sym c.deref-in-Binary-2.ensures i))) in
+    both_spend c.args.engine.now.store c.build-in-Binary.new.engine.store c.build-in-Binary-2.new.engine.store c.build-in-Binary.ensures.keeps.grows (node_count a) (node_count b) (node_count (term_of c.args.expr.now)) (ap node_count is)
+    c.build-in-Binary.ensures.spends c.build-in-Binary-2.ensures.spends
+
+pub build-returns-in_err-cells-in-Braces-clause-spends : goal.build-returns-in_err-cells-in-Braces-clause-spends
+build-returns-in_err-cells-in-Braces-clause-spends g t c =
+    list_spends c.args.engine.now.store c.build_elements.new.engine.store (element_nodes (terms_in c.deref-in-Braces.result.now)) (node_count (term_of c.args.expr.now))
+    (ap node_count (ap term_of c.in-Braces.is ∙ braces_term c.in-Braces.elements ∙ ap (λ (x : List Expr). Term.Braces (terms_in x)) (sym c.deref-in-Braces.ensures.value))) c.build_elements.ensures.spends
+
+pub build_elements-returns-in_err-table-clause-spends : goal.build_elements-returns-in_err-table-clause-spends
+build_elements-returns-in_err-table-clause-spends g t c =
+    let es = c.args.elements.now in
+    let n = c.loop-element.element-index in
+    let e : Expr = c.element-item.result in
+    let i = c.loop-element.invariant in
+    element_started c.args.engine.now.store c.loop-element.engine.store c.build.new.engine.store i.keeps.grows (nodes_of (take n es)) (node_count (term_of e)) (element_nodes (terms_in es))
+    (node_count-some (term_of e)) (nodes_more_le es n e c.loop-element-test.true c.element-item.is) i.spends c.build.ensures.spends
+
+pub build_elements-returns-in_err-cells-clause-spends : goal.build_elements-returns-in_err-cells-clause-spends
+build_elements-returns-in_err-cells-clause-spends g t c =
+    let lay = c.args.layout.now in
+    let m = c.args.model.now in
+    let es = c.args.elements.now in
+    let n = c.loop-element.element-index in
+    let s = c.loop-element.engine.store in
+    let b = c.build.new.engine.store in
+    let e : Expr = c.element-item.result in
+    let i = c.loop-element.invariant in
+    let f : List Bool → Checked (List Value) = meaning_of lay m c.args.next (term_of e) in
+    element_spends c.args.engine.now.store s b c.united.new.engine.store i.keeps.grows c.build.ensures.keeps.grows (nodes_of (take n es)) (node_count (term_of e)) (element_nodes (terms_in es)) (length c.deref.result.now) (length c.deref-in-loop-element.result.now)
+    (node_count-some (term_of e)) (nodes_more_le es n e c.loop-element-test.true c.element-item.is) i.spends c.build.ensures.spends c.united.ensures.spends
+    (subst (λ (xs : List Cell). length xs ≤ nodes_of (take n es) * 2 ^ levels_of s) (sym c.deref.ensures.value) (reads-few s c.loop-element.cells.items (nodes_of (take n es)) i.cells (λ bits. let r = i.so_far bits in (r.0, r.1, r.3))))
+    (subst (λ (xs : List Cell). length xs ≤ node_count (term_of e) * 2 ^ levels_of b) (sym c.deref-in-loop-element.ensures.value) (table-few b c.in_ok-table.table.cells.items _ f (node_count (term_of e)) c.in_ok-table.ensures.table (λ bits. eval_amount m (term_of e) (state_shown lay c.args.next bits) (state_shown lay true bits))))
+
+pub build_arms-returns-in_err-guard-clause-spends : goal.build_arms-returns-in_err-guard-clause-spends
+build_arms-returns-in_err-guard-clause-spends g t c =
+    let arms = c.args.arms.now in
+    let n = c.loop-arm.arm-index in
+    let a : Arm = c.arm-item.result in
+    let i = c.loop-arm.invariant in
+    list_spends c.args.engine.now.store c.build.new.engine.store (arm_nodes (arms_in arms)) (1 + arm_nodes (arms_in arms)) refl
+    (arm_guard c.args.engine.now.store c.loop-arm.engine.store c.build.new.engine.store i.keeps.grows c.build.ensures.keeps.grows (nodes_of_arms (take n arms)) (node_count (term_of a.guard)) (node_count (term_of a.right)) (arm_nodes (arms_in arms)) 0
+    (node_count-some (term_of a.guard)) (node_count-some (term_of a.right)) (arms_more_le arms n a c.loop-arm-test.true c.arm-item.is) i.spends c.build.ensures.spends)
+
+pub build_arms-returns-in_err-guard-2-clause-spends : goal.build_arms-returns-in_err-guard-2-clause-spends
+build_arms-returns-in_err-guard-2-clause-spends g t c =
+    let lay = c.args.layout.now in
+    let m = c.args.model.now in
+    let arms = c.args.arms.now in
+    let n = c.loop-arm.arm-index in
+    let a : Arm = c.arm-item.result in
+    let i = c.loop-arm.invariant in
+    let s1 = c.build.new.engine.store in
+    let f : List Bool → Checked (List Value) = meaning_of lay m c.args.next (term_of a.guard) in
+    list_spends c.args.engine.now.store c.tested.new.engine.store (arm_nodes (arms_in arms)) (1 + arm_nodes (arms_in arms)) refl
+    (arm_tested c.args.engine.now.store c.loop-arm.engine.store s1 i.keeps.grows c.build.ensures.keeps.grows (nodes_of_arms (take n arms)) (node_count (term_of a.guard)) (node_count (term_of a.right)) (arm_nodes (arms_in arms)) (length c.in_ok-guard.guard.cells.items)
+    (node_count-some (term_of a.guard)) (node_count-some (term_of a.right)) (arms_more_le arms n a c.loop-arm-test.true c.arm-item.is) i.spends c.build.ensures.spends
+    c.tested.new.engine.store c.tested.ensures.keeps.grows (table-few s1 c.in_ok-guard.guard.cells.items _ f (node_count (term_of a.guard)) c.in_ok-guard.ensures.table (λ bits. eval_amount m (term_of a.guard) (state_shown lay c.args.next bits) (state_shown lay true bits))) c.tested.ensures.spends)
+
+pub build_arms-returns-in_err-right-clause-spends : goal.build_arms-returns-in_err-right-clause-spends
+build_arms-returns-in_err-right-clause-spends g t c =
+    let lay = c.args.layout.now in
+    let m = c.args.model.now in
+    let arms = c.args.arms.now in
+    let n = c.loop-arm.arm-index in
+    let a : Arm = c.arm-item.result in
+    let i = c.loop-arm.invariant in
+    let s1 = c.build.new.engine.store in
+    let s3 = c.build-in-loop-arm.new.engine.store in
+    let f : List Bool → Checked (List Value) = meaning_of lay m c.args.next (term_of a.guard) in
+    list_spends c.args.engine.now.store s3 (arm_nodes (arms_in arms)) (1 + arm_nodes (arms_in arms)) refl
+    (arm_right c.args.engine.now.store c.loop-arm.engine.store s1 i.keeps.grows c.build.ensures.keeps.grows (nodes_of_arms (take n arms)) (node_count (term_of a.guard)) (node_count (term_of a.right)) (arm_nodes (arms_in arms)) (length c.in_ok-guard.guard.cells.items)
+    (node_count-some (term_of a.guard)) (node_count-some (term_of a.right)) (arms_more_le arms n a c.loop-arm-test.true c.arm-item.is) i.spends c.build.ensures.spends
+    c.tested.new.engine.store c.tested.ensures.keeps.grows (table-few s1 c.in_ok-guard.guard.cells.items _ f (node_count (term_of a.guard)) c.in_ok-guard.ensures.table (λ bits. eval_amount m (term_of a.guard) (state_shown lay c.args.next bits) (state_shown lay true bits))) c.tested.ensures.spends
+    s3 c.build-in-loop-arm.ensures.keeps.grows c.build-in-loop-arm.ensures.spends)
+
+pub build_arms-returns-in_err-left-clause-spends : goal.build_arms-returns-in_err-left-clause-spends
+build_arms-returns-in_err-left-clause-spends g t c =
+    let lay = c.args.layout.now in
+    let m = c.args.model.now in
+    let arms = c.args.arms.now in
+    let n = c.loop-arm.arm-index in
+    let a : Arm = c.arm-item.result in
+    let i = c.loop-arm.invariant in
+    let s1 = c.build.new.engine.store in
+    let s3 = c.build-in-loop-arm.new.engine.store in
+    let f : List Bool → Checked (List Value) = meaning_of lay m c.args.next (term_of a.guard) in
+    let d : List Bool → Checked (List Value) = meaning_of lay m c.args.next (term_of a.right) in
+    list_spends c.args.engine.now.store c.choose.new.engine.store (arm_nodes (arms_in arms)) (1 + arm_nodes (arms_in arms)) refl
+    (arm_spends c.args.engine.now.store c.loop-arm.engine.store s1 i.keeps.grows c.build.ensures.keeps.grows (nodes_of_arms (take n arms)) (node_count (term_of a.guard)) (node_count (term_of a.right)) (arm_nodes (arms_in arms)) (length c.in_ok-guard.guard.cells.items)
+    (node_count-some (term_of a.guard)) (node_count-some (term_of a.right)) (arms_more_le arms n a c.loop-arm-test.true c.arm-item.is) i.spends c.build.ensures.spends
+    c.tested.new.engine.store c.tested.ensures.keeps.grows (table-few s1 c.in_ok-guard.guard.cells.items _ f (node_count (term_of a.guard)) c.in_ok-guard.ensures.table (λ bits. eval_amount m (term_of a.guard) (state_shown lay c.args.next bits) (state_shown lay true bits))) c.tested.ensures.spends
+    s3 c.build-in-loop-arm.ensures.keeps.grows c.build-in-loop-arm.ensures.spends
+    c.choose.new.engine.store (length c.deref.result.now) (length c.deref-in-loop-arm.result.now)
+    (subst (λ (xs : List Cell). length xs ≤ length c.in_ok-guard.guard.cells.items + 1) (sym c.deref.ensures.value) c.in_ok-guard-2.ensures.few)
+    (subst (λ (xs : List Cell). length xs ≤ node_count (term_of a.right) * 2 ^ levels_of s3) (sym c.deref-in-loop-arm.ensures.value) (table-few s3 c.in_ok-right.right.cells.items _ d (node_count (term_of a.right)) c.in_ok-right.ensures.table (λ bits. eval_amount m (term_of a.right) (state_shown lay c.args.next bits) (state_shown lay true bits))))
+    c.choose.ensures.spends)
+
+pub build_arms-returns-in_err-add-clause-spends : goal.build_arms-returns-in_err-add-clause-spends
+build_arms-returns-in_err-add-clause-spends g t c =
+    arms_spend c.args.engine.now.store c.loop-arm.engine.store c.add.new.engine.store c.loop-arm.invariant.keeps.grows (nodes_of_arms (take c.loop-arm.arm-index c.args.arms.now)) (arm_nodes (arms_in c.args.arms.now))
+    (sym (arms_all c.args.arms.now c.loop-arm.arm-index c.loop-arm-test.false)) c.loop-arm.invariant.spends c.add.ensures.spends

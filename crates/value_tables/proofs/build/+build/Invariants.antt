@@ -1,14 +1,15 @@
-use Rattle.std.proofs.Common.{◌≡◌, ◌+◌, ◌*◌, ◌&&◌, ◌||◌, Bool, List, drop}
-use Rattle.bdd_nodes.specs.Store.{value_of, Has}
+use Rattle.std.proofs.Common.{◌≡◌, ◌+◌, ◌*◌, ◌^◌, ◌≤◌, ◌&&◌, ◌||◌, Bool, List, length, drop, take}
+use Rattle.bdd_nodes.specs.Store.{value_of, levels_of, Has}
 use Rattle.bdd_ops.specs.Engine.{store_of}
 use Rattle.kripke_model.specs.declared.expressions.Value.{Value}
 use Rattle.kripke_model.specs.Evaluation.{Checked}
 use Rattle.kripke_model.specs.Reading.{term_of, terms_in, arms_in}
 use Rattle.kripke_model.specs.Size.{node_count, element_nodes, arm_nodes}
-use Rattle.value_tables.specs.Work.{Keeps}
-use Rattle.value_tables.specs.Cells.{shows, same_reading, any_of, Reads, AreCells}
+use Rattle.value_tables.specs.Work.{Keeps, Spends, list_allowance}
+use Rattle.value_tables.specs.Cells.{shows, same_reading, readings, any_of, Reads, AreCells}
 use Rattle.value_tables.specs.States.{elements_meaning, arms_meaning}
 use Rattle.value_tables.specs.Tables.{all_values}
+use Rattle.value_tables.proofs.GrowthLemmas.{nodes_of, nodes_of_arms}
 use Rattle.value_tables.proofs.build.+build.Given as goal
 
 abbrev pub decreases-build : goal.decreases-build
@@ -25,7 +26,9 @@ abbrev pub invariant-build_elements-loop-element : goal.invariant-build_elements
 invariant-build_elements-loop-element g l = record {
   cells : AreCells (store_of l.engine) l.cells.items;
   so_far : (bits : List Bool) → (c : Checked (List Value)) × Reads (λ r. value_of (store_of l.engine) r bits) l.cells.items c
-      × (elements_meaning l.layout l.model l.next (terms_in l.elements) bits ≡ all_values c (elements_meaning l.layout l.model l.next (terms_in (drop l.element-index l.elements)) bits));
+      × (elements_meaning l.layout l.model l.next (terms_in l.elements) bits ≡ all_values c (elements_meaning l.layout l.model l.next (terms_in (drop l.element-index l.elements)) bits))
+      × (length (readings c) ≤ nodes_of (take l.element-index l.elements));
+  spends : Spends (list_allowance (nodes_of (take l.element-index l.elements)) (2 ^ levels_of (store_of l.initial.engine))) (store_of l.initial.engine) (store_of l.engine);
   keeps : Keeps l.initial.engine l.engine l.initial.steps l.steps;
 }
 
@@ -37,4 +40,5 @@ invariant-build_arms-loop-arm g l = record {
   shows : (bits : List Bool) (k : Checked Value) → any_of (same_reading k) (arms_meaning l.layout l.model l.next (arms_in l.arms) bits)
       ≡ (shows (λ r. value_of (store_of l.engine) r bits) l.cells.items k || (value_of (store_of l.engine) l.left bits && any_of (same_reading k) (arms_meaning l.layout l.model l.next (arms_in (drop l.arm-index l.arms)) bits)));
   keeps : Keeps l.initial.engine l.engine l.initial.steps l.steps;
+  spends : Spends (list_allowance (nodes_of_arms (take l.arm-index l.arms)) (2 ^ levels_of (store_of l.initial.engine))) (store_of l.initial.engine) (store_of l.engine);
 }

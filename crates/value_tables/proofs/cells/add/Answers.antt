@@ -1,9 +1,9 @@
-use Rattle.std.proofs.Common.{◌≡◌, ◌≢◌, None, Some, sym, subst, ap, ◌∙◌, List}
+use Rattle.std.proofs.Common.{◌≡◌, ◌≢◌, None, Some, sym, subst, ap, ◌∙◌}
 use Rattle.std.specs.Prelude.{position}
 use Rattle.std.proofs.lemmas.Bool.{eqb-true, eqb-false}
 use Rattle.value_tables.specs.declared.cells.Cell.{Cell}
 use Rattle.value_tables.specs.Cells.{same_reading, AreCells}
-use Rattle.value_tables.proofs.AddLemmas.{shows_none, shows_push, AreCells-push, AreCells-enlarge, shows-enlarge}
+use Rattle.value_tables.proofs.AddLemmas.{shows_none, AreCells-push, AreCells-enlarge, shows-enlarge}
 use Rattle.value_tables.proofs.cells.add.Goals as goal
 
 pub returns-then-eq-clause-shows : goal.returns-then-eq-clause-shows

@@ -1,4 +1,4 @@
-use Rattle.std.proofs.Common.{sym, ◌∙◌, arith}
+use Rattle.std.proofs.Common.{sym, ◌∙◌}
 use Rattle.value_tables.proofs.CellLemmas.{region_found, region_next, region_nowhere}
 use Rattle.value_tables.proofs.cells.region_of.Goals as goal
 

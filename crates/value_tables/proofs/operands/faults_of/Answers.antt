@@ -2,7 +2,7 @@ use Rattle.std.proofs.Common.{◌∙◌, ap, refl}
 use Rattle.bdd_nodes.specs.Store.{value_of}
 use Rattle.bdd_nodes.proofs.Tables.{Grows-then, value_of-true}
 use Rattle.value_tables.specs.declared.pick.Pick.{Pick}
-use Rattle.value_tables.specs.Cells.{any_cell, shows, same_reading}
+use Rattle.value_tables.specs.Cells.{shows, same_reading}
 use Rattle.value_tables.specs.Pick.{becomes}
 use Rattle.value_tables.specs.Tables.{is_fault}
 use Rattle.value_tables.proofs.RegionLemmas.{any_cell-grows, has-grows, AreCells-grows, keeps_join}

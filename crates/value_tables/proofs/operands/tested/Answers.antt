@@ -1,4 +1,4 @@
-use Rattle.std.proofs.Common.{◌∙◌, ap, sym}
+use Rattle.std.proofs.Common.{◌∙◌, ap}
 use Rattle.bdd_nodes.specs.Store.{value_of}
 use Rattle.bdd_nodes.proofs.Tables.{Grows-then}
 use Rattle.value_tables.specs.declared.pick.Pick.{Pick}
@@ -32,3 +32,6 @@ returns-in_err-add-clause-keeps g c = keeps_join (keeps_join (keeps_join c.many_
 
 pub returns-clause-keeps : goal.returns-clause-keeps
 returns-clause-keeps g c = keeps_join (keeps_join (keeps_join c.many_in.ensures.keeps c.outside.ensures.keeps) c.spread.ensures.keeps) c.add.ensures.keeps
+
+pub returns-in_err-spread-clause-keeps : goal.returns-in_err-spread-clause-keeps
+returns-in_err-spread-clause-keeps g c = keeps_join (keeps_join c.many_in.ensures.keeps c.outside.ensures.keeps) c.spread.ensures.keeps

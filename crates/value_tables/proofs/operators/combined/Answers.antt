@@ -1,6 +1,6 @@
-use Rattle.std.proofs.Common.{Ok, ◌∙◌, ap, sym}
+use Rattle.std.proofs.Common.{Ok, ◌∙◌, ap}
 use Rattle.bdd_nodes.specs.Store.{value_of}
-use Rattle.bdd_nodes.proofs.Tables.{Grows-then, value_of-false}
+use Rattle.bdd_nodes.proofs.Tables.{value_of-false}
 use Rattle.value_tables.specs.Cells.{same_reading, region_at}
 use Rattle.value_tables.specs.Tables.{truths, logic}
 use Rattle.value_tables.proofs.RegionLemmas.{any_cell-grows, AreCells-grows, has_region_at, region_at-grows}

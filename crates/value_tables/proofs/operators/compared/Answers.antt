@@ -1,6 +1,6 @@
-use Rattle.std.proofs.Common.{◌∙◌, ap, sym}
+use Rattle.std.proofs.Common.{◌∙◌}
 use Rattle.bdd_nodes.specs.Store.{value_of}
-use Rattle.bdd_nodes.proofs.Tables.{Grows-then, value_of-false}
+use Rattle.bdd_nodes.proofs.Tables.{value_of-false}
 use Rattle.value_tables.specs.Cells.{same_reading}
 use Rattle.value_tables.specs.Tables.{alone}
 use Rattle.value_tables.proofs.RegionLemmas.{any_cell-grows, has-grows, AreCells-grows, matched-grows}

@@ -1,4 +1,4 @@
-use Rattle.std.proofs.Common.{◌∙◌, ◌&&◌, ◌||◌, Ok, not, ap, sym}
+use Rattle.std.proofs.Common.{◌∙◌, ◌&&◌, not, ap}
 use Rattle.bdd_nodes.specs.Store.{value_of}
 use Rattle.bdd_nodes.proofs.Tables.{Grows-then}
 use Rattle.value_tables.specs.Cells.{same_reading}

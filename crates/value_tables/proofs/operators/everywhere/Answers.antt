@@ -1,7 +1,4 @@
-use Rattle.std.proofs.Common.{◌≡◌, ◌&&◌, ◌||◌, Bool, true, false, List, [], ◌∷◌, ◌++◌, refl, sym, subst, ap, ◌∙◌, arith}
-use Rattle.std.proofs.lemmas.List.Elements.{All-cons, All-nil}
-use Rattle.bdd_nodes.specs.Store.{Has, value_of}
-use Rattle.bdd_nodes.proofs.Tables.{value_of-true}
+use Rattle.std.proofs.Common.{[], ◌∷◌, ◌++◌, ap, ◌∙◌}
 use Rattle.value_tables.proofs.ResultLemmas.{everywhere_table}
 use Rattle.value_tables.proofs.operators.everywhere.Goals as goal
 

@@ -1,7 +1,9 @@
-use Rattle.std.proofs.Common.{◌∙◌, ◌||◌, ap, sym}
-use Rattle.bdd_nodes.specs.Store.{value_of}
+use Rattle.std.proofs.Common.{◌∙◌, ◌+◌, ◌*◌, ◌^◌, ◌||◌, length, arith}
+use Rattle.bdd_nodes.specs.Store.{levels_of, value_of}
 use Rattle.value_tables.specs.Tables.{alone}
 use Rattle.value_tables.proofs.RegionLemmas.{has-grows, pairs-grows}
+use Rattle.value_tables.proofs.WeightLemmas.{Spends-more}
+use Rattle.value_tables.proofs.GrowthLemmas.{pairs_spend}
 use Rattle.value_tables.proofs.OperatorLemmas.{paired_shows}
 use Rattle.value_tables.proofs.pairs.calculated.Goals as goal
 
@@ -22,3 +24,20 @@ returns-clause-reads g c =
           ∙ (λ i. c.in_ok-faults.ensures.shows bits (alone a) (alone b) x y k i || pairs-grows s f c.faults_of.ensures.keeps.grows left right c.requires.left.has c.requires.right.has bits c.args.op k i)
           ∙ paired_shows (λ q. value_of s q bits) c.args.op left right a b x y k;
     }
+
+pub returns-clause-spends : goal.returns-clause-spends
+returns-clause-spends g c =
+    let s = c.args.engine.now.store in
+    pairs_spend s c.faults_of.new.engine.store c.pair_up.new.engine.store c.faults_of.ensures.keeps.grows c.args.left.now c.args.right.now c.requires.left.has c.requires.right.has
+    (3 * length c.args.left.now + 3 * length c.args.right.now + 2) (3 * length c.args.left.now + 3 * length c.args.right.now + 3 + 2 * 2 ^ levels_of s) (omega arith) c.faults_of.ensures.spends c.pair_up.ensures.frugal
+
+pub returns-in_err-pair_up-clause-spends : goal.returns-in_err-pair_up-clause-spends
+returns-in_err-pair_up-clause-spends g c =
+    let s = c.args.engine.now.store in
+    pairs_spend s c.faults_of.new.engine.store c.pair_up.new.engine.store c.faults_of.ensures.keeps.grows c.args.left.now c.args.right.now c.requires.left.has c.requires.right.has
+    (3 * length c.args.left.now + 3 * length c.args.right.now + 2) (3 * length c.args.left.now + 3 * length c.args.right.now + 3 + 2 * 2 ^ levels_of s) (omega arith) c.faults_of.ensures.spends c.pair_up.ensures.frugal
+
+pub returns-in_err-faults-clause-spends : goal.returns-in_err-faults-clause-spends
+returns-in_err-faults-clause-spends g c =
+    let s = c.args.engine.now.store in
+    λ left right. Spends-more s c.faults_of.new.engine.store (3 * length c.args.left.now + 3 * length c.args.right.now + 2) (3 * length c.args.left.now + 3 * length c.args.right.now + 3 + 2 * 2 ^ levels_of s) (omega arith) c.faults_of.ensures.spends

@@ -1,4 +1,4 @@
-use Rattle.std.proofs.Common.{◌≡◌, ◌*◌, ◌||◌, Bool, List, length, take}
+use Rattle.std.proofs.Common.{◌≡◌, ◌*◌, ◌||◌, Bool, List, take}
 use Rattle.bdd_nodes.specs.Store.{value_of}
 use Rattle.bdd_ops.specs.Engine.{store_of}
 use Rattle.kripke_model.specs.declared.expressions.Value.{Value}
@@ -6,6 +6,7 @@ use Rattle.kripke_model.specs.Evaluation.{Checked}
 use Rattle.value_tables.specs.Work.{Keeps, Spends}
 use Rattle.value_tables.specs.Cells.{shows, any_cell, AreCells}
 use Rattle.value_tables.specs.Tables.{pairs_to}
+use Rattle.value_tables.specs.Weights.{AreApart, weights}
 use Rattle.value_tables.proofs.pairs.pair_up.Given as goal
 
 abbrev pub invariant-loop-cell : goal.invariant-loop-cell
@@ -15,5 +16,5 @@ invariant-loop-cell g l = record {
       ≡ (shows (λ r. value_of (store_of l.initial.engine) r bits) l.initial.out.items k
       || any_cell (λ r. value_of (store_of l.initial.engine) r bits) (pairs_to (λ r. value_of (store_of l.initial.engine) r bits) l.op k l.right) (take l.cell-index l.left));
   keeps : Keeps l.initial.engine l.engine l.initial.steps l.steps;
-  spends : Spends (l.cell-index * (2 * length l.right)) (store_of l.initial.engine) (store_of l.engine);
+  thrifty : AreApart (store_of l.initial.engine) l.right → Spends (2 * weights (store_of l.initial.engine) (take l.cell-index l.left)) (store_of l.initial.engine) (store_of l.engine);
 }

@@ -1,4 +1,4 @@
-use Rattle.std.proofs.Common.{◌≡◌, ◌∙◌, ◌&&◌, Ok, refl, ap}
+use Rattle.std.proofs.Common.{◌∙◌, ◌&&◌, Ok, refl, ap}
 use Rattle.bdd_nodes.specs.Store.{value_of}
 use Rattle.bdd_nodes.proofs.Tables.{Grows-then, value_of-false}
 use Rattle.value_tables.specs.Cells.{same_reading, region_at}

@@ -1,9 +1,10 @@
-use Rattle.std.proofs.Common.{◌∙◌, ◌&&◌, ◌||◌, ap, sym, subst}
+use Rattle.std.proofs.Common.{◌∙◌, ◌&&◌, ◌||◌, ap, ◌+◌, ◌*◌, length, arith}
 use Rattle.bdd_nodes.specs.Store.{value_of}
 use Rattle.bdd_nodes.proofs.Tables.{value_of-true}
 use Rattle.value_tables.specs.declared.pick.Pick.{Pick}
 use Rattle.value_tables.specs.Cells.{shows, any_cell}
 use Rattle.value_tables.specs.Pick.{becomes}
+use Rattle.value_tables.proofs.RegionLemmas.{Spends-then}
 use Rattle.value_tables.proofs.OperatorLemmas.{negated_shows}
 use Rattle.value_tables.proofs.sets.negated.Goals as goal
 
@@ -15,3 +16,15 @@ returns-clause-reads g c =
           ∙ (λ i. shows (λ n. value_of t n bits) (c.new-cells.ensures.items i) k || (any_cell (λ n. value_of t n bits) (becomes Pick.Negated k) (c.deref.ensures.value i) && value_of-true t.nodes.keys bits i))
           ∙ negated_shows (λ n. value_of t n bits) _ r (c.in_ok-boolean.ensures.reads bits r h proper flag) k;
     }
+
+pub returns-clause-spends : goal.returns-clause-spends
+returns-clause-spends g c =
+    let l = ap length c.deref.ensures.value in
+    Spends-then c.args.engine.now.store c.tested.new.engine.store c.spread.new.engine.store (5 * length c.args.operand.now.cells.items + 2) (2 * length c.deref.result.now) _ c.tested.ensures.keeps.grows.levels
+    (omega (arith, l, c.in_ok-boolean.ensures.few)) c.tested.ensures.spends c.spread.ensures.spends
+
+pub returns-in_err-spread-clause-spends : goal.returns-in_err-spread-clause-spends
+returns-in_err-spread-clause-spends g c =
+    let l = ap length c.deref.ensures.value in
+    Spends-then c.args.engine.now.store c.tested.new.engine.store c.spread.new.engine.store (5 * length c.args.operand.now.cells.items + 2) (2 * length c.deref.result.now) _ c.tested.ensures.keeps.grows.levels
+    (omega (arith, l, c.in_ok-boolean.ensures.few)) c.tested.ensures.spends c.spread.ensures.spends

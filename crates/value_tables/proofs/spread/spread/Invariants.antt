@@ -6,6 +6,7 @@ use Rattle.kripke_model.specs.Evaluation.{Checked}
 use Rattle.value_tables.specs.Work.{Keeps, Spends}
 use Rattle.value_tables.specs.Cells.{shows, any_cell, AreCells}
 use Rattle.value_tables.specs.Pick.{becomes}
+use Rattle.value_tables.specs.Weights.{overlaps}
 use Rattle.value_tables.proofs.spread.spread.Given as goal
 
 abbrev pub invariant-loop-cell : goal.invariant-loop-cell
@@ -16,5 +17,6 @@ invariant-loop-cell g l = record {
       || (any_cell (λ r. value_of (store_of l.initial.engine) r bits) (becomes l.pick k) (take l.cell-index l.cells) && value_of (store_of l.initial.engine) l.within bits));
   few : length l.out.items ≤ length l.initial.out.items + l.cell-index;
   keeps : Keeps l.initial.engine l.engine l.initial.steps l.steps;
+  thrifty : Spends (2 * overlaps (store_of l.initial.engine) (take l.cell-index l.cells) l.within) (store_of l.initial.engine) (store_of l.engine);
   spends : Spends (2 * l.cell-index) (store_of l.initial.engine) (store_of l.engine);
 }

@@ -1,4 +1,4 @@
-use Rattle.std.proofs.Common.{◌≡◌, ◌∙◌, ◌++◌, ap, sym}
+use Rattle.std.proofs.Common.{◌∙◌, ◌++◌, ap, sym}
 use Rattle.value_tables.specs.Regions.{rows_of, faults_of}
 use Rattle.value_tables.proofs.RowLemmas.{rows_more, faults_more}
 use Rattle.value_tables.proofs.value_regions.regions_of.Goals as goal

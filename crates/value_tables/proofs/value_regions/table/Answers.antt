@@ -1,7 +1,9 @@
-use Rattle.std.proofs.Common.{◌≡◌, ◌∙◌, List, sym, subst, ap, false}
+use Rattle.std.proofs.Common.{◌∙◌, List, ap}
 use Rattle.kripke_model.specs.Reading.{term_of}
 use Rattle.value_tables.specs.declared.cells.Cell.{Cell}
-use Rattle.value_tables.specs.Regions.{AreRegions, rows_in, faults_in}
+use Rattle.value_tables.specs.Regions.{rows_in, faults_in}
+use Rattle.kripke_model.specs.Size.{node_count}
+use Rattle.value_tables.proofs.GrowthLemmas.{growth}
 use Rattle.value_tables.proofs.RowLemmas.{regions_as, regions_are}
 use Rattle.value_tables.proofs.value_regions.table.Goals as goal
 
@@ -12,3 +14,12 @@ returns-clause-regions g c =
     regions_as s c.args.layout.now c.args.model.now (term_of c.args.expr.now) cells _ _
     (c.in-Ok.ensures.rows ∙ ap rows_in c.deref.ensures.value) (c.in-Ok.ensures.faults ∙ ap faults_in c.deref.ensures.value)
     (regions_are s c.args.layout.now c.args.model.now (term_of c.args.expr.now) cells _ c.codes_law.ensures.valid c.codes_law.ensures.fields c.places_law.ensures.within c.requires.layout c.in_ok-table.ensures.table)
+
+pub returns-clause-growth : goal.returns-clause-growth
+returns-clause-growth g c = growth c.args.engine.now.store c.build.new.engine.store (node_count (term_of c.args.expr.now)) c.build.ensures.spends
+
+pub returns-in_err-table-clause-growth : goal.returns-in_err-table-clause-growth
+returns-in_err-table-clause-growth g c = growth c.args.engine.now.store c.build.new.engine.store (node_count (term_of c.args.expr.now)) c.build.ensures.spends
+
+pub returns-in_default-clause-growth : goal.returns-in_default-clause-growth
+returns-in_default-clause-growth g c = growth c.args.engine.now.store c.build.new.engine.store (node_count (term_of c.args.expr.now)) c.build.ensures.spends

@@ -1,5 +1,5 @@
-use Rattle.std.proofs.Common.{◌≡◌, ◌&&◌, ◌||◌, Bool, not, true, false, Ok, [], ◌∷◌, pos, refl, sym, ap, ◌∙◌, rules}
-use Rattle.bdd_nodes.specs.Store.{value_of}
+use Rattle.std.proofs.Common.{◌≡◌, ◌*◌, ◌^◌, ◌≤◌, ◌&&◌, ◌||◌, List, length, subst, arith, Bool, not, true, false, Ok, pos, refl, sym, ap, ◌∙◌, rules}
+use Rattle.bdd_nodes.specs.Store.{levels_of, value_of}
 use Rattle.bdd_nodes.proofs.Tables.{value_of-true}
 use Rattle.kripke_model.specs.declared.expressions.Value.TheVariants.{Number}
 use Rattle.kripke_model.specs.System.{value_in}
@@ -9,6 +9,10 @@ use Rattle.value_tables.specs.Cells.{shows, any_cell, any_of, same_reading}
 use Rattle.value_tables.specs.Pick.{becomes}
 use Rattle.value_tables.specs.Tables.{alone}
 use Rattle.value_tables.specs.States.{state_shown}
+use Rattle.value_tables.specs.declared.cells.Cell.{Cell}
+use Rattle.value_tables.proofs.RegionLemmas.{Spends-same, Spends-then}
+use Rattle.value_tables.proofs.WeightLemmas.{Spends-more}
+use Rattle.value_tables.proofs.ReadingCounts.{table-few}
 use Rattle.value_tables.proofs.ResultLemmas.{selected}
 use Rattle.value_tables.proofs.BinaryLemmas.{one_truth}
 use Rattle.value_tables.proofs.BuildLemmas.{table_as}
@@ -42,3 +46,27 @@ returns-clause-table g c =
       };
       at_most_one = λ e bits. one_truth (runs c.args.model.now (state_shown lay c.args.next bits) c.args.p);
     }
+
+pub returns-then-not-has_selector-clause-spends : goal.returns-then-not-has_selector-clause-spends
+returns-then-not-has_selector-clause-spends g c = Spends-same c.args.engine.now.store _
+
+pub returns-clause-spends : goal.returns-clause-spends
+returns-clause-spends g c =
+    let s = c.args.engine.now.store in
+    let a = c.variable.new.engine.store in
+    let cells = c.in_ok-selector.selector.cells.items in
+    let few = subst (λ (xs : List Cell). length xs ≤ 1 * 2 ^ levels_of a) (sym c.deref.ensures.value) (table-few a cells _ _ 1 c.in_ok-selector.ensures.table (λ bits. omega arith)) in
+    Spends-then s a c.spread.new.engine.store (2 * 2 ^ levels_of s) (2 * length c.deref.result.now) (4 * 2 ^ levels_of s) c.variable.ensures.keeps.grows.levels
+    (omega (arith, few, ap (λ n. 2 ^ n) c.variable.ensures.keeps.grows.levels)) c.variable.ensures.spends c.spread.ensures.spends
+
+pub returns-in_err-spread-clause-spends : goal.returns-in_err-spread-clause-spends
+returns-in_err-spread-clause-spends g c =
+    let s = c.args.engine.now.store in
+    let a = c.variable.new.engine.store in
+    let cells = c.in_ok-selector.selector.cells.items in
+    let few = subst (λ (xs : List Cell). length xs ≤ 1 * 2 ^ levels_of a) (sym c.deref.ensures.value) (table-few a cells _ _ 1 c.in_ok-selector.ensures.table (λ bits. omega arith)) in
+    Spends-then s a c.spread.new.engine.store (2 * 2 ^ levels_of s) (2 * length c.deref.result.now) (4 * 2 ^ levels_of s) c.variable.ensures.keeps.grows.levels
+    (omega (arith, few, ap (λ n. 2 ^ n) c.variable.ensures.keeps.grows.levels)) c.variable.ensures.spends c.spread.ensures.spends
+
+pub returns-in_err-selector-clause-spends : goal.returns-in_err-selector-clause-spends
+returns-in_err-selector-clause-spends g c = Spends-more c.args.engine.now.store c.variable.new.engine.store (2 * 2 ^ levels_of c.args.engine.now.store) _ (omega arith) c.variable.ensures.spends

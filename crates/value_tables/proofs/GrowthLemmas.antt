@@ -1,0 +1,203 @@
+-- How much the parts of an expression make the store grow, and how much the whole.
+use Rattle.std.proofs.Common.{◌≡◌, ℕ, zero, suc, ◌+◌, ◌*◌, ◌^◌, ◌<◌, ◌≤◌, get_or, take, length, List, [], ◌∷◌, refl, sym, ap, subst, ◌∙◌, arith}
+use Rattle.std.specs.Prelude.{All, sum_by}
+use Rattle.std.proofs.lemmas.List.{take_all}
+use Rattle.std.proofs.lemmas.Nat.{pow_pos}
+use Rattle.std.proofs.Math.Nat.{pow-suc, pow-zero}
+use Rattle.std.proofs.lemmas.List.Sums.{sum_by-cons, sum_by_more, sum_by_more_le}
+use Rattle.bdd_nodes.specs.declared.store.Store.{Store}
+use Rattle.bdd_nodes.specs.Store.{levels_of, triples, Has, Grows}
+use Rattle.kripke_model.specs.declared.expressions.Expr.{Expr}
+use Rattle.kripke_model.specs.declared.expressions.Arm.{Arm}
+use Rattle.kripke_model.specs.Reading.{term_of, terms_in, arms_in}
+use Rattle.kripke_model.specs.Size.{node_count, element_nodes, arm_nodes}
+use Rattle.value_tables.specs.declared.cells.Cell.{Cell}
+use Rattle.value_tables.specs.Work.{Spends, allowance, list_allowance, operator_allowance}
+use Rattle.value_tables.specs.Weights.{AreApart, weights}
+use Rattle.value_tables.proofs.RegionLemmas.{Spends-then}
+use Rattle.value_tables.proofs.WeightLemmas.{Spends-more, AreApart-grows, weights-most}
+use Rattle.value_tables.proofs.AllowanceLemmas.{allowance-next, allowance-least, allowance-not, allowance-left, allowance-both, allowance-binary, allowance-element, allowance-arm, list_allowance-mono, list_allowance-whole, list_allowance-last}
+
+-- ---- the nodes of lists
+
+abbrev pub nodes_of : List Expr → ℕ
+nodes_of es = sum_by (λ (e : Expr). node_count (term_of e)) es
+
+abbrev pub nodes_of_arms : List Arm → ℕ
+nodes_of_arms arms = sum_by (λ (a : Arm). node_count (term_of a.guard) + node_count (term_of a.right)) arms
+
+pub nodes-are : (es : List Expr) → nodes_of es ≡ element_nodes (terms_in es)
+nodes-are [] = refl
+nodes-are (e ∷ es) = omega (arith, sum_by-cons (λ (x : Expr). node_count (term_of x)) e es, nodes-are es)
+
+pub arm_nodes-are : (arms : List Arm) → nodes_of_arms arms ≡ arm_nodes (arms_in arms)
+arm_nodes-are [] = refl
+arm_nodes-are (a ∷ arms) = omega (arith, sum_by-cons (λ (x : Arm). node_count (term_of x.guard) + node_count (term_of x.right)) a arms, arm_nodes-are arms)
+
+module _ (es : List Expr) (i : ℕ) (e : Expr) (lt : i < length es) (is : e ≡ get_or es i e) where
+  here : node_count (term_of e) ≡ node_count (term_of (get_or es i e))
+  here = ap (λ (x : Expr). node_count (term_of x)) is
+
+  pub nodes_more : nodes_of (take (i + 1) es) ≡ nodes_of (take i es) + node_count (term_of e)
+  nodes_more = omega (arith, here, sum_by_more (λ (x : Expr). node_count (term_of x)) es i e lt)
+
+  pub nodes_step : nodes_of (take i es) + node_count (term_of e) ≤ nodes_of (take (i + 1) es)
+  nodes_step = omega (arith, nodes_more)
+
+  pub nodes_more_le : nodes_of (take i es) + node_count (term_of e) ≤ element_nodes (terms_in es)
+  nodes_more_le = omega (arith, here, nodes-are es, sum_by_more_le (λ (x : Expr). node_count (term_of x)) es i e lt)
+
+pub nodes_all : (es : List Expr) (i : ℕ) → length es ≤ i → nodes_of (take i es) ≡ element_nodes (terms_in es)
+nodes_all es i le = ap nodes_of (take_all i es le) ∙ nodes-are es
+
+module _ (arms : List Arm) (i : ℕ) (a : Arm) (lt : i < length arms) (is : a ≡ get_or arms i a) where
+  arm_here : node_count (term_of a.guard) + node_count (term_of a.right) ≡ node_count (term_of (get_or arms i a).guard) + node_count (term_of (get_or arms i a).right)
+  arm_here = ap (λ (x : Arm). node_count (term_of x.guard) + node_count (term_of x.right)) is
+
+  pub arms_more : nodes_of_arms (take (i + 1) arms) ≡ nodes_of_arms (take i arms) + (node_count (term_of a.guard) + node_count (term_of a.right))
+  arms_more = omega (arith, arm_here, sum_by_more (λ (x : Arm). node_count (term_of x.guard) + node_count (term_of x.right)) arms i a lt)
+
+  pub arms_step : nodes_of_arms (take i arms) + (node_count (term_of a.guard) + node_count (term_of a.right)) ≤ nodes_of_arms (take (i + 1) arms)
+  arms_step = omega (arith, arms_more)
+
+  pub arms_more_le : nodes_of_arms (take i arms) + (node_count (term_of a.guard) + node_count (term_of a.right)) ≤ arm_nodes (arms_in arms)
+  arms_more_le = omega (arith, arm_here, arm_nodes-are arms, sum_by_more_le (λ (x : Arm). node_count (term_of x.guard) + node_count (term_of x.right)) arms i a lt)
+
+pub arms_all : (arms : List Arm) (i : ℕ) → length arms ≤ i → nodes_of_arms (take i arms) ≡ arm_nodes (arms_in arms)
+arms_all arms i le = ap nodes_of_arms (take_all i arms le) ∙ arm_nodes-are arms
+
+-- ---- pairs of cells
+
+-- operands that are apart take two operations for each list of bits
+pub pairs_spend : (s f z : Store) → Grows s f → (left right : List Cell) → All (λ (c : Cell). Has s c.region) left → All (λ (c : Cell). Has s c.region) right → (k j : ℕ) → k + 1 + 2 * 2 ^ levels_of s ≤ j
+    → Spends k s f → (AreApart f right → Spends (2 * weights f left + 1) f z) → AreApart s left → AreApart s right → Spends j s z
+pairs_spend s f z g left right hl hr k j le x y al ar =
+    let few = weights-most f left 1 (AreApart-grows s f g left hl al).each in
+    let same = ap (λ n. 2 ^ n) g.levels in
+    Spends-then s f z k (2 * weights f left + 1) j g.levels (omega (arith, few, same)) x (y (AreApart-grows s f g right hr ar))
+
+-- ---- expressions
+
+same_unit : (s z : Store) → Grows s z → 2 ^ levels_of z ≡ 2 ^ levels_of s
+same_unit s z g = ap (λ n. 2 ^ n) g.levels
+
+some_unit : (s : Store) → 1 ≤ 2 ^ levels_of s
+some_unit s = omega (arith, pow_pos (levels_of s))
+
+pub variable_spends : (s z : Store) (n : ℕ) → Spends (2 * 2 ^ levels_of s) s z → Spends (allowance n (2 ^ levels_of s)) s z
+variable_spends s z n h = Spends-more s z (2 * 2 ^ levels_of s) (allowance n (2 ^ levels_of s)) (omega (arith, allowance-least n (2 ^ levels_of s))) h
+
+pub running_spends : (s z : Store) (n : ℕ) → Spends (4 * 2 ^ levels_of s) s z → Spends (allowance n (2 ^ levels_of s)) s z
+running_spends s z n h = Spends-more s z (4 * 2 ^ levels_of s) (allowance n (2 ^ levels_of s)) (omega (arith, allowance-least n (2 ^ levels_of s))) h
+
+pub next_spends : (s z : Store) (n t : ℕ) → t ≡ 1 + n → Spends (allowance n (2 ^ levels_of s)) s z → Spends (allowance t (2 ^ levels_of s)) s z
+next_spends s z n t e h = subst (λ m. Spends (allowance m (2 ^ levels_of s)) s z) (sym e) (Spends-more s z _ _ (allowance-next n (2 ^ levels_of s)) h)
+
+pub not_spends : (s b z : Store) → Grows s b → (n t l : ℕ) → t ≡ 1 + n → Spends (allowance n (2 ^ levels_of s)) s b → Spends (7 * l + 4) b z → l ≤ n * 2 ^ levels_of b → Spends (allowance t (2 ^ levels_of s)) s z
+not_spends s b z g n t l e x y le =
+    let few : l ≤ n * 2 ^ levels_of s = subst (λ u. l ≤ n * u) (same_unit s b g) le in
+    subst (λ m. Spends (allowance m (2 ^ levels_of s)) s z) (sym e)
+    (Spends-then s b z (allowance n (2 ^ levels_of s)) (7 * l + 4) (allowance (1 + n) (2 ^ levels_of s)) g.levels (allowance-not n (2 ^ levels_of s) l few (some_unit s)) x y)
+
+pub left_spends : (s z : Store) (a b t : ℕ) → t ≡ 1 + a + b → Spends (allowance a (2 ^ levels_of s)) s z → Spends (allowance t (2 ^ levels_of s)) s z
+left_spends s z a b t e h = subst (λ m. Spends (allowance m (2 ^ levels_of s)) s z) (sym e) (Spends-more s z _ _ (allowance-left a b (2 ^ levels_of s)) h)
+
+both_join : (s p z : Store) → Grows s p → (a b : ℕ) → Spends (allowance a (2 ^ levels_of s)) s p → Spends (allowance b (2 ^ levels_of p)) p z → Spends (allowance a (2 ^ levels_of s) + allowance b (2 ^ levels_of s)) s z
+both_join s p z g a b x y = Spends-then s p z _ _ _ g.levels (omega arith) x (subst (λ u. Spends (allowance b u) p z) (same_unit s p g) y)
+
+pub both_spend : (s p z : Store) → Grows s p → (a b t : ℕ) → t ≡ 1 + a + b → Spends (allowance a (2 ^ levels_of s)) s p → Spends (allowance b (2 ^ levels_of p)) p z → Spends (allowance t (2 ^ levels_of s)) s z
+both_spend s p z g a b t e x y =
+    subst (λ m. Spends (allowance m (2 ^ levels_of s)) s z) (sym e) (Spends-more s z _ _ (allowance-both a b (2 ^ levels_of s)) (both_join s p z g a b x y))
+
+pub binary_spends : (s p q z : Store) → Grows s p → Grows p q → (a b t l r : ℕ) → t ≡ 1 + a + b → Spends (allowance a (2 ^ levels_of s)) s p → Spends (allowance b (2 ^ levels_of p)) p q → Spends (operator_allowance l r (2 ^ levels_of q)) q z
+    → l ≤ a * 2 ^ levels_of p → r ≤ b * 2 ^ levels_of q → Spends (allowance t (2 ^ levels_of s)) s z
+binary_spends s p q z g h a b t l r e x y w le ge =
+    let all : 2 ^ levels_of q ≡ 2 ^ levels_of s = same_unit p q h ∙ same_unit s p g in
+    subst (λ m. Spends (allowance m (2 ^ levels_of s)) s z) (sym e)
+    (Spends-then s q z _ (operator_allowance l r (2 ^ levels_of s)) _ (h.levels ∙ g.levels)
+    (allowance-binary a b (2 ^ levels_of s) l r (subst (λ u. l ≤ a * u) (same_unit s p g) le) (subst (λ u. r ≤ b * u) all ge) (some_unit s))
+    (both_join s p q g a b x y) (subst (λ u. Spends (operator_allowance l r u) q z) all w))
+
+-- ---- elements
+
+element_within : (k n t u l r : ℕ) → 1 ≤ n → l ≤ k * u → r ≤ n * u → 1 ≤ u → k + n ≤ t → list_allowance k u + allowance n u + (5 * l + 5 * r + 3) ≤ list_allowance t u
+element_within k n t u l r some h j one le = omega (arith, allowance-element k n u l r some h j one, list_allowance-mono (k + n) t u le)
+
+element_join : (s p z : Store) → Grows s p → (k n : ℕ) → Spends (list_allowance k (2 ^ levels_of s)) s p → Spends (allowance n (2 ^ levels_of p)) p z → Spends (list_allowance k (2 ^ levels_of s) + allowance n (2 ^ levels_of s)) s z
+element_join s p z g k n x y = Spends-then s p z _ _ _ g.levels (omega arith) x (subst (λ u. Spends (allowance n u) p z) (same_unit s p g) y)
+
+pub element_started : (s p z : Store) → Grows s p → (k n t : ℕ) → 1 ≤ n → k + n ≤ t → Spends (list_allowance k (2 ^ levels_of s)) s p → Spends (allowance n (2 ^ levels_of p)) p z → Spends (list_allowance t (2 ^ levels_of s)) s z
+element_started s p z g k n t some le x y =
+    Spends-more s z _ _ (omega (arith, element_within k n t (2 ^ levels_of s) 0 0 some (omega arith) (omega arith) (some_unit s) le)) (element_join s p z g k n x y)
+
+pub element_spends : (s p q z : Store) → Grows s p → Grows p q → (k n t l r : ℕ) → 1 ≤ n → k + n ≤ t → Spends (list_allowance k (2 ^ levels_of s)) s p → Spends (allowance n (2 ^ levels_of p)) p q → Spends (5 * l + 5 * r + 3) q z
+    → l ≤ k * 2 ^ levels_of p → r ≤ n * 2 ^ levels_of q → Spends (list_allowance t (2 ^ levels_of s)) s z
+element_spends s p q z g h k n t l r some le x y w few more =
+    let all : 2 ^ levels_of q ≡ 2 ^ levels_of s = same_unit p q h ∙ same_unit s p g in
+    Spends-then s q z _ (5 * l + 5 * r + 3) _ (h.levels ∙ g.levels)
+    (element_within k n t (2 ^ levels_of s) l r some (subst (λ u. l ≤ k * u) (same_unit s p g) few) (subst (λ u. r ≤ n * u) all more) (some_unit s) le)
+    (element_join s p q g k n x y) w
+
+pub list_spends : (s z : Store) (k t : ℕ) → t ≡ 1 + k → Spends (list_allowance k (2 ^ levels_of s)) s z → Spends (allowance t (2 ^ levels_of s)) s z
+list_spends s z k t e h = subst (λ m. Spends (allowance m (2 ^ levels_of s)) s z) (sym e) (Spends-more s z _ _ (list_allowance-whole k (2 ^ levels_of s)) h)
+
+-- ---- arms
+
+arm_within : (k a b t u l r : ℕ) → 1 ≤ a → 1 ≤ b → l ≤ a * u → r ≤ b * u → 1 ≤ u → k + (a + b) ≤ t
+    → list_allowance k u + allowance a u + (5 * l + 2) + allowance b u + (2 * (l + 1) + 2 * r + 2) ≤ list_allowance t u
+arm_within k a b t u l r one two h j some le = omega (arith, allowance-arm k a b u l r one two h j some, list_allowance-mono (k + (a + b)) t u le)
+
+module _ (s p q : Store) (g : Grows s p) (h : Grows p q) (k a b t l : ℕ) (one : 1 ≤ a) (two : 1 ≤ b) (le : k + (a + b) ≤ t)
+    (x : Spends (list_allowance k (2 ^ levels_of s)) s p) (y : Spends (allowance a (2 ^ levels_of p)) p q) where
+  pub arm_guard : Spends (list_allowance t (2 ^ levels_of s)) s q
+  arm_guard = Spends-more s q _ _ (omega (arith, arm_within k a b t (2 ^ levels_of s) 0 0 one two (omega arith) (omega arith) (some_unit s) le)) (element_join s p q g k a x y)
+
+  module _ (w : Store) (i : Grows q w) (few : l ≤ a * 2 ^ levels_of q) (z : Spends (5 * l + 2) q w) where
+    to_q : 2 ^ levels_of q ≡ 2 ^ levels_of s
+    to_q = same_unit p q h ∙ same_unit s p g
+
+    to_w : 2 ^ levels_of w ≡ 2 ^ levels_of s
+    to_w = same_unit q w i ∙ to_q
+
+    few_here : l ≤ a * 2 ^ levels_of s
+    few_here = subst (λ u. l ≤ a * u) to_q few
+
+    so_far : Spends (list_allowance k (2 ^ levels_of s) + allowance a (2 ^ levels_of s) + (5 * l + 2)) s w
+    so_far = Spends-then s q w _ _ _ (h.levels ∙ g.levels) (omega arith) (element_join s p q g k a x y) z
+
+    pub arm_tested : Spends (list_allowance t (2 ^ levels_of s)) s w
+    arm_tested = Spends-more s w _ _ (omega (arith, arm_within k a b t (2 ^ levels_of s) l 0 one two few_here (omega arith) (some_unit s) le)) so_far
+
+    module _ (v : Store) (j : Grows w v) (f : Spends (allowance b (2 ^ levels_of w)) w v) where
+      with_right : Spends (list_allowance k (2 ^ levels_of s) + allowance a (2 ^ levels_of s) + (5 * l + 2) + allowance b (2 ^ levels_of s)) s v
+      with_right = Spends-then s w v _ (allowance b (2 ^ levels_of s)) _ (i.levels ∙ h.levels ∙ g.levels) (omega arith) so_far (subst (λ u. Spends (allowance b u) w v) to_w f)
+
+      pub arm_right : Spends (list_allowance t (2 ^ levels_of s)) s v
+      arm_right = Spends-more s v _ _ (omega (arith, arm_within k a b t (2 ^ levels_of s) l 0 one two few_here (omega arith) (some_unit s) le)) with_right
+
+      pub arm_spends : (z : Store) (m r : ℕ) → m ≤ l + 1 → r ≤ b * 2 ^ levels_of v → Spends (2 * m + 2 * r + 2) v z → Spends (list_allowance t (2 ^ levels_of s)) s z
+      arm_spends z m r short more d =
+          let most : r ≤ b * 2 ^ levels_of s = subst (λ u. r ≤ b * u) (same_unit w v j ∙ to_w) more in
+          Spends-then s v z _ (2 * m + 2 * r + 2) _ (j.levels ∙ i.levels ∙ h.levels ∙ g.levels)
+          (omega (arith, arm_within k a b t (2 ^ levels_of s) l r one two few_here most (some_unit s) le)) with_right d
+
+pub arms_spend : (s p z : Store) → Grows s p → (k t : ℕ) → t ≡ k → Spends (list_allowance k (2 ^ levels_of s)) s p → Spends 1 p z → Spends (allowance (1 + t) (2 ^ levels_of s)) s z
+arms_spend s p z g k t e x y = subst (λ m. Spends (allowance (1 + m) (2 ^ levels_of s)) s z) (sym e) (Spends-then s p z _ 1 _ g.levels (list_allowance-last k (2 ^ levels_of s) (some_unit s)) x y)
+
+-- ---- the whole
+
+power_of_four : (n : ℕ) → 4 ^ n ≡ 2 ^ n * 2 ^ n
+power_of_four zero = refl
+power_of_four (suc n) = omega (arith, power_of_four n, pow-suc 4 n, ap (λ x. x * x) (pow-suc 2 n))
+
+square : (n : ℕ) → n ^ 2 ≡ n * n
+square n = omega (arith, pow-suc n 1, ap (λ x. x * n) (pow-suc n 0), ap (λ x. x * n * n) (pow-zero n))
+
+pub growth : (s z : Store) (n : ℕ) → Spends (allowance n (2 ^ levels_of s)) s z → length (triples z) ≤ length (triples s) + 16 * (n + 1) ^ 2 * 4 ^ levels_of s
+growth s z n h = subst (λ k. length (triples z) ≤ length (triples s) + k) same h.count
+  where
+    same : 16 * ((n + 1) * (n + 1)) * 2 ^ levels_of s * 2 ^ levels_of s ≡ 16 * (n + 1) ^ 2 * 4 ^ levels_of s
+    same = regroup (16 * ((n + 1) * (n + 1))) (2 ^ levels_of s) ∙ (λ i. 16 * sym (square (n + 1)) i * sym (power_of_four (levels_of s)) i)
+      where
+        regroup : (a v : ℕ) → a * v * v ≡ a * (v * v)
+        regroup a v = omega arith
