@@ -23,7 +23,7 @@ use Rattle.smv_instances.proofs.ListSteps.{map_map, take_whole}
 
 -- ---- the body of an instance is not refused
 
-silent_member : {R A : Type 0} (rule : List A → A → Rule R) (before xs : List A) (k : ℕ) (x : A) → Silent (First rule before xs) → slice_get xs k ≡ Some x → (earlier : List A) × Silent (rule earlier x)
+pub silent_member : {R A : Type 0} (rule : List A → A → Rule R) (before xs : List A) (k : ℕ) (x : A) → Silent (First rule before xs) → slice_get xs k ≡ Some x → (earlier : List A) × Silent (rule earlier x)
 silent_member rule before [] k x silent at = absurd (let none : None ≡ Some x = at in cc)
 silent_member rule before (y ∷ ys) zero x silent at = (before, subst (λ z. Silent (rule before z)) (same_Some _ _ at) (λ r h. silent r (inl h)))
 silent_member rule before (y ∷ ys) (suc k) x silent at = silent_member rule (before ++ (y ∷ [])) ys k x (λ r h. silent r (inr (λ q g. silent q (inl g), h))) at
@@ -91,7 +91,7 @@ entity_absent m x none = ap (option_map (λ (d : Entry). d.entity)) (none_of (fi
 
 -- ---- the number of a child
 
-then_parts : {R : Type 0} (a b : Rule R) → Silent (λ r. a r ⊎ (Silent a × b r)) → Silent a × Silent b
+pub then_parts : {R : Type 0} (a b : Rule R) → Silent (λ r. a r ⊎ (Silent a × b r)) → Silent a × Silent b
 then_parts a b silent = (λ r h. silent r (inl h), λ r h. silent r (inr (λ q k. silent q (inl k), h)))
 
 -- an entry that is not refused is an instance exactly where it leads to a child
@@ -99,7 +99,7 @@ pub data IsCounted (p : Program) (s : Scope) (e : Entry) : Type 0 where
   other : child p s e ≡ None → is_instance e.entity ≡ false → IsCounted p s e
   one : (c : Scope) → child p s e ≡ Some c → is_instance e.entity ≡ true → IsCounted p s e
 
-counted : (p : Program) (before : List Scope) (s : Scope) (earlier : List Entry) (name : Name) (line : ℕ) (e : Entity) → Silent (declaration p before s earlier (record { name = name; line = line; entity = e })) → IsCounted p s (record { name = name; line = line; entity = e })
+pub counted : (p : Program) (before : List Scope) (s : Scope) (earlier : List Entry) (name : Name) (line : ℕ) (e : Entity) → Silent (declaration p before s earlier (record { name = name; line = line; entity = e })) → IsCounted p s (record { name = name; line = line; entity = e })
 counted p before s earlier name line Entity.Parameter silent = IsCounted.other refl refl
 counted p before s earlier name line (Entity.Stored type) silent = IsCounted.other refl refl
 counted p before s earlier name line (Entity.Defined right) silent = IsCounted.other refl refl

@@ -12,3 +12,4 @@ pub mod InsideLemmas
 pub mod SymbolLemmas
 pub mod BuildLemmas
 pub mod FindLemmas
+pub mod InstanceLemmas

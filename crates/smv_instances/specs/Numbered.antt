@@ -60,6 +60,11 @@ pub record IsActual (p : Program) (s : Scope) (place : ℕ) (caller : ℕ) (e : 
   pub numbered : scope_at p caller ≡ Some around
   pub stands : slice_get actuals place ≡ Some e
 
+-- its actual parameters
+abbrev pub actuals_of : Scope → List Expr
+actuals_of (Scope.Main m) = []
+actuals_of (Scope.Inside around name process actuals m) = actuals
+
 -- the process that s belongs to is the one at this place among the processes
 abbrev pub IsProcess : Program → Scope → ℕ → Type 0
 IsProcess p s place = slice_get (filter is_process (instances p)) place ≡ Some (process_of s)

@@ -16,4 +16,5 @@ pub mod walk;
 
 pub use entries::{Entity, Entry};
 pub use found::Found;
+pub use instances::Instances;
 pub use refusals::{FlatRefusal, Which};

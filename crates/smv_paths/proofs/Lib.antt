@@ -1,5 +1,4 @@
 pub mod Once
-pub mod Resolution
 pub mod GraphLemmas
 pub mod SearchLemmas
 pub mod AdvanceLemmas
@@ -8,3 +7,11 @@ pub mod StepLemmas
 pub mod Circles
 pub mod WrittenLemmas
 pub mod MentionLemmas
+pub mod WaitLemmas
+pub mod ResolveLemmas
+pub mod NodeLemmas
+pub mod ActualLemmas
+pub mod StateLemmas
+pub mod FoundLemmas
+pub mod NameNodes
+pub mod BeginLemmas

@@ -5,3 +5,8 @@ pub mod Graphs
 pub mod Searches
 pub mod Written
 pub mod Mentions
+pub mod Nodes
+pub mod Targets
+pub mod Heights
+pub mod Passed
+pub mod Ready
