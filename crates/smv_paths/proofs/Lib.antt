@@ -8,3 +8,9 @@ pub mod StepLemmas
 pub mod Circles
 pub mod WrittenLemmas
 pub mod MentionLemmas
+pub mod AnyLemmas
+pub mod NamedLemmas
+pub mod GroundLemmas
+pub mod NumberLemmas
+pub mod SizeLemmas
+pub mod ArithmeticLemmas

@@ -5,3 +5,5 @@ pub mod Graphs
 pub mod Searches
 pub mod Written
 pub mod Mentions
+pub mod Naming
+pub mod Values
