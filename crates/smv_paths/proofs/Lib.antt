@@ -1,5 +1,4 @@
 pub mod Once
-pub mod Resolution
 pub mod GraphLemmas
 pub mod SearchLemmas
 pub mod AdvanceLemmas
@@ -14,3 +13,18 @@ pub mod GroundLemmas
 pub mod NumberLemmas
 pub mod SizeLemmas
 pub mod ArithmeticLemmas
+pub mod WaitLemmas
+pub mod ResolveLemmas
+pub mod NodeLemmas
+pub mod ActualLemmas
+pub mod StateLemmas
+pub mod FoundLemmas
+pub mod NameNodes
+pub mod BeginLemmas
+pub mod WorkLemmas
+pub mod IndexLemmas
+pub mod KnownLemmas
+pub mod PairLemmas
+pub mod RuleLemmas
+pub mod ExistLemmas
+pub mod DefinedLemmas
