@@ -7,6 +7,12 @@ pub mod StepLemmas
 pub mod Circles
 pub mod WrittenLemmas
 pub mod MentionLemmas
+pub mod AnyLemmas
+pub mod NamedLemmas
+pub mod GroundLemmas
+pub mod NumberLemmas
+pub mod SizeLemmas
+pub mod ArithmeticLemmas
 pub mod WaitLemmas
 pub mod ResolveLemmas
 pub mod NodeLemmas
@@ -15,3 +21,10 @@ pub mod StateLemmas
 pub mod FoundLemmas
 pub mod NameNodes
 pub mod BeginLemmas
+pub mod WorkLemmas
+pub mod IndexLemmas
+pub mod KnownLemmas
+pub mod PairLemmas
+pub mod RuleLemmas
+pub mod ExistLemmas
+pub mod DefinedLemmas

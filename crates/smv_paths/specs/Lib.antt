@@ -5,8 +5,14 @@ pub mod Graphs
 pub mod Searches
 pub mod Written
 pub mod Mentions
+pub mod Naming
+pub mod Values
 pub mod Nodes
 pub mod Targets
 pub mod Heights
 pub mod Passed
 pub mod Ready
+pub mod Ordered
+pub mod Sound
+pub mod Works
+pub mod Known
