@@ -8,9 +8,10 @@ use Rattle.kripke_model.specs.System.{Variable}
 use Rattle.smv_instances.specs.Program.{Name, Expr, Plain, Form, Section, Module, Program}
 use Rattle.smv_instances.specs.Entries.{Entity, Entry, entries, of_formal, of_declaration, of_definition, of_section, entity_of_form, module_named}
 use Rattle.smv_instances.specs.Instances.{Scope, module_of, spelled, child, children, instances_from, element_names, entry_variables, variables_from, type_values, symbols}
+use Rattle.smv_instantiate.specs.Bodies.{front, inner_variables}
 use Rattle.smv_instantiate.specs.Written.{IsWrittenExpr, IsWrittenType, IsWrittenForm, IsWrittenDeclaration, IsWrittenDefinition, IsWrittenSection, IsWrittenModule}
 use Rattle.smv_instantiate.proofs.Members.{In, all_in, in_split, in_map, in_map_back, in_flat, in_flat_back, in_filter_map, Distinct, Apart, distinct_flat, map-flat_map, flat_map-filter_map}
-use Rattle.smv_instantiate.proofs.NameLemmas.{IsMark, Ends, first_part, atom_clear, front, spelled_front, elements_continue, elements_distinct}
+use Rattle.smv_instantiate.proofs.NameLemmas.{IsMark, Ends, first_part, atom_clear, spelled_front, elements_continue, elements_distinct}
 
 -- ---- written entries
 
@@ -114,11 +115,6 @@ names_of vs = map name_of vs
 pub stored_names : (p : Program) (line : ℕ) (type : Plain) (xs : List Name) → names_of (map (λ x. record { name = x; values = type_values (symbols p) type; line = line }) xs) ≡ xs
 stored_names p line type [] = refl
 stored_names p line type (x ∷ xs) = ap (λ ys. x ∷ ys) (stored_names p line type xs)
-
--- those of the instances one level down
-abbrev pub inner_variables : Program → ℕ → Scope → List Variable
-inner_variables p zero c = []
-inner_variables p (suc n) c = variables_from p n c
 
 pub variables_of_body : (p : Program) (n : ℕ) (s : Scope) → variables_from p n s ≡ flat_map (entry_variables p (inner_variables p n) s) (entries (module_of s))
 variables_of_body p zero s = refl

@@ -16,7 +16,8 @@ use Rattle.smv_instances.specs.Instances.{Scope, module_of, child, children, ins
 use Rattle.smv_instances.specs.Declarations.{variable_count, entry_variable_count, is_instance, one_if, variables_in, instances_in, entries_of, declaration, body}
 use Rattle.smv_instantiate.proofs.Members.{flat_map-filter_map}
 use Rattle.smv_instantiate.proofs.Silence.{silent_first, silent_second, EachAfter, silent_each, after_all}
-use Rattle.smv_instantiate.proofs.BodyLemmas.{inner_variables, variables_of_body}
+use Rattle.smv_instantiate.specs.Bodies.{inner_variables}
+use Rattle.smv_instantiate.proofs.BodyLemmas.{variables_of_body}
 use Rattle.smv_instantiate.proofs.TypeLemmas.{length_rising}
 
 -- ---- sums

@@ -8,6 +8,10 @@ mod TypeLemmas
 mod CountLemmas
 mod TargetLemmas
 mod SizeLemmas
+mod DeclaredLemmas
+mod BodySteps
+mod FrontSteps
+mod ProcessSteps
 mod FlatLemmas
 mod TypeSteps
 mod TypeViews

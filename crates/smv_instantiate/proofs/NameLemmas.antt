@@ -9,6 +9,7 @@ use Rattle.std.proofs.lemmas.Slice.Eq.{bytes_eq-Decides}
 use Rattle.kripke_model.specs.Names.{is_letter, is_name_byte, begins_name, is_tail, has_shape, IsAtom, dotted, bracketed, IsVariableName, IsProcessName}
 use Rattle.smv_instances.specs.Program.{Name, Plain}
 use Rattle.smv_instances.specs.Instances.{Scope, spelled, indexed, rising, between, element_names, selector_name}
+use Rattle.smv_instantiate.specs.Bodies.{front}
 use Rattle.smv_instantiate.specs.Written.{IsWrittenType}
 use Rattle.smv_instantiate.proofs.Members.{Each, In, each_append, all_of_each, each_of_all, in_flat_back, Distinct, Apart, distinct_flat}
 
@@ -68,10 +69,6 @@ not_selector x atom e = false≢true (subst IsAtom e atom)
 -- ---- spelled names
 
 -- what the names of an instance begin with
-abbrev pub front : Scope → Name
-front (Scope.Main m) = []
-front (Scope.Inside around name process actuals m) = spelled around name ++ (46 ∷ [])
-
 pub spelled_front : (s : Scope) (x : Name) → spelled s x ≡ front s ++ x
 spelled_front (Scope.Main m) x = refl
 spelled_front (Scope.Inside around name process actuals m) x = sym (append_assoc (spelled around name) (46 ∷ []) x)

@@ -18,7 +18,8 @@ use Rattle.smv_instantiate.specs.Written.{IsWrittenExpr, AreWritten, AreWrittenA
 use Rattle.smv_instantiate.proofs.Members.{In, all_in, in_map, in_flat, in_flat_back, in_filter, in_right, in_filter_map_back, find_in, not_some, some_same, map-append, map-flat_map}
 use Rattle.smv_instantiate.proofs.TreeLemmas.{declares, HasParent, tree_parent, instances_are}
 use Rattle.smv_instantiate.proofs.NameLemmas.{names_same, rising_has}
-use Rattle.smv_instantiate.proofs.BodyLemmas.{IsWrittenEntry, IsWrittenEntity, written_entry, names_of, name_of, stored_names, inner_variables, variables_of_body}
+use Rattle.smv_instantiate.specs.Bodies.{inner_variables}
+use Rattle.smv_instantiate.proofs.BodyLemmas.{IsWrittenEntry, IsWrittenEntity, written_entry, names_of, name_of, stored_names, variables_of_body}
 use Rattle.smv_instantiate.proofs.TypeLemmas.{place_below}
 
 -- ---- variables of an entry

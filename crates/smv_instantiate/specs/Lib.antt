@@ -5,3 +5,5 @@ pub mod Written
 pub mod Types
 pub mod Items
 pub mod Parsed
+pub mod Bodies
+pub mod Expanded

@@ -1,8 +1,11 @@
 //! From a parsed program to its flat model.
 #![tactic(auto)]
 
+pub mod bodies;
 pub mod fronts;
 pub mod items;
+pub mod operators;
+pub mod processes;
 #[cfg(test)]
 mod tests;
 pub mod types;

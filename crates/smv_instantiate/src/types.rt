@@ -63,7 +63,7 @@ fn enumeration_values(
 }
 
 /// The value of a number as it is written.
-fn number_value(number: u32) -> Value
+pub fn number_value(number: u32) -> Value
     requires { number ≤ 2147483647 }
     ensures { result ≡ Number (pos number) }
 {
