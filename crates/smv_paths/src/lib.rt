@@ -13,3 +13,6 @@ pub mod walk;
 
 pub use resolving::Targets;
 pub use targets::{Bracket, Target};
+
+#[cfg(test)]
+mod tests;
