@@ -1,12 +1,11 @@
 -- The actual parameter for a formal one.
-use Rattle.std.proofs.Common.{◌≡◌, refl, sym, ◌∙◌, ap, subst, ℕ, zero, suc, ◌+◌, ◌<◌, ◌≤◌, arith, List, [], ◌∷◌, ◌++◌, Bool, true, false, not, cond, length, map, flat_map, Option, Some, None}
+use Rattle.std.proofs.Common.{◌≡◌, refl, sym, ◌∙◌, ap, subst, ℕ, zero, suc, ◌+◌, ◌<◌, arith, List, [], ◌∷◌, ◌++◌, Bool, true, false, not, cond, length, map, flat_map, Option, Some, None}
 use Rattle.std.specs.Prelude.{slice_get, find, zip, option_map, option_and_then}
-use Rattle.std.specs.List.{position_or_len}
 use Rattle.std.specs.Str.{bytes_eq}
 use Rattle.std.proofs.lemmas.List.{length-map}
 use Rattle.std.proofs.lemmas.Option.{same_Some}
 use Rattle.std.proofs.lemmas.Slice.Eq.{bytes_eq-Decides}
-use Rattle.smv_instances.specs.Program.{Name, Expr, Path, Formal, Module, Program}
+use Rattle.smv_instances.specs.Program.{Name, Expr, Formal, Module, Program}
 use Rattle.smv_instances.specs.Entries.{Entity, Entry, entries, entity_in, of_formal, of_section}
 use Rattle.smv_instances.specs.Instances.{Scope, module_of, place_of}
 use Rattle.smv_instances.specs.Numbered.{IsFormal}

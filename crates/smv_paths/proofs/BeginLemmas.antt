@@ -1,12 +1,11 @@
 -- The states of formal parameters of which nothing is known.
-use Rattle.std.proofs.Common.{◌≡◌, refl, sym, ◌∙◌, ap, subst, ℕ, zero, suc, ◌+◌, ◌<◌, ◌≤◌, arith, List, [], ◌∷◌, ◌++◌, length, length-append, replicate, Option, Some, None, ◌⊎◌, inl, inr, ⊎_elim, Vec, Global}
+use Rattle.std.proofs.Common.{◌≡◌, refl, sym, ◌∙◌, ap, subst, ℕ, zero, suc, ◌+◌, ◌<◌, arith, List, [], ◌∷◌, ◌++◌, length, length-append, replicate, Some, None, ⊎_elim, Vec, Global}
 use Rattle.std.specs.Prelude.{slice_get, option_and_then}
 use Rattle.std.proofs.lemmas.List.{length-replicate}
 use Rattle.std.proofs.lemmas.Option.{same_Some, slice_get_within}
 use Rattle.smv_instances.specs.Program.{Program}
 use Rattle.smv_instances.specs.Instances.{Scope, module_of, instances}
 use Rattle.smv_instances.specs.Numbered.{scope_at}
-use Rattle.smv_paths.specs.declared.targets.Target.{Target as Held}
 use Rattle.smv_paths.specs.declared.states.Parameter.{Parameter}
 use Rattle.smv_paths.specs.declared.states.State.{State}
 use Rattle.smv_paths.specs.declared.states.State.TheVariants as state

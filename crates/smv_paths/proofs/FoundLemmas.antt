@@ -1,27 +1,24 @@
 -- What the names that a module declares lead to.
-use Rattle.std.proofs.Common.{◌≡◌, refl, sym, ◌∙◌, ap, subst, ℕ, List, [], Bool, false, Option, Some, None}
+use Rattle.std.proofs.Common.{◌≡◌, refl, sym, ◌∙◌, ap, subst, ℕ, [], false, Some, None}
 use Rattle.std.specs.Prelude.{slice_get, option_map, option_and_then}
 use Rattle.std.proofs.lemmas.Option.{same_Some}
 use Rattle.smv_instances.specs.declared.found.Found.TheVariants as found
 use Rattle.smv_instances.specs.Program.{Name, Expr, Path, Plain, Program}
-use Rattle.smv_instances.specs.Entries.{Entity, Entry, entries, entity_in, module_named}
+use Rattle.smv_instances.specs.Entries.{Entity, Entry, entity_in}
 use Rattle.smv_instances.specs.Instances.{Scope, module_of, all_entries}
 use Rattle.smv_instances.specs.Numbered.{scope_at, IsFound, IsChild, IsActual, actuals_of}
-use Rattle.smv_instances.specs.Built.{IsEntryOf}
 use Rattle.smv_paths.specs.declared.targets.Target.{Target as Held}
-use Rattle.smv_paths.specs.declared.targets.Target.TheVariants as held
 use Rattle.smv_paths.specs.declared.states.Parameter.{Parameter}
 use Rattle.smv_paths.specs.declared.states.States.{States}
 use Rattle.smv_paths.specs.declared.walk.Outcome.TheVariants as outcome
 use Rattle.smv_paths.specs.Written.{is_path}
 use Rattle.smv_paths.specs.Denotes.{Target, Meaning, Finds, meaning, meaning_of, bare, passed, actual_of}
-use Rattle.smv_paths.specs.Abbreviations.{Abbreviation, text_of}
+use Rattle.smv_paths.specs.Abbreviations.{text_of}
 use Rattle.smv_paths.specs.Nodes.{IsNode, abbreviation_at}
-use Rattle.smv_paths.specs.Targets.{IsTarget, IsText, LeadsTo}
-use Rattle.smv_paths.specs.Passed.{IsDecided, IsParameter, Finding}
-use Rattle.smv_paths.specs.Ready.{HasMeaning}
+use Rattle.smv_paths.specs.Targets.{IsTarget, IsText}
+use Rattle.smv_paths.specs.Passed.{IsDecided, Finding}
 use Rattle.smv_paths.proofs.WaitLemmas.{IsPassed, decided_none}
-use Rattle.smv_paths.proofs.ActualLemmas.{actual_for, parameter_meaning, passed_expr, IsFormalEntry, formal_entry}
+use Rattle.smv_paths.proofs.ActualLemmas.{actual_for, parameter_meaning, passed_expr, formal_entry}
 
 -- ---- formal parameters
 

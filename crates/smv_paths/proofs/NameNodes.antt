@@ -1,12 +1,12 @@
 -- The abbreviation that a path names.
-use Rattle.std.proofs.Common.{◌≡◌, refl, sym, ◌∙◌, ap, subst, ℕ, Bool, true, false, Option, Some, None}
+use Rattle.std.proofs.Common.{◌≡◌, refl, ◌∙◌, ap, subst, ℕ, Bool, true, false, Option, Some, None}
 use Rattle.smv_parser.specs.declared.expressions.PathPart.{PathPart, Field, Index'}
 use Rattle.smv_instances.specs.Program.{Name, Path, Program}
 use Rattle.smv_instances.specs.Instances.{Scope}
 use Rattle.smv_paths.specs.declared.targets.Target.{Target as Held}
 use Rattle.smv_paths.specs.declared.targets.Target.TheVariants as held
 use Rattle.smv_paths.specs.Denotes.{Target, Denotes}
-use Rattle.smv_paths.specs.Abbreviations.{Abbreviation, Names, text_of}
+use Rattle.smv_paths.specs.Abbreviations.{Abbreviation, text_of}
 use Rattle.smv_paths.specs.Written.{extended}
 use Rattle.smv_paths.specs.Targets.{IsTarget, Resolves}
 use Rattle.smv_paths.specs.Ready.{IsNamed, LeadsInto, NamesNode}

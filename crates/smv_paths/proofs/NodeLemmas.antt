@@ -1,6 +1,6 @@
 -- Entries by their places among all entries.
-use Rattle.std.proofs.Common.{◌≡◌, refl, sym, ◌∙◌, ap, ℕ, zero, suc, ◌+◌, ◌<◌, ◌≤◌, arith, List, [], ◌∷◌, ◌++◌, length, map, flat_map, take, length-append, append-nil, get_or, Option, Some, None, ◌⊎◌, inl, inr}
-use Rattle.std.specs.Prelude.{slice_get, slice_index, option_map}
+use Rattle.std.proofs.Common.{◌≡◌, refl, sym, ◌∙◌, ap, ℕ, zero, suc, ◌+◌, ◌<◌, arith, List, [], ◌∷◌, ◌++◌, length, map, flat_map, take, length-append, append-nil, get_or, Option, Some, None, ◌⊎◌, inl, inr}
+use Rattle.std.specs.Prelude.{slice_get, slice_index}
 use Rattle.std.proofs.lemmas.List.{length-map, take_more, get_or_append_left}
 use Rattle.std.proofs.Math.Seq.{get_or-append_seam}
 use Rattle.std.proofs.lemmas.Grind.{flat_map-append}
@@ -10,7 +10,7 @@ use Rattle.smv_instances.specs.Entries.{Entry, entries}
 use Rattle.smv_instances.specs.Instances.{Scope, module_of, all_entries, instances}
 use Rattle.smv_instances.proofs.ListSteps.{take_whole}
 use Rattle.smv_paths.specs.declared.nodes.Nodes.{Nodes}
-use Rattle.smv_paths.specs.Nodes.{placed_entries, entries_before, AreNodes, IsNode}
+use Rattle.smv_paths.specs.Nodes.{placed_entries, entries_before, AreNodes}
 
 pub mapped_get : {A B : Type 0} (f : A → B) (xs : List A) (k : ℕ) (x : A) → slice_get xs k ≡ Some x → slice_get (map f xs) k ≡ Some (f x)
 mapped_get f [] k x at = absurd (let none : None ≡ Some x = at in cc)

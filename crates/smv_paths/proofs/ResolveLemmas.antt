@@ -1,5 +1,5 @@
 -- What a path denotes, part by part, as far as it is known what the formal parameters lead to.
-use Rattle.std.proofs.Common.{◌≡◌, refl, sym, ◌∙◌, ap, subst, ℕ, zero, suc, ◌+◌, ◌≤◌, arith, List, [], ◌∷◌, ◌++◌, reverse, Bool, true, false, Option, Some, None}
+use Rattle.std.proofs.Common.{◌≡◌, refl, sym, ◌∙◌, ap, subst, ℕ, ◌≤◌, arith, List, [], ◌∷◌, ◌++◌, reverse, Bool, true, false, Option, Some, None}
 use Rattle.std.specs.Prelude.{IsTrue, Result, Ok, Err, IfOk}
 use Rattle.std.proofs.lemmas.Grind.{reverse_onto}
 use Rattle.smv_parser.specs.declared.expressions.PathPart.{PathPart, Field, Index'}
@@ -19,9 +19,9 @@ use Rattle.smv_paths.specs.declared.walk.Outcome.TheVariants as outcome
 use Rattle.smv_paths.specs.Written.{extended}
 use Rattle.smv_paths.specs.Expands.{is_array}
 use Rattle.smv_paths.specs.Denotes.{Bracket, Target, Meaning, Denotes, Finds, meaning}
-use Rattle.smv_paths.specs.Heights.{finds_height, denotes_height, FindsWithin, DenotesWithin}
-use Rattle.smv_paths.specs.Targets.{IsBracket, AreBrackets, IsTarget, Resolves, LeadsTo}
-use Rattle.smv_paths.specs.Passed.{AreDecided, Deciding, LeadsWithin, IsOpen, Finding, Walking}
+use Rattle.smv_paths.specs.Heights.{denotes_height, FindsWithin}
+use Rattle.smv_paths.specs.Targets.{IsBracket, AreBrackets, IsTarget, Resolves}
+use Rattle.smv_paths.specs.Passed.{AreDecided, Deciding, LeadsWithin, Finding, Walking}
 use Rattle.smv_paths.proofs.Once.{denotes_one}
 use Rattle.smv_paths.proofs.WaitLemmas.{IsPassed, decided_by_path}
 

@@ -1,10 +1,10 @@
 -- The states of formal parameters as they change.
-use Rattle.std.proofs.Common.{◌≡◌, ◌≢◌, refl, sym, ◌∙◌, ap, subst, ℕ, zero, suc, ◌+◌, ◌*◌, ◌-◌, ◌<◌, ◌≤◌, arith, List, [], ◌∷◌, ◌++◌, Bool, true, false, length, length-append, get_or, Option, Some, None, ◌⊎◌, inl, inr, ⊎_elim, Vec, Global}
+use Rattle.std.proofs.Common.{◌≡◌, ◌≢◌, refl, sym, ◌∙◌, ap, subst, ℕ, zero, suc, ◌+◌, ◌-◌, ◌<◌, ◌≤◌, arith, List, [], ◌∷◌, ◌++◌, Bool, true, false, length, length-append, Option, Some, None, ◌⊎◌, inl, inr, ⊎_elim, Vec, Global}
 use Rattle.std.specs.Prelude.{slice_get, slice_set, sum_by, option_and_then, Result, Ok, Err, OnOk}
 use Rattle.std.proofs.Math.ListN.{length-set}
 use Rattle.std.proofs.lemmas.List.Sums.{sum_by-set}
 use Rattle.std.proofs.lemmas.Option.{same_Some, slice_get_within, get_or_from_slice_get}
-use Rattle.smv_instances.specs.Program.{Name, Program}
+use Rattle.smv_instances.specs.Program.{Program}
 use Rattle.smv_instances.specs.Instances.{Scope, instances}
 use Rattle.smv_instances.specs.Numbered.{scope_at}
 use Rattle.smv_paths.specs.declared.targets.Target.{Target as Held}
@@ -12,7 +12,7 @@ use Rattle.smv_paths.specs.declared.states.Parameter.{Parameter}
 use Rattle.smv_paths.specs.declared.states.State.{State}
 use Rattle.smv_paths.specs.declared.states.State.TheVariants as state
 use Rattle.smv_paths.specs.declared.states.States.{States}
-use Rattle.smv_paths.specs.Passed.{IsParameter, IsDecided, IsOpen, AreStates, AreIdle, AreLost, HoldsWaiting, Keeps, KeepsStack, Settles, Sets, Steps, WaitsFor, state_at, one_unseen, unseen_count}
+use Rattle.smv_paths.specs.Passed.{IsDecided, AreStates, AreIdle, AreLost, HoldsWaiting, Keeps, KeepsStack, Settles, Sets, Steps, WaitsFor, state_at, one_unseen, unseen_count}
 use Rattle.smv_paths.proofs.WaitLemmas.{circle, member_at}
 
 -- ---- lists

@@ -1,5 +1,5 @@
 -- Formal parameters that wait for one another lead nowhere.
-use Rattle.std.proofs.Common.{◌≡◌, refl, sym, ◌∙◌, ap, subst, ℕ, zero, suc, ◌+◌, ◌-◌, ◌<◌, ◌≤◌, arith, List, [], ◌∷◌, length, Option, Some, None, ◌⊎◌, inl, inr, ⊎_elim}
+use Rattle.std.proofs.Common.{◌≡◌, refl, sym, ◌∙◌, ap, subst, ℕ, zero, suc, ◌+◌, ◌-◌, ◌<◌, ◌≤◌, arith, List, [], ◌∷◌, length, Option, Some, None, ◌⊎◌, inl, inr}
 use Rattle.std.specs.Prelude.{slice_get}
 use Rattle.std.proofs.lemmas.Option.{same_Some, slice_get_within}
 use Rattle.smv_instances.specs.Program.{Name, Path, Program}
@@ -9,10 +9,10 @@ use Rattle.smv_paths.specs.declared.states.States.{States}
 use Rattle.smv_paths.specs.declared.targets.Target.{Target as Held}
 use Rattle.smv_paths.specs.declared.walk.Outcome.{Outcome}
 use Rattle.smv_paths.specs.declared.walk.Outcome.TheVariants as outcome
-use Rattle.smv_paths.specs.Denotes.{Target, Meaning, Denotes, Finds, meaning}
+use Rattle.smv_paths.specs.Denotes.{Target, Meaning, Finds, meaning}
 use Rattle.smv_paths.specs.Heights.{finds_height, denotes_height, FindsWithin, DenotesWithin}
-use Rattle.smv_paths.specs.Targets.{IsTarget, Resolves, LeadsTo}
-use Rattle.smv_paths.specs.Passed.{IsParameter, LeadsWithin, WaitsFor, IsDecided, IsOpen, Walking, Deciding, KeepsStack}
+use Rattle.smv_paths.specs.Targets.{IsTarget}
+use Rattle.smv_paths.specs.Passed.{IsParameter, LeadsWithin, WaitsFor, IsDecided, Walking, Deciding, KeepsStack}
 
 pub member_at : {A : Type 0} (xs : List A) (k : ℕ) → k < length xs → (x : A) × (slice_get xs k ≡ Some x)
 member_at [] k lt = absurd (omega arith)

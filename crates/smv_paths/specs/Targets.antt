@@ -1,5 +1,5 @@
 -- What the code says that a path denotes.
-use Rattle.std.specs.Prelude.{◌≡◌, ℕ, List, reverse, Option, Some, None, slice_get}
+use Rattle.std.specs.Prelude.{◌≡◌, ℕ, List, reverse, Option, Some, None}
 use Rattle.smv_paths.specs.declared.targets.Bracket.{Bracket as Held}
 use Rattle.smv_paths.specs.declared.targets.Target.{Target as Code}
 use Rattle.smv_paths.specs.declared.targets.Target.TheVariants as held

@@ -15,3 +15,6 @@ pub mod walk;
 
 pub use resolving::Targets;
 pub use targets::{Bracket, Target};
+
+#[cfg(test)]
+mod tests;

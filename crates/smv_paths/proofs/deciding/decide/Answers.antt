@@ -1,10 +1,8 @@
 use Rattle.std.proofs.Common.{◌≡◌, ◌<◌, ◌+◌, ◌*◌, ◌∷◌, ◌++◌, [], refl, sym, ◌∙◌, ap, subst, arith, length, length-append, List, Some, vec_len}
-use Rattle.std.proofs.lemmas.Option.{slice_get_within}
 use Rattle.smv_instances.specs.Program.{Program}
 use Rattle.smv_paths.specs.declared.nodes.Nodes.{Nodes}
 use Rattle.smv_paths.specs.declared.states.Parameter.{Parameter}
 use Rattle.smv_paths.specs.declared.states.State.TheVariants as state
-use Rattle.smv_paths.specs.declared.states.States.{States}
 use Rattle.smv_paths.specs.Nodes.{AreNodes}
 use Rattle.smv_paths.specs.Passed.{KeepsStack, unseen_count}
 use Rattle.smv_paths.specs.Ready.{AreStarted}

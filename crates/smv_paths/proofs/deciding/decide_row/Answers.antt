@@ -1,5 +1,4 @@
 use Rattle.std.proofs.Common.{◌≡◌, ◌<◌, sym, ◌∙◌, ap, arith, ℕ, Some}
-use Rattle.smv_paths.specs.declared.states.Parameter.{Parameter}
 use Rattle.smv_paths.specs.declared.states.State.TheVariants as state
 use Rattle.smv_paths.specs.Passed.{state_at}
 use Rattle.smv_paths.proofs.deciding.decide_row.Goals as goal

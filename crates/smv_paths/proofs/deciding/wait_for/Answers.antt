@@ -1,4 +1,4 @@
-use Rattle.std.proofs.Common.{◌≡◌, ◌∷◌, ◌++◌, ◌+◌, [], sym, ◌∙◌, ap, subst, length, List, Some, true, false, ◌⊎◌, inl, inr, Bool}
+use Rattle.std.proofs.Common.{◌≡◌, ◌∷◌, ◌++◌, ◌+◌, [], sym, ◌∙◌, ap, subst, length, List, Some, true, false, inl, inr, Bool}
 use Rattle.smv_paths.specs.declared.states.Parameter.{Parameter}
 use Rattle.smv_paths.specs.declared.states.State.TheVariants as state
 use Rattle.smv_paths.specs.declared.states.States.{States}

@@ -1,4 +1,4 @@
-use Rattle.std.proofs.Common.{◌≡◌, ◌≤◌, ◌-◌, length, replicate, vec_len}
+use Rattle.std.proofs.Common.{◌≡◌, ◌≤◌, ◌-◌, length, replicate}
 use Rattle.smv_paths.specs.declared.states.State.TheVariants as state
 use Rattle.smv_paths.proofs.states.unseen_row.Given as goal
 

@@ -1,4 +1,4 @@
-use Rattle.std.proofs.Common.{◌≡◌, sym, ◌∙◌, ap, refl, false}
+use Rattle.std.proofs.Common.{◌≡◌, sym, ◌∙◌, ap, false}
 use Rattle.std.proofs.lemmas.Option.{slice_get_within}
 use Rattle.smv_instances.specs.Program.{Expr}
 use Rattle.smv_instances.specs.Plain.{plain_expr}

@@ -1,4 +1,4 @@
-use Rattle.std.proofs.Common.{◌≡◌, refl, sym, ◌∙◌, ap, subst, Bool, true, false, Some}
+use Rattle.std.proofs.Common.{◌≡◌, refl, ◌∙◌, ap, subst, false, Some}
 use Rattle.smv_instances.specs.Plain.{plain_expr}
 use Rattle.smv_paths.specs.declared.targets.Bracket.{Bracket}
 use Rattle.smv_paths.specs.declared.targets.Target.{Target as Held}

@@ -1,7 +1,6 @@
 use Rattle.std.proofs.Common.{subst, Some}
 use Rattle.std.proofs.lemmas.Option.{slice_get_within}
-use Rattle.smv_instances.specs.Program.{Path, Program}
-use Rattle.smv_instances.specs.Instances.{Scope, instances}
+use Rattle.smv_instances.specs.Instances.{instances}
 use Rattle.smv_paths.specs.declared.targets.Target.{Target as Held}
 use Rattle.smv_paths.specs.declared.walk.Outcome.TheVariants as outcome
 use Rattle.smv_paths.specs.Targets.{Resolves}

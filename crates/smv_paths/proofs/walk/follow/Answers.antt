@@ -1,9 +1,9 @@
-use Rattle.std.proofs.Common.{◌≡◌, sym, subst, IfOk}
+use Rattle.std.proofs.Common.{sym, subst, IfOk}
 use Rattle.smv_parser.specs.declared.expressions.PathPart.{PathPart}
 use Rattle.smv_paths.specs.declared.walk.Outcome.{Outcome}
 use Rattle.smv_paths.specs.Written.{extended}
 use Rattle.smv_paths.specs.Passed.{Walking}
-use Rattle.smv_paths.proofs.ResolveLemmas.{front_nothing, front_needs}
+use Rattle.smv_paths.proofs.ResolveLemmas.{front_needs}
 use Rattle.smv_paths.proofs.walk.follow.Goals as goal
 
 pub returns-in-Needs : goal.returns-in-Needs

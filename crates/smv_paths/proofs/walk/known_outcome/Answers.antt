@@ -1,4 +1,4 @@
-use Rattle.std.proofs.Common.{◌≡◌, ap, subst, Option, Some, None}
+use Rattle.std.proofs.Common.{subst, Option}
 use Rattle.smv_paths.specs.declared.targets.Target.{Target as Held}
 use Rattle.smv_paths.specs.Targets.{LeadsTo}
 use Rattle.smv_paths.proofs.walk.known_outcome.Goals as goal

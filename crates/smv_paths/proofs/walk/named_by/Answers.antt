@@ -1,4 +1,4 @@
-use Rattle.std.proofs.Common.{◌≡◌, ◌∷◌, ◌++◌, [], sym, ◌∙◌, ap, subst, ℕ, List, Option, Some, None}
+use Rattle.std.proofs.Common.{◌≡◌, ◌∷◌, ◌++◌, [], sym, ◌∙◌, ap, subst, ℕ, List, Option, None}
 use Rattle.std.proofs.lemmas.Option.{slice_get_within}
 use Rattle.smv_parser.specs.declared.expressions.PathPart.{PathPart}
 use Rattle.smv_instances.specs.Program.{Path}

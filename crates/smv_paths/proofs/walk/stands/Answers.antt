@@ -1,4 +1,4 @@
-use Rattle.std.proofs.Common.{subst, List}
+use Rattle.std.proofs.Common.{subst}
 use Rattle.smv_instances.specs.declared.found.Found.{Found}
 use Rattle.smv_instances.specs.Plain.{plain_expr, plain_type}
 use Rattle.smv_instances.specs.Numbered.{IsFound}

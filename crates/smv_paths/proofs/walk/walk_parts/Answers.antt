@@ -1,4 +1,4 @@
-use Rattle.std.proofs.Common.{◌≡◌, ◌<◌, ◌+◌, sym, ◌∙◌, ap, subst, take, length, arith}
+use Rattle.std.proofs.Common.{◌≡◌, sym, subst, take}
 use Rattle.smv_instances.specs.Program.{Path}
 use Rattle.smv_instances.specs.Instances.{instances}
 use Rattle.smv_instances.proofs.ListSteps.{take_whole}
