@@ -1,15 +1,17 @@
 -- What follows from the answer to a command.
-use Rattle.std.proofs.Common.{◌≡◌, ◌≢◌, ◌⊎◌, ◌∙◌, inl, inr, ℕ, zero, suc, List, [], ◌∷◌, ◌++◌, take, Option, Some, IfSome, refl, sym, ap, subst, arith, Bool, true, false, if◌then◌else◌}
+use Rattle.std.proofs.Common.{◌≡◌, ◌≢◌, ◌⊎◌, ◌∙◌, inl, inr, ℕ, zero, suc, List, [], ◌∷◌, take, Option, Some, IfSome, refl, sym, ap, subst, arith, Bool, true, false, if◌then◌else◌}
 use Rattle.std.specs.List.{list_any}
 use Rattle.kripke_model.specs.System.{System}
 use Rattle.smv_outside.specs.Contents.{Contents, bytes_under}
 use Rattle.smv_session.specs.declared.status.Status.{Status}
 use Rattle.smv_session.specs.declared.status.Status.TheVariants.{Clear, Failed, ModelRefused, OutsideFault, Usage, Memory}
-use Rattle.smv_session.specs.Texts.{usage_text, Refusal, NotBuilt, refusal_line, Fault, LoadFailed, LoadMissing, fault_line}
+use Rattle.smv_session.specs.Texts.{usage_text, Fault, LoadFailed, LoadMissing, fault_line}
+use Rattle.smv_session.specs.Refusals.{Refusal, Refuses, refusal_line}
+use Rattle.smv_session.specs.Source.{IsAccepted}
 use Rattle.smv_session.specs.Words as words
 use Rattle.smv_session.specs.Words.{Command, Check}
-use Rattle.smv_session.specs.Report.{Finding, report, is_false, finding_lines, numbered}
-use Rattle.smv_session.specs.Answers.{Answers, IsAccepted, IsModelAnswer, IsReported, Refuses, status_of}
+use Rattle.smv_session.specs.Report.{Finding, report, is_false}
+use Rattle.smv_session.specs.Answers.{Answers, IsModelAnswer, IsReported, status_of}
 
 -- a report ends well or badly
 status_of_report : (fs : List Finding) → (status_of fs ≡ Clear) ⊎ (status_of fs ≡ Failed)
@@ -78,44 +80,41 @@ module _ (contents : Option Contents) (text : List ℕ) (status : Status) where
     | inr report ↦ absurd (no_refusal answers.0 text status report is)
   ]
 
--- one refusal applies at most
-one_refusal : (first second : Refusal) → first ≡ second
-one_refusal NotBuilt NotBuilt = refl
+-- a text has one model at most, or is refused for one reason
+pub record OneAnswer : Type 0 where
+  pub model : (bytes : List ℕ) (m n : System) → IsAccepted bytes m → IsAccepted bytes n → m ≡ n
+  pub refusal : (bytes : List ℕ) (r q : Refusal) → Refuses bytes r → Refuses bytes q → r ≡ q
+  pub model_or_refusal : (bytes : List ℕ) (m : System) (r : Refusal) → IsAccepted bytes m → Refuses bytes r → ⊥
 
-pub refused_always : (text : List ℕ) (status : Status) (command : Command) (files : Contents) (model bytes : List ℕ) (refusal : Refusal) → Answers command (Some files) text status
-    → command ≡ Check model → bytes_under files model ≡ Some bytes → Refuses bytes refusal → (status ≡ ModelRefused) × (text ≡ refusal_line refusal)
-refused_always text status words.Usage files model bytes refusal answers is there applies = cc
-refused_always text status (Check name) files model bytes refusal answers is there applies = elim answers.2 [
-  | inl line ↦ (line.status_is, line.text_is ∙ ap refusal_line (one_refusal line.refusal refusal))
-  | inr report ↦ absurd (no_refused refusal (subst (λ b. Refuses b refusal) (same_bytes files model name bytes answers.0 is there answers.1) applies) report)
-]
-  where
-    same_bytes : (files : Contents) (model name bytes found : List ℕ) → Check name ≡ Check model → bytes_under files model ≡ Some bytes → bytes_under files name ≡ Some found → bytes ≡ found
-    same_bytes files model name bytes found is there other =
-        let e : name ≡ model = cc in
-        let f : bytes_under files model ≡ Some found = subst (λ n. bytes_under files n ≡ Some found) e other in
-        cc
+-- the contents have one list of bytes under a name
+same_bytes : (files : Contents) (model name bytes found : List ℕ) → Check name ≡ Check model → bytes_under files model ≡ Some bytes → bytes_under files name ≡ Some found → bytes ≡ found
+same_bytes files model name bytes found is there other =
+    let e : name ≡ model = cc in
+    let f : bytes_under files model ≡ Some found = subst (λ n. bytes_under files n ≡ Some found) e other in
+    cc
 
-    no_refused : {bytes text : List ℕ} {status : Status} (refusal : Refusal) → Refuses bytes refusal → IsReported bytes text status → ⊥
-    no_refused NotBuilt applies report = applies report.model report.accepted
+module _ (one : OneAnswer) where
+  pub refused_always : (text : List ℕ) (status : Status) (command : Command) (files : Contents) (model bytes : List ℕ) (refusal : Refusal) → Answers command (Some files) text status
+      → command ≡ Check model → bytes_under files model ≡ Some bytes → Refuses bytes refusal → (status ≡ ModelRefused) × (text ≡ refusal_line refusal)
+  refused_always text status words.Usage files model bytes refusal answers is there applies = cc
+  refused_always text status (Check name) files model bytes refusal answers is there applies =
+      let same : bytes ≡ answers.0 = same_bytes files model name bytes answers.0 is there answers.1 in
+      let here : Refuses answers.0 refusal = subst (λ b. Refuses b refusal) same applies in
+      elim answers.2 [
+        | inl line ↦ (line.status_is, line.text_is ∙ ap refusal_line (one.refusal answers.0 line.refusal refusal line.applies here))
+        | inr report ↦ absurd (one.model_or_refusal answers.0 report.model refusal report.accepted here)
+      ]
 
--- an accepted model is reported
-pub reported : (text : List ℕ) (status : Status) (command : Command) (files : Contents) (model bytes : List ℕ) (m : System) → Answers command (Some files) text status
-    → command ≡ Check model → bytes_under files model ≡ Some bytes → IsAccepted bytes m → (r : IsReported bytes text status) × (r.model ≡ m)
-reported text status words.Usage files model bytes m answers is there accepted = cc
-reported text status (Check name) files model bytes m answers is there accepted = elim answers.2 [
-  | inl line ↦ absurd (taken line.refusal (subst (λ b. Refuses b line.refusal) (sym same) line.applies))
-  | inr report ↦ (let r : IsReported bytes text status = subst (λ b. IsReported b text status) (sym same) report in (r, r.only m accepted))
-]
-  where
-    same : bytes ≡ answers.0
-    same =
-        let e : name ≡ model = cc in
-        let f : bytes_under files model ≡ Some answers.0 = subst (λ n. bytes_under files n ≡ Some answers.0) e answers.1 in
-        cc
-
-    taken : (refusal : Refusal) → Refuses bytes refusal → ⊥
-    taken NotBuilt applies = applies m accepted
+  -- an accepted model is reported
+  pub reported : (text : List ℕ) (status : Status) (command : Command) (files : Contents) (model bytes : List ℕ) (m : System) → Answers command (Some files) text status
+      → command ≡ Check model → bytes_under files model ≡ Some bytes → IsAccepted bytes m → (r : IsReported bytes text status) × (r.model ≡ m)
+  reported text status words.Usage files model bytes m answers is there accepted = cc
+  reported text status (Check name) files model bytes m answers is there accepted =
+      let same : bytes ≡ answers.0 = same_bytes files model name bytes answers.0 is there answers.1 in
+      elim answers.2 [
+        | inl line ↦ absurd (one.model_or_refusal bytes m line.refusal accepted (subst (λ b. Refuses b line.refusal) (sym same) line.applies))
+        | inr report ↦ (let r : IsReported bytes text status = subst (λ b. IsReported b text status) (sym same) report in (r, one.model bytes r.model m r.accepted accepted))
+      ]
 
 -- what is answered well or badly is a report
 pub report_only : (contents : Option Contents) (text : List ℕ) (status : Status) (command : Command) → Answers command contents text status
@@ -136,7 +135,7 @@ begins (suc n) byte rest LoadFailed other is = other cc
 begins (suc n) byte rest LoadMissing other is = other cc
 
 no_line_refused : (n : ℕ) (refusal : Refusal) (fault : Fault) → take n (refusal_line refusal) ≢ fault_line fault
-no_line_refused n NotBuilt fault = begins n 114 _ fault (λ is. absurd (omega arith))
+no_line_refused n refusal fault = begins n 114 _ fault (λ is. absurd (omega arith))
 
 no_line_report : (m : System) (fs : List Finding) (n : ℕ) (fault : Fault) → take n (report m fs) ≢ fault_line fault
 no_line_report m [] n fault = begins n 116 _ fault (λ is. absurd (omega arith))

@@ -1,15 +1,15 @@
 -- A small model's specification, decided by the set of the states from which a violation is reached.
-use Rattle.std.proofs.Common.{◌≡◌, ◌∙◌, ◌⊎◌, inl, inr, List, [], ◌∷◌, Some, None, refl, sym, subst, ap, Bool, true, false}
+use Rattle.std.proofs.Common.{◌≡◌, ◌⊎◌, inl, inr, [], ◌∷◌, Some, None, refl, sym, subst, ap, Bool, true, false}
 use Rattle.std.specs.Prelude.{IsTrue}
 use Rattle.kripke_model.specs.declared.expressions.PathOp.{PathOp}
 use Rattle.kripke_model.specs.Term.{Term}
-use Rattle.kripke_model.specs.Ctl.{Ctl, formula_of}
-use Rattle.kripke_model.specs.System.{System, State, Condition}
-use Rattle.kripke_model.specs.Step.{IsState, Initial}
+use Rattle.kripke_model.specs.Ctl.{Ctl}
+use Rattle.kripke_model.specs.System.{System, State}
+use Rattle.kripke_model.specs.Step.{IsState}
 use Rattle.kripke_model.specs.Truth.{Sat, Initials}
 use Rattle.kripke_model.specs.Evaluable.{IsEvaluable}
 use Rattle.kripke_model.specs.Small.{IsInvariant}
-use Rattle.kripke_model.specs.Order.{IsLeast, IsBefore}
+use Rattle.kripke_model.specs.Order.{IsLeast}
 use Rattle.kripke_model.proofs.FairLemmas.{evaluable_leaf}
 use Rattle.path_laws.specs.StateSet.{StateSet, ◌∈◌}
 use Rattle.path_laws.specs.Reach.{IsBackwardReach}
@@ -19,7 +19,7 @@ use Rattle.tree_engine.specs.declared.decide.Verdict.{Verdict}
 use Rattle.tree_engine.specs.declared.decide.Verdict.TheVariants as verdicts
 use Rattle.tree_engine.specs.Decision.{IsDecided, Refutes, shown}
 use Rattle.smv_session.specs.Found.{outcome_told}
-use Rattle.smv_session.specs.Report.{Outcome, True, False, Finding}
+use Rattle.smv_session.specs.Report.{Outcome, Finding}
 use Rattle.smv_session.specs.Verdicts.{EachFinding, AreVerdicts, ShowStates, Fails, IsVerdict, ShowsState}
 
 inside_or_not : (B : StateSet) (s : State) → (s ∈ B) ⊎ (s ∈ B → ⊥)

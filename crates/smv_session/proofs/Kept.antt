@@ -12,10 +12,10 @@ use Rattle.smv_session.specs.Words.{Command, command_of}
 use Rattle.kripke_model.specs.System.{System}
 use Rattle.smv_session.specs.Report.{Finding, report}
 use Rattle.smv_session.specs.Verdicts.{AreVerdicts, ShowStates}
-use Rattle.smv_session.specs.Answers.{Answers, Loads, IsReported, status_of}
+use Rattle.smv_session.specs.Answers.{Answers, Loads, status_of}
 use Rattle.smv_session.specs.Foreseen.{Foresees, Came}
 use Rattle.smv_session.specs.Session.{Session, FilesRose, FilesGrew, FilesWereAtLast, Puts, PutsPrefix, TellsText, AnswersUsage, RefusesModels, FaultHasCause, FaultLinesHaveCause, CutsOffAnswer, MemoryChangesNothing, IsUndisturbed, Checks, ReportsVerdicts, ShowsStates, ReportHasStatus}
-use Rattle.smv_session.proofs.Answered.{no_fault, no_memory, usage_only, usage_always, refused_only, refused_always, no_line, reported, report_only}
+use Rattle.smv_session.proofs.Answered.{OneAnswer, no_fault, no_memory, usage_only, usage_always, refused_only, refused_always, no_line, reported, report_only}
 use Rattle.smv_session.proofs.PutText.{told_text, same_line}
 
 -- the whole of a text is a prefix of it
@@ -101,8 +101,8 @@ module _ (s : Session) (text : List ℕ) (status : Status) (foreseen : Foresees 
       ];
     }
 
-    pub refused : RefusesModels s
-    refused = record {
+    pub refused : OneAnswer → RefusesModels s
+    refused one = record {
       only = λ refused. elim foreseen [
         | inl answer ↦
             let found = refused_only s.contents text status (command_of s.words) answer.answer (sym is ∙ refused) in
@@ -112,19 +112,19 @@ module _ (s : Session) (text : List ℕ) (status : Status) (foreseen : Foresees 
       always = λ undisturbed files model bytes refusal tells asked there applies. elim foreseen [
         | inl answer ↦
             let answers = subst (λ contents. Answers (command_of s.words) contents text status) tells answer.answer in
-            let found = refused_always text status (command_of s.words) files model bytes refusal answers asked there applies in
+            let found = refused_always one text status (command_of s.words) files model bytes refusal answers asked there applies in
             (is ∙ found.0, subst (Puts s) found.1 puts)
         | inr told ↦ absurd (undisturbed.files (rose told.fault told.name told.came))
       ];
     }
 
     -- the report of a model that is checked
-    report_of : IsUndisturbed s → (m : System) → Checks s m
+    report_of : OneAnswer → IsUndisturbed s → (m : System) → Checks s m
         → (fs : List Finding) × Puts s (report m fs) × AreVerdicts m fs × ShowStates m fs × (s.status ≡ status_of fs)
-    report_of undisturbed m checks = elim foreseen [
+    report_of one undisturbed m checks = elim foreseen [
       | inl answer ↦
           let answers = subst (λ contents. Answers (command_of s.words) contents text status) checks.told answer.answer in
-          let r = reported text status (command_of s.words) checks.files checks.name checks.bytes m answers checks.asked checks.there checks.accepted in (
+          let r = reported one text status (command_of s.words) checks.files checks.name checks.bytes m answers checks.asked checks.there checks.accepted in (
             r.0.reports.findings,
             subst (λ n. Puts s (report n r.0.reports.findings)) r.1 (subst (Puts s) r.0.reports.text_is puts),
             subst (λ n. AreVerdicts n r.0.reports.findings) r.1 r.0.reports.verdicts,
@@ -134,15 +134,15 @@ module _ (s : Session) (text : List ℕ) (status : Status) (foreseen : Foresees 
       | inr told ↦ absurd (undisturbed.files (rose told.fault told.name told.came))
     ]
 
-    pub verdicts : ReportsVerdicts s
-    verdicts = record { reports = λ undisturbed m checks. let r = report_of undisturbed m checks in (r.0, r.1, r.2) }
+    pub verdicts : OneAnswer → ReportsVerdicts s
+    verdicts one = record { reports = λ undisturbed m checks. let r = report_of one undisturbed m checks in (r.0, r.1, r.2) }
 
-    pub states : ShowsStates s
-    states = record { shows = λ undisturbed m checks. let r = report_of undisturbed m checks in (r.0, r.1, r.2, r.3) }
+    pub states : OneAnswer → ShowsStates s
+    states one = record { shows = λ undisturbed m checks. let r = report_of one undisturbed m checks in (r.0, r.1, r.2, r.3) }
 
-    pub report_status : ReportHasStatus s
-    report_status = record {
-      reports = λ undisturbed m checks. let r = report_of undisturbed m checks in (r.0, r.1, r.2, r.4);
+    pub report_status : OneAnswer → ReportHasStatus s
+    report_status one = record {
+      reports = λ undisturbed m checks. let r = report_of one undisturbed m checks in (r.0, r.1, r.2, r.4);
       only = λ ends. elim foreseen [
         | inl answer ↦
             let r = report_only s.contents text status (command_of s.words) answer.answer (subst (λ t. (t ≡ Clear) ⊎ (t ≡ Failed)) is ends) in

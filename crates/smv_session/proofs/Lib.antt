@@ -6,3 +6,5 @@ pub mod ReportLemmas
 pub mod Statuses
 pub mod ModelAnswers
 pub mod Decided
+pub mod OneAnswer
+pub mod SourceLemmas

@@ -1,7 +1,7 @@
 -- The status of a report.
 use Rattle.std.proofs.Common.{◌≡◌, ◌∙◌, List, [], ◌∷◌, ◌||◌, map, refl, ap, sym, Bool, true, false, if◌then◌else◌}
 use Rattle.std.specs.List.{list_any}
-use Rattle.smv_session.specs.Report.{Finding, is_false}
+use Rattle.smv_session.specs.Report.{is_false}
 use Rattle.smv_session.specs.Found.{finding_of}
 use Rattle.smv_session.specs.Answers.{status_of}
 use Rattle.smv_session.specs.declared.outcome.Outcome.{Outcome}

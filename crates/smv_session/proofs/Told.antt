@@ -8,18 +8,13 @@ use Rattle.smv_outside.specs.declared.faults.LoadFault.TheVariants.{Failed, NotT
 use Rattle.smv_outside.specs.Contents.{Contents, bytes_under}
 use Rattle.smv_outside.specs.Faults.{CountsLoad}
 use Rattle.smv_session.specs.declared.status.Status.{Status}
-use Rattle.smv_session.specs.Texts.{LoadFailed, LoadMissing, NotBuilt}
+use Rattle.smv_session.specs.Texts.{LoadFailed, LoadMissing}
+use Rattle.smv_session.specs.Refusals as refusals
 use Rattle.smv_session.specs.Words.{Check}
-use Rattle.kripke_model.specs.System.{System}
-use Rattle.smv_session.specs.Answers.{IsAccepted}
 use Rattle.smv_session.specs.Foreseen.{IsToldAs, Foresees}
 
 abbrev most_model_bytes : ℕ
 most_model_bytes = 1048576
-
--- an accepted text is short
-short : (bytes : List ℕ) (m : System) → IsAccepted bytes m → length bytes ≤ most_model_bytes
-short bytes m accepted = accepted.size
 
 -- what is there under a name, where it is told to be longer than some number
 there_is : (found : Option (List ℕ)) (taken : ℕ) → most_model_bytes < taken → IsSomeAnd found (λ bytes. taken ≤ length bytes)
@@ -52,7 +47,7 @@ told_fault model contents before after text status (TooLong taken) counts more t
       answer = (
         found.0,
         found.2,
-        inl (record { refusal = NotBuilt; applies = λ m accepted. absurd (omega (arith, found.1, short found.0 m accepted)); text_is = told.0; status_is = told.1 }),
+        inl (record { refusal = refusals.TooLong; applies = found.1; text_is = told.0; status_is = told.1 }),
       );
     })
 told_fault model contents before after text status Memory counts more there lacks told = absurd told

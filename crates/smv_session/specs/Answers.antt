@@ -1,25 +1,17 @@
 -- What the program answers where nothing fails.
-use Rattle.std.specs.Prelude.{◌≡◌, ◌⊎◌, ℕ, List, [], ◌∷◌, if◌then◌else◌, Option, Some, IfSome}
+use Rattle.std.specs.Prelude.{◌≡◌, ◌⊎◌, ℕ, List, if◌then◌else◌, Option, Some, IfSome}
 use Rattle.std.specs.List.{list_any}
 use Rattle.smv_outside.specs.Contents.{Contents, bytes_under}
 use Rattle.kripke_model.specs.System.{System}
-use Rattle.first_form.specs.FirstForm.{IsFirstForm}
 use Rattle.smv_session.specs.Words as words
 use Rattle.smv_session.specs.Words.{Command, Check}
-use Rattle.smv_session.specs.Texts.{usage_text, Refusal, NotBuilt, refusal_line}
+use Rattle.smv_session.specs.Texts.{usage_text}
+use Rattle.smv_session.specs.Source.{IsAccepted}
+use Rattle.smv_session.specs.Refusals.{Refusal, Refuses, refusal_line}
 use Rattle.smv_session.specs.Report.{Finding, is_false, report}
 use Rattle.smv_session.specs.Verdicts.{AreVerdicts, ShowStates}
 use Rattle.smv_session.specs.declared.status.Status.{Status}
 use Rattle.smv_session.specs.declared.status.Status.TheVariants.{Clear, Failed, ModelRefused, Usage}
-
--- the bytes are the text of this model
-abbrev pub IsAccepted : List ℕ → System → Type 0
-IsAccepted bytes m = IsFirstForm bytes m
-
--- the refusal applies to the model's text
-abbrev pub Refuses : List ℕ → Refusal → Type 0
--- it isn't of the form that is built
-Refuses bytes NotBuilt = (m : System) → IsAccepted bytes m → ⊥
 
 -- the greatest status that applies
 abbrev pub status_of : List Finding → Status
@@ -44,8 +36,6 @@ pub record Reports (m : System) (text : List ℕ) (status : Status) : Type 0 whe
 pub record IsReported (bytes text : List ℕ) (status : Status) : Type 0 where
   pub model : System
   pub accepted : IsAccepted bytes model
-  -- the text is of no other model
-  pub only : (other : System) → IsAccepted bytes other → model ≡ other
   pub reports : Reports model text status
 
 -- The text that is put for a model's text, and the status.

@@ -1,6 +1,5 @@
 -- The outcomes of the code, as the report has them.
-use Rattle.std.specs.Prelude.{Option, None}
-use Rattle.kripke_model.specs.System.{System}
+use Rattle.std.specs.Prelude.{None}
 use Rattle.tree_engine.specs.declared.decide.Verdict.{Verdict}
 use Rattle.tree_engine.specs.declared.decide.Verdict.TheVariants as verdicts
 use Rattle.smv_session.specs.Report as report

@@ -3,6 +3,9 @@ pub mod Asked
 pub mod Code
 pub mod Words
 pub mod Texts
+pub mod Source
+pub mod Refusals
+pub mod Told
 pub mod Report
 pub mod Found
 pub mod Verdicts

@@ -5,7 +5,7 @@ use Rattle.std.specs.List.{slice_index_or}
 use Rattle.kripke_model.specs.declared.expressions.Value.{Value}
 use Rattle.kripke_model.specs.declared.expressions.Value.TheVariants.{Number, Symbol}
 use Rattle.kripke_model.specs.Term.{Term}
-use Rattle.kripke_model.specs.System.{System, State, Variable, Condition, value_in}
+use Rattle.kripke_model.specs.System.{System, State, Variable, value_in}
 use Rattle.kripke_model.specs.Path.{Lasso}
 use Rattle.smv_session.specs.Texts.{line}
 

@@ -8,11 +8,13 @@ use Rattle.smv_outside.specs.Faults.{Rose, last_count}
 use Rattle.smv_outside.specs.Written.{AppendsPrefix}
 use Rattle.smv_session.specs.Words as words
 use Rattle.smv_session.specs.Words.{Command, Check, command_of}
-use Rattle.smv_session.specs.Texts.{usage_text, Refusal, refusal_line, Fault, LoadFailed, LoadMissing, fault_line}
+use Rattle.smv_session.specs.Texts.{usage_text, Fault, LoadFailed, LoadMissing, fault_line}
 use Rattle.kripke_model.specs.System.{System}
 use Rattle.smv_session.specs.Report.{Finding, report}
 use Rattle.smv_session.specs.Verdicts.{AreVerdicts, ShowStates}
-use Rattle.smv_session.specs.Answers.{Answers, IsAccepted, Refuses, Loads, status_of}
+use Rattle.smv_session.specs.Source.{IsAccepted}
+use Rattle.smv_session.specs.Refusals.{Refusal, Refuses, refusal_line}
+use Rattle.smv_session.specs.Answers.{Answers, Loads, status_of}
 use Rattle.smv_session.specs.declared.status.Status.{Status}
 use Rattle.smv_session.specs.declared.status.Status.TheVariants.{Clear, Failed, ModelRefused, OutsideFault, Usage, Memory}
 

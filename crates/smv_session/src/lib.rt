@@ -4,14 +4,19 @@
 mod answer;
 mod command;
 mod decision;
+pub mod laws;
 mod outcome;
+mod refusal;
 mod report;
 mod session;
+mod source;
 mod status;
 mod text;
 
 pub use session::run;
 pub use status::Status;
 
+#[cfg(test)]
+mod refusal_tests;
 #[cfg(test)]
 mod tests;

@@ -10,9 +10,11 @@ use crate::Status;
 use crate::answer::Answer;
 use crate::command::{Command, read_words};
 use crate::decision::decide_all;
+use crate::laws::one_answer;
 use crate::outcome::status_of;
+use crate::refusal::{Refusal, answer_refusal};
 use crate::report::report;
-use first_form::{FirstRefusal, one_model, read_first};
+use crate::source::read_model;
 use kripke_model::models::Ruled;
 use smv_outside::{Files, LoadFault, Sink};
 use std::alloc::{AllocError, Global};
@@ -39,6 +41,7 @@ pub fn run<F: Files, S: Sink>(alloc: Global, words: &[String], files: &mut F, ou
     ensures memory { MemoryChangesNothing (session F.contents F.faults S.written S.faults words.now files.old files.new out.old out.new result) }
     ensures status { ReportHasStatus (session F.contents F.faults S.written S.faults words.now files.old files.new out.old out.new result) }
 {
+    one_answer();
     match answer(alloc, words, files) {
         Ok(answer) => match out.put(&answer.text) {
             Ok(()) => answer.status,
@@ -76,7 +79,7 @@ fn answer_fault(alloc: Global, fault: LoadFault) -> Result<Answer, AllocError>
     match fault {
         LoadFault::Failed => Answer::new(alloc, b"fault load failed\n", Status::OutsideFault),
         LoadFault::NotThere => Answer::new(alloc, b"fault load missing\n", Status::OutsideFault),
-        LoadFault::TooLong { .. } => Answer::new(alloc, b"refused E0\n", Status::ModelRefused),
+        LoadFault::TooLong { .. } => answer_refusal(alloc, &Refusal::TooLong),
         LoadFault::Memory => Err(AllocError),
     }
 }
@@ -85,11 +88,9 @@ fn answer_fault(alloc: Global, fault: LoadFault) -> Result<Answer, AllocError>
 fn check_model(alloc: Global, text: &[u8]) -> Result<Answer, AllocError>
     ensures { IfOk result (λ answer. IsModelAnswer text.now answer.text.items answer.status) }
 {
-    one_model();
-    match read_first(alloc, text) {
+    match read_model(alloc, text) {
         Ok(model) => report_model(alloc, &model),
-        Err(FirstRefusal::NotBuilt) => Answer::new(alloc, b"refused E0\n", Status::ModelRefused),
-        Err(FirstRefusal::Memory) => Err(AllocError),
+        Err(refusal) => answer_refusal(alloc, &refusal),
     }
 }
 

@@ -12,3 +12,4 @@ mod SideLemmas
 mod FormulaLemmas
 mod RuleLemmas
 mod RowModels
+mod OneRefusal

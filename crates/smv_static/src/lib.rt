@@ -6,6 +6,7 @@ mod assignments;
 mod cycles;
 mod formulas;
 mod groups;
+pub mod laws;
 mod numbers;
 mod operators;
 mod parts;

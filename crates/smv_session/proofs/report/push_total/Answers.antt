@@ -1,7 +1,5 @@
-use Rattle.std.proofs.Common.{◌≡◌, ◌∙◌, ap, List, ℕ, ◌++◌, codes, decimal, count_by, map}
+use Rattle.std.proofs.Common.{◌∙◌, ap, ℕ, ◌++◌, codes, decimal}
 use Rattle.std.proofs.lemmas.Result.{on_ok_weaker}
-use Rattle.smv_session.specs.Report.{is_true, is_false}
-use Rattle.smv_session.specs.Found.{finding_of}
 use Rattle.smv_session.proofs.ReportLemmas.{total}
 use Rattle.smv_session.proofs.report.push_total.Goals as goal
 

@@ -10,7 +10,7 @@ returns-in-Ok-put-clause-words g c =
 pub returns-in-Ok-put-clause-refused_model : goal.returns-in-Ok-put-clause-refused_model
 returns-in-Ok-put-clause-refused_model g c =
     let puts = rw c.deref.ensures.value at c.in-Ok-put.ensures.ok in
-    refused _ c.in-Ok.answer.text.items c.in-Ok.answer.status c.in-Ok.ensures.answer puts refl
+    refused _ c.in-Ok.answer.text.items c.in-Ok.answer.status c.in-Ok.ensures.answer puts refl (record { model = c.one_answer.ensures.model; refusal = c.one_answer.ensures.refusal; model_or_refusal = c.one_answer.ensures.model_or_refusal })
 
 pub returns-in-Ok-put-clause-fault_has_cause : goal.returns-in-Ok-put-clause-fault_has_cause
 returns-in-Ok-put-clause-fault_has_cause g c =
@@ -44,14 +44,14 @@ returns-clause-fault_lines_have_cause g c = fault_lines_none _ refl
 pub returns-in-Ok-put-clause-verdicts : goal.returns-in-Ok-put-clause-verdicts
 returns-in-Ok-put-clause-verdicts g c =
     let puts = rw c.deref.ensures.value at c.in-Ok-put.ensures.ok in
-    verdicts _ c.in-Ok.answer.text.items c.in-Ok.answer.status c.in-Ok.ensures.answer puts refl
+    verdicts _ c.in-Ok.answer.text.items c.in-Ok.answer.status c.in-Ok.ensures.answer puts refl (record { model = c.one_answer.ensures.model; refusal = c.one_answer.ensures.refusal; model_or_refusal = c.one_answer.ensures.model_or_refusal })
 
 pub returns-in-Ok-put-clause-states_and_traces : goal.returns-in-Ok-put-clause-states_and_traces
 returns-in-Ok-put-clause-states_and_traces g c =
     let puts = rw c.deref.ensures.value at c.in-Ok-put.ensures.ok in
-    states _ c.in-Ok.answer.text.items c.in-Ok.answer.status c.in-Ok.ensures.answer puts refl
+    states _ c.in-Ok.answer.text.items c.in-Ok.answer.status c.in-Ok.ensures.answer puts refl (record { model = c.one_answer.ensures.model; refusal = c.one_answer.ensures.refusal; model_or_refusal = c.one_answer.ensures.model_or_refusal })
 
 pub returns-in-Ok-put-clause-status : goal.returns-in-Ok-put-clause-status
 returns-in-Ok-put-clause-status g c =
     let puts = rw c.deref.ensures.value at c.in-Ok-put.ensures.ok in
-    report_status _ c.in-Ok.answer.text.items c.in-Ok.answer.status c.in-Ok.ensures.answer puts refl
+    report_status _ c.in-Ok.answer.text.items c.in-Ok.answer.status c.in-Ok.ensures.answer puts refl (record { model = c.one_answer.ensures.model; refusal = c.one_answer.ensures.refusal; model_or_refusal = c.one_answer.ensures.model_or_refusal })

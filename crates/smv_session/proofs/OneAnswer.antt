@@ -1,0 +1,127 @@
+-- A text has one model at most, or is refused for one reason.
+use Rattle.std.proofs.Common.{◌≡◌, ◌<◌, ◌≤◌, inl, inr, ℕ, zero, suc, List, length, refl, sym, ◌∙◌, ap, subst, arith}
+use Rattle.std.proofs.lemmas.Bool.{cases_lt}
+use Rattle.smv_lexer.specs.Text.{Placed, Lexes, IsBadByteAt, IsTooLargeAt, most_bytes}
+use Rattle.smv_parser.specs.Program.{Program, program_depth}
+use Rattle.smv_parser.specs.Programs.{DerivesProgram, IsSyntaxPlace, IsTooDeepPlace, greatest_depth}
+use Rattle.kripke_model.specs.System.{System}
+use Rattle.first_form.specs.FirstForm.{IsFirstForm}
+use Rattle.smv_session.specs.Source.{line_at, token_line, HasTokens, HasProgram, IsAccepted}
+use Rattle.smv_session.specs.Refusals.{Refusal, Refuses, TooLong, BadByte, NumberTooLarge, NoProgram, TooDeep, NotBuilt}
+
+-- what the layers say of their answers
+pub record Laws : Type 0 where
+  pub list : (bytes : List ℕ) (ts us : List Placed) → Lexes bytes ts → Lexes bytes us → ts ≡ us
+  pub list_or_bad : (bytes : List ℕ) (ts : List Placed) (at : ℕ) → Lexes bytes ts → IsBadByteAt bytes at → ⊥
+  pub list_or_large : (bytes : List ℕ) (ts : List Placed) (at : ℕ) → Lexes bytes ts → IsTooLargeAt bytes at → ⊥
+  pub bad : (bytes : List ℕ) (at other : ℕ) → IsBadByteAt bytes at → IsBadByteAt bytes other → at ≡ other
+  pub large : (bytes : List ℕ) (at other : ℕ) → IsTooLargeAt bytes at → IsTooLargeAt bytes other → at ≡ other
+  pub bad_or_large : (bytes : List ℕ) (at other : ℕ) → IsBadByteAt bytes at → IsTooLargeAt bytes other → ⊥
+  pub syntax_or_tree : (at : ℕ) (ts : List Placed) (p : Program) → IsSyntaxPlace ts at → DerivesProgram ts p → ⊥
+  pub deep_or_tree : (at : ℕ) (ts : List Placed) (p : Program) → IsTooDeepPlace ts at → DerivesProgram ts p → program_depth p ≤ greatest_depth → ⊥
+  pub syntax_place : (at other : ℕ) (ts : List Placed) → IsSyntaxPlace ts at → IsSyntaxPlace ts other → at ≡ other
+  pub deep : (at other : ℕ) (ts : List Placed) → IsTooDeepPlace ts at → IsTooDeepPlace ts other → at ≡ other
+  pub syntax_or_deep : (at other : ℕ) (ts : List Placed) → IsSyntaxPlace ts at → IsTooDeepPlace ts other → ⊥
+  pub one_form : (bytes : List ℕ) (m n : System) → IsFirstForm bytes m → IsFirstForm bytes n → m ≡ n
+
+-- the text passes the first steps, so many of them
+abbrev Passes : List ℕ → ℕ → Type 0
+Passes bytes zero = length bytes ≤ most_bytes
+Passes bytes (suc zero) = (ts : List Placed) × HasTokens bytes ts
+Passes bytes (suc (suc zero)) = (p : Program) × HasProgram bytes p
+Passes bytes (suc (suc (suc k))) = (m : System) × IsAccepted bytes m
+
+-- the step at which it is refused
+abbrev stage : Refusal → ℕ
+stage TooLong = 0
+stage (BadByte l) = 1
+stage (NumberTooLarge l) = 1
+stage (NoProgram l) = 2
+stage (TooDeep l) = 2
+stage NotBuilt = 3
+
+module _ (bytes : List ℕ) where
+  down : (k : ℕ) → Passes bytes (suc k) → Passes bytes k
+  down zero h = h.1.few
+  down (suc zero) h = (h.1.tokens, h.1.has)
+  down (suc (suc zero)) h = (h.1.program, h.1.has)
+  down (suc (suc (suc k))) h = h
+
+  passes_down : (n k : ℕ) → k ≤ n → Passes bytes n → Passes bytes k
+  passes_down zero k below h = let e : zero ≡ k = omega (arith, below) in subst (Passes bytes) e h
+  passes_down (suc n) k below h = elim (cases_lt n k) [
+    | inl above ↦ (let e : suc n ≡ k = omega (arith, below, above) in subst (Passes bytes) e h)
+    | inr within ↦ passes_down n k within (down n h)
+  ]
+
+  passed : (r : Refusal) (k : ℕ) → k < stage r → Refuses bytes r → Passes bytes k
+  passed TooLong k below h = absurd (omega (arith, below))
+  passed (BadByte l) k below h = passes_down 0 k (omega (arith, below)) h.0
+  passed (NumberTooLarge l) k below h = passes_down 0 k (omega (arith, below)) h.0
+  passed (NoProgram l) k below h = passes_down 1 k (omega (arith, below)) (h.0, h.2)
+  passed (TooDeep l) k below h = passes_down 1 k (omega (arith, below)) (h.0, h.2)
+  passed NotBuilt k below h = passes_down 2 k (omega (arith, below)) (h.0, h.1)
+
+module _ (laws : Laws) (bytes : List ℕ) where
+  one_tokens : (ts us : List Placed) → HasTokens bytes ts → HasTokens bytes us → ts ≡ us
+  one_tokens ts us h k = laws.list bytes ts us h.lexed k.lexed
+
+  pub one_model : (m n : System) → IsAccepted bytes m → IsAccepted bytes n → m ≡ n
+  one_model m n h k = laws.one_form bytes m n h.form k.form
+
+  -- what is refused at a step doesn't pass it
+  stopped : (r : Refusal) → Refuses bytes r → Passes bytes (stage r) → ⊥
+  stopped TooLong h few = omega (arith, h, few)
+  stopped (BadByte l) h has = laws.list_or_bad bytes has.0 h.1 has.1.lexed h.2
+  stopped (NumberTooLarge l) h has = laws.list_or_large bytes has.0 h.1 has.1.lexed h.2
+  stopped (NoProgram l) h has =
+      laws.syntax_or_tree h.1 has.1.tokens has.0 (subst (λ ts. IsSyntaxPlace ts h.1) (one_tokens h.0 has.1.tokens h.2 has.1.has) h.3) has.1.derived
+  stopped (TooDeep l) h has =
+      laws.deep_or_tree h.1 has.1.tokens has.0 (subst (λ ts. IsTooDeepPlace ts h.1) (one_tokens h.0 has.1.tokens h.2 has.1.has) h.3) has.1.derived has.1.within
+  stopped NotBuilt h has = h.2 has.0 has.1.form
+
+  pub model_or_refusal : (m : System) (r : Refusal) → IsAccepted bytes m → Refuses bytes r → ⊥
+  model_or_refusal m r accepted h = stopped r h (passes_down bytes 3 (stage r) (at_most r) (m, accepted))
+    where
+      at_most : (r : Refusal) → stage r ≤ 3
+      at_most TooLong = omega arith
+      at_most (BadByte l) = omega arith
+      at_most (NumberTooLarge l) = omega arith
+      at_most (NoProgram l) = omega arith
+      at_most (TooDeep l) = omega arith
+      at_most NotBuilt = omega arith
+
+  same_stage : (r q : Refusal) → Refuses bytes r → Refuses bytes q → stage r ≡ stage q
+  same_stage r q h k = elim (cases_lt (stage r) (stage q)) [
+    | inl before ↦ absurd (stopped r h (passed bytes q (stage r) before k))
+    | inr after ↦ elim (cases_lt (stage q) (stage r)) [
+      | inl before ↦ absurd (stopped q k (passed bytes r (stage q) before h))
+      | inr within ↦ omega (arith, after, within)
+    ]
+  ]
+
+  one_line : (ts us : List Placed) (at other l k : ℕ) → ts ≡ us → at ≡ other → l ≡ token_line bytes ts at → k ≡ token_line bytes us other → l ≡ k
+  one_line ts us at other l k same place h j =
+      h ∙ ap (λ (xs : List Placed). token_line bytes xs at) same ∙ ap (λ (i : ℕ). token_line bytes us i) place ∙ sym j
+
+  one_at_stage : (r q : Refusal) → stage r ≡ stage q → Refuses bytes r → Refuses bytes q → r ≡ q
+  one_at_stage TooLong TooLong e h k = refl
+  one_at_stage (BadByte l) (BadByte j) e h k = ap BadByte (h.3 ∙ ap (line_at bytes) (laws.bad bytes h.1 k.1 h.2 k.2) ∙ sym k.3)
+  one_at_stage (BadByte l) (NumberTooLarge j) e h k = absurd (laws.bad_or_large bytes h.1 k.1 h.2 k.2)
+  one_at_stage (NumberTooLarge l) (BadByte j) e h k = absurd (laws.bad_or_large bytes k.1 h.1 k.2 h.2)
+  one_at_stage (NumberTooLarge l) (NumberTooLarge j) e h k = ap NumberTooLarge (h.3 ∙ ap (line_at bytes) (laws.large bytes h.1 k.1 h.2 k.2) ∙ sym k.3)
+  one_at_stage (NoProgram l) (NoProgram j) e h k =
+      let same = one_tokens h.0 k.0 h.2 k.2 in
+      ap NoProgram (one_line h.0 k.0 h.1 k.1 l j same (laws.syntax_place h.1 k.1 k.0 (subst (λ ts. IsSyntaxPlace ts h.1) same h.3) k.3) h.4 k.4)
+  one_at_stage (NoProgram l) (TooDeep j) e h k =
+      absurd (laws.syntax_or_deep h.1 k.1 k.0 (subst (λ ts. IsSyntaxPlace ts h.1) (one_tokens h.0 k.0 h.2 k.2) h.3) k.3)
+  one_at_stage (TooDeep l) (NoProgram j) e h k =
+      absurd (laws.syntax_or_deep k.1 h.1 h.0 (subst (λ ts. IsSyntaxPlace ts k.1) (one_tokens k.0 h.0 k.2 h.2) k.3) h.3)
+  one_at_stage (TooDeep l) (TooDeep j) e h k =
+      let same = one_tokens h.0 k.0 h.2 k.2 in
+      ap TooDeep (one_line h.0 k.0 h.1 k.1 l j same (laws.deep h.1 k.1 k.0 (subst (λ ts. IsTooDeepPlace ts h.1) same h.3) k.3) h.4 k.4)
+  one_at_stage NotBuilt NotBuilt e h k = refl
+  one_at_stage r q e h k = absurd (omega (arith, e))
+
+  pub one_refusal : (r q : Refusal) → Refuses bytes r → Refuses bytes q → r ≡ q
+  one_refusal r q h k = one_at_stage r q (same_stage r q h k) h k
