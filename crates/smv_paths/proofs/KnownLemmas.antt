@@ -1,5 +1,7 @@
 -- What is known of an expression's paths is known of those of its parts.
 use Rattle.std.proofs.Common.{◌≡◌, refl, sym, ◌∙◌, ap, subst, ℕ, List, [], ◌∷◌, ◌++◌, get_or, Bool, true, false, Some, None, Option, Any, ◌⊎◌, inl, inr, ℤ}
+use Rattle.smv_parser.specs.declared.expressions.Expr.{Expr as Written}
+use Rattle.smv_instances.specs.Plain.{plain_expr}
 use Rattle.smv_instances.specs.Program.{Name, Expr, Path, Program}
 use Rattle.smv_instances.specs.Instances.{Scope}
 use Rattle.smv_paths.specs.declared.sizes.Size.{Size}
@@ -70,3 +72,10 @@ path_size_of p s q a size n None is z = leaf_size p s q (λ b m. ap text_of (nam
 
 pub path_is_size : (p : Program) (s : Scope) (q : Path) (a : Abbreviation) (v : ℕ) (sizes : List Size) → Names p s q a → abbreviation_at p v ≡ Some a → AreSizesIn p sizes s (mentions (Expr.At q)) → IsSizeOf p s (Expr.At q) (get_or sizes v leaf)
 path_is_size p s q a v sizes n at known = path_size_of p s q a (get_or sizes v leaf) n (text_of a) refl (known v a at (named_itself p s a q n))
+
+-- ---- an operand that lies in memory
+
+pub operand_number : (p : Program) (numbers : List (Option ℤ)) (s : Scope) (w v : Written) (found o : Option ℤ) → w ≡ v → found ≡ o → AreNumbersIn p numbers s (mentions (plain_expr v))
+    → (AreNumbersIn p numbers s (mentions (plain_expr w)) → IsNumber p s (plain_expr w) found) → IsNumber p s (plain_expr v) o
+operand_number p numbers s w v found o same is known number =
+    subst (λ z. IsNumber p s (plain_expr v) z) is (subst (λ z. IsNumber p s (plain_expr z) found) same (number (subst (λ z. AreNumbersIn p numbers s (mentions (plain_expr z))) (sym same) known)))

@@ -1,6 +1,6 @@
 -- The number of an expression by the numbers of its parts.
 use Rattle.std.proofs.Common.{◌≡◌, refl, sym, ◌∙◌, ap, subst, ℕ, List, [], ◌∷◌, Bool, true, false, Some, None, Option, ◌⊎◌, inl, inr, ℤ, pos}
-use Rattle.std.specs.Prelude.{cond, if◌then◌else◌, ◌&&◌, Ok, Err, IsTrue, negsuc, ◌+ℤ◌, ◌-ℤ◌, ◌*ℤ◌, int_div, int_rem, int_le}
+use Rattle.std.specs.Prelude.{cond, if◌then◌else◌, ◌&&◌, Ok, Err, IsTrue, IfOk, Result, negsuc, ◌+ℤ◌, ◌-ℤ◌, ◌*ℤ◌, int_div, int_rem, int_le}
 use Rattle.std.specs.Ordering.{int_eq}
 use Rattle.kripke_model.specs.declared.expressions.Value.{Value}
 use Rattle.kripke_model.specs.declared.expressions.Value.TheVariants.{Number, Symbol}
@@ -10,13 +10,14 @@ use Rattle.kripke_model.specs.Term.{Term}
 use Rattle.kripke_model.specs.declared.expressions.PathOp.{PathOp}
 use Rattle.kripke_model.specs.Evaluation.{Checked, eval, binary, in_range}
 use Rattle.smv_parser.specs.declared.expressions.PrefixOperator.{PrefixOperator}
+use Rattle.smv_parser.specs.Tree as tree
 use Rattle.smv_instances.specs.Abstract as abstract
 use Rattle.smv_instances.specs.Program.{Expr, Exprs, Path, Program}
 use Rattle.smv_instances.specs.Program
 use Rattle.smv_instances.specs.Instances.{Scope}
 use Rattle.smv_paths.specs.Abbreviations.{Abbreviation, text_of, Names}
 use Rattle.smv_paths.specs.Expands.{is_number, is_arithmetic, is_sum_or_product, no_system, Expands}
-use Rattle.smv_paths.specs.Values.{HasNumber, IsNumber, Gives}
+use Rattle.smv_paths.specs.Values.{HasNumber, IsNumber, Gives, OperationComesTo}
 use Rattle.smv_paths.proofs.Once.{expands_one}
 use Rattle.smv_paths.proofs.NamedLemmas.{text_of_named, named_of_text, leaf_of_named, to_bare, of_bare}
 use Rattle.smv_paths.specs.Denotes.{bare}
@@ -224,7 +225,7 @@ parens_parts {p} {s} {e} {n} x = go x.expands x.arithmetic x.value
 number_along : {p : Program} {s h : Scope} {e f : Expr} {n : ℤ} → ((t : Term) → Expands p s e t → Expands p h f t) → HasNumber p s e n → HasNumber p h f n
 number_along go x = record { term = x.term; expands = go x.term x.expands; arithmetic = x.arithmetic; value = x.value }
 
-numbers_along : {p : Program} {s h : Scope} {e f : Expr} (found : Option ℤ) → ((t : Term) → Expands p s e t → Expands p h f t) → ((t : Term) → Expands p h f t → Expands p s e t) → IsNumber p s e found → IsNumber p h f found
+pub numbers_along : {p : Program} {s h : Scope} {e f : Expr} (found : Option ℤ) → ((t : Term) → Expands p s e t → Expands p h f t) → ((t : Term) → Expands p h f t → Expands p s e t) → IsNumber p s e found → IsNumber p h f found
 numbers_along None go back none = λ n x. none n (number_along back x)
 numbers_along (Some n) go back some = number_along go some
 
@@ -240,3 +241,48 @@ named_is_number p s q a found n is x = numbers_along found (λ t y. named_of_tex
 
 pub leaf_is_number : (p : Program) (s : Scope) (q : Path) → ((a : Abbreviation) → Names p s q a → text_of a ≡ None) → (n : ℤ) → HasNumber p s (Expr.At q) n → ⊥
 leaf_is_number p s q none n x = not_true (sym (leaf_of_named p s q none x.expands).no_number ∙ x.arithmetic)
+
+-- ---- an operation by its operands
+
+pub left_is_none : (p : Program) (s : Scope) (op : BinOp) (a b : Expr) → IsNumber p s a None → IsNumber p s (Expr.Binary op a b) None
+left_is_none p s op a b none = λ n x. let parts = binary_parts op a b n x in none parts.i parts.left
+
+pub right_is_none : (p : Program) (s : Scope) (op : BinOp) (a b : Expr) → IsNumber p s b None → IsNumber p s (Expr.Binary op a b) None
+right_is_none p s op a b none = λ n x. let parts = binary_parts op a b n x in none parts.j parts.right
+
+pub operation_is_number : (p : Program) (s : Scope) (op : BinOp) (a b : Expr) (i j : ℤ) (found : Option ℤ) → HasNumber p s a i → HasNumber p s b j → OperationComesTo op i j found → IsNumber p s (Expr.Binary op a b) found
+operation_is_number p s op a b i j None x y none = λ n h.
+    let parts = binary_parts op a b n h in
+    none n (subst (λ z. Gives op z j n) (number_one parts.left x) (subst (λ z. Gives op parts.i z n) (number_one parts.right y) parts.gives))
+operation_is_number p s op a b i j (Some n) x y gives = binary_number op a b i j n x y gives
+
+pub if_ok_by : {A E : Type 0} {P Q : A → Type 0} (r : Result A E) → ((x : A) → P x → Q x) → IfOk r P → IfOk r Q
+if_ok_by (Ok x) f h = f x h
+if_ok_by (Err e) f h = tt
+
+-- a form that is no arithmetic
+abbrev pub is_numberless : tree.Form → Bool
+is_numberless (tree.Form.number n) = false
+is_numberless (tree.Form.truth b) = false
+is_numberless (tree.Form.path q) = false
+is_numberless (tree.Form.parens e) = false
+is_numberless (tree.Form.binary op a b) = false
+is_numberless tree.Form.running = true
+is_numberless (tree.Form.next e) = true
+is_numberless (tree.Form.braces es) = true
+is_numberless (tree.Form.cases arms) = true
+is_numberless (tree.Form.until q a b) = true
+is_numberless (tree.Form.prefix op e) = true
+
+pub numberless_none : (p : Program) (s : Scope) (f : tree.Form) → is_numberless f ≡ true → (n : ℤ) → HasNumber p s (abstract.form_expr f) n → ⊥
+numberless_none p s (tree.Form.number m) is n h = not_true is
+numberless_none p s (tree.Form.truth b) is n h = not_true is
+numberless_none p s (tree.Form.path q) is n h = not_true is
+numberless_none p s (tree.Form.parens e) is n h = not_true is
+numberless_none p s (tree.Form.binary op a b) is n h = not_true is
+numberless_none p s tree.Form.running is n h = running_none n h
+numberless_none p s (tree.Form.next e) is n h = next_none (abstract.expr e) n h
+numberless_none p s (tree.Form.braces es) is n h = braces_none (abstract.exprs es) n h
+numberless_none p s (tree.Form.cases arms) is n h = case_none (abstract.arms arms) n h
+numberless_none p s (tree.Form.until q a b) is n h = until_none (abstract.is_all q) (abstract.expr a) (abstract.expr b) n h
+numberless_none p s (tree.Form.prefix op e) is n h = prefix_none op (abstract.expr e) n h

@@ -16,3 +16,4 @@ pub mod Ordered
 pub mod Sound
 pub mod Works
 pub mod Known
+pub mod Asking

@@ -6,6 +6,7 @@ pub mod deciding;
 pub mod graph;
 pub mod mentions;
 pub mod nodes;
+pub mod numbers;
 pub mod order;
 pub mod resolving;
 pub mod sizes;
