@@ -1,6 +1,6 @@
 -- A written program that is not refused has a flat model of the right form.
-use Rattle.std.proofs.Common.{◌≡◌, refl, sym, ◌∙◌, ap, subst, ℕ, ◌<◌, ◌≤◌, ◌+◌, ◌-◌, arith, List, [], ◌∷◌, ◌++◌, length, take, drop, Bool, true, false}
-use Rattle.std.specs.Prelude.{map, flat_map, All, pos, not}
+use Rattle.std.proofs.Common.{◌≡◌, refl, sym, ◌∙◌, ap, subst, ℕ, ◌<◌, ◌≤◌, arith, List, [], ◌∷◌, ◌++◌, length, take, drop, Bool, true, false}
+use Rattle.std.specs.Prelude.{map, flat_map, All, pos}
 use Rattle.std.specs.List.{slice_index_or}
 use Rattle.std.proofs.lemmas.Bool.{false≢true}
 use Rattle.kripke_model.specs.declared.expressions.Value.TheVariants.{Number}
@@ -8,21 +8,20 @@ use Rattle.kripke_model.specs.Refusing.{Silent}
 use Rattle.kripke_model.specs.Term.{Term}
 use Rattle.kripke_model.specs.Names.{IsAtom, IsVariableName, IsProcessName}
 use Rattle.kripke_model.specs.System.{System, Variable, Assignment, Condition}
-use Rattle.kripke_model.specs.Evaluation.{same, distinct}
 use Rattle.smv_paths.specs.Expands.{Expands}
 use Rattle.kripke_model.specs.Flat.{IsSound, AreDistinct, expressions, IsWithinLimits, IsWellTyped, HasNumbers, HasSelector, plain_variables, IsFlat}
 use Rattle.kripke_model.specs.Size.{nesting}
 use Rattle.smv_instances.specs.Program.{Name, Kind, Assigned, Section, Program}
 use Rattle.smv_instances.specs.Entries.{entries}
-use Rattle.smv_instances.specs.Instances.{Scope, module_of, depth, instances, all_entries, processes, process_name, has_selector, selector_variables, variables, variable_names, symbols, atoms_of, rising, place_of}
+use Rattle.smv_instances.specs.Instances.{Scope, module_of, instances, all_entries, processes, process_name, has_selector, selector_variables, variables, variable_names, symbols, atoms_of, rising, place_of}
 use Rattle.smv_instances.specs.Declarations.{refused_declarations, PlacedEntry, one_if}
 use Rattle.smv_instantiate.specs.Written.{IsWrittenExpr, IsWrittenAssignment, IsWrittenSection, IsWritten}
 use Rattle.smv_instantiate.specs.Flattens.{Item, Placed, section_items, all_items, is_assignment, is_of, assignments, items_of, Matches, IsAssignment, IsCondition, Flattens}
 use Rattle.smv_instantiate.specs.Refuses.{Refuses, expression, item, count_of}
 use Rattle.smv_instantiate.proofs.Members.{Each, In, each_map, all_from, all_of_each, each_append, all_in, in_map_back, in_flat_back, in_filter_back, distinct_pairs}
 use Rattle.smv_instantiate.proofs.Silence.{silent_first, silent_second, EachAfter, silent_each, after_in, after_all}
-use Rattle.smv_instantiate.proofs.BodyLemmas.{names_of, below}
-use Rattle.smv_instantiate.proofs.TypeLemmas.{some_value, distinct_names_distinct, in_distinct_names_back, rising_at, length_rising, length_map}
+use Rattle.smv_instantiate.proofs.BodyLemmas.{names_of}
+use Rattle.smv_instantiate.proofs.TypeLemmas.{distinct_names_distinct, in_distinct_names_back, rising_at, length_rising, length_map}
 use Rattle.smv_instantiate.proofs.TargetLemmas.{IsKept, entry_written, HasNames, sound, selected_below, process_below, module_written}
 use Rattle.smv_instantiate.proofs.SizeLemmas.{matched, matched_length, node_limit, nesting_kept, counted, specs_kept, constraints_kept}
 use Rattle.smv_instantiate.proofs.DeclaredLemmas.{drop_first, drop_none, atoms_written}

@@ -1,12 +1,11 @@
 -- Fronts and names of processes by the rows of instances.
-use Rattle.std.proofs.Common.{◌≡◌, refl, sym, ◌∙◌, ap, subst, ℕ, ◌<◌, List, [], ◌∷◌, ◌++◌, true, false, Some, None, append_assoc}
-use Rattle.std.specs.Prelude.{slice_get, IsTrue}
+use Rattle.std.proofs.Common.{◌≡◌, refl, sym, ◌∙◌, ap, ℕ, ◌<◌, List, [], ◌∷◌, ◌++◌, true, false, Some, None, append_assoc}
+use Rattle.std.specs.Prelude.{slice_get}
 use Rattle.std.proofs.lemmas.Bool.{false≢true}
 use Rattle.smv_instances.specs.declared.rows.Step.{Step}
 use Rattle.smv_instances.specs.Instances.{Scope, main_name, is_process, process_name, spelled}
 use Rattle.smv_instances.specs.Walk.{IsStep}
 use Rattle.smv_instantiate.specs.Bodies.{front}
-use Rattle.smv_instantiate.proofs.NameLemmas.{spelled_front}
 
 module _ (numbering : List Scope) (k : ℕ) where
   pub main_front : (s : Scope) → IsStep numbering k None s → front s ≡ []

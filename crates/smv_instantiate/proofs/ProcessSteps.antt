@@ -1,9 +1,7 @@
 -- Processes by their places, and the first process instance.
-use Rattle.std.proofs.Common.{◌≡◌, refl, sym, ◌∙◌, ap, subst, ℕ, zero, suc, ◌+◌, ◌<◌, ◌≤◌, arith, List, [], ◌∷◌, ◌++◌, length, take, get_or, Bool, true, false, cond, Some, None, Option, append-nil}
+use Rattle.std.proofs.Common.{◌≡◌, refl, sym, ◌∙◌, ap, subst, ℕ, zero, suc, ◌+◌, ◌<◌, ◌≤◌, arith, List, [], ◌∷◌, ◌++◌, length, take, get_or, Bool, true, false, cond, Some, append-nil}
 use Rattle.std.specs.Prelude.{slice_get, map, flat_map, filter, not}
-use Rattle.std.specs.List.{cons_option}
 use Rattle.std.specs.Str.{bytes_eq}
-use Rattle.std.proofs.lemmas.Bool.{false≢true}
 use Rattle.std.proofs.lemmas.List.Elements.{filter-append}
 use Rattle.std.proofs.lemmas.Option.{slice_get_within, get_or_from_slice_get}
 use Rattle.std.proofs.lemmas.List.{take_more}
@@ -18,7 +16,6 @@ use Rattle.smv_instantiate.specs.Written.{IsWritten}
 use Rattle.smv_instantiate.proofs.Members.{In, Distinct, not_some, some_same, map-append}
 use Rattle.smv_instantiate.proofs.TypeSteps.{rising-push}
 use Rattle.smv_instantiate.proofs.NameLemmas.{bytes_same, names_same}
-use Rattle.smv_instantiate.proofs.TypeLemmas.{length_map}
 use Rattle.smv_instantiate.proofs.DeclaredLemmas.{filter_fewer, instance_count, processes_distinct}
 use Rattle.smv_instantiate.proofs.BodySteps.{slice_in, slice_mapped}
 

@@ -1,7 +1,6 @@
 -- The values of a type: none twice, at least one, and as many whatever the symbols are numbered by.
 use Rattle.std.proofs.Common.{◌≡◌, refl, sym, ◌∙◌, ap, subst, ℕ, zero, suc, ◌<◌, ◌≤◌, ◌+◌, ◌-◌, arith, List, [], ◌∷◌, length, get_or, Bool, true, false, cond}
-use Rattle.std.specs.Prelude.{filter_map, map, flat_map, filter, not, ◌||◌, ◌==◌, pos, ltb}
-use Rattle.std.specs.List.{cons_option}
+use Rattle.std.specs.Prelude.{filter_map, map, filter, not, ◌||◌, ◌==◌, pos, ltb}
 use Rattle.std.specs.Str.{bytes_eq}
 use Rattle.std.proofs.lemmas.Bool.{false≢true, eqb-true, eq-eqb, false_from_ne_true, ltb-false}
 use Rattle.kripke_model.specs.declared.expressions.Value.{Value}
@@ -12,7 +11,7 @@ use Rattle.smv_instances.specs.Program.{Name, Constant, Plain}
 use Rattle.smv_instances.specs.Instances.{place_of, rising, between, value_of, type_values, distinct_names, atom, atoms_in}
 use Rattle.smv_instances.specs.Declarations.{is_reversed, value_count}
 use Rattle.smv_instantiate.specs.Written.{IsWrittenType}
-use Rattle.smv_instantiate.proofs.Members.{In, Distinct, in_filter, in_filter_map, in_filter_back, in_flat, distinct_filter, distinct_map}
+use Rattle.smv_instantiate.proofs.Members.{In, Distinct, in_filter, in_filter_map, in_filter_back, distinct_filter, distinct_map}
 use Rattle.smv_instantiate.proofs.NameLemmas.{bytes_same, names_same, rising_distinct}
 
 -- ---- places of names

@@ -1,16 +1,15 @@
-use Rattle.std.proofs.Common.{◌≡◌, refl, sym, ◌∙◌, ap, subst, ℕ, ◌+◌, ◌-◌, ◌<◌, ◌≤◌, arith, List, [], ◌∷◌, ◌++◌, length, map, flat_map, get_or, append-nil, Some, None}
+use Rattle.std.proofs.Common.{◌≡◌, refl, sym, ◌∙◌, ap, subst, ℕ, ◌+◌, ◌<◌, ◌≤◌, arith, List, [], ◌∷◌, ◌++◌, length, map, flat_map, get_or, append-nil, Some}
 use Rattle.std.specs.Prelude.{slice_get, IfOk}
 use Rattle.std.specs.List.{cons_option}
 use Rattle.std.proofs.lemmas.Option.{slice_get_read, slice_get_within, same_Some, get_or_from_slice_get}
-use Rattle.std.proofs.lemmas.Result.{on_ok_weaker}
 use Rattle.std.proofs.lemmas.List.{length-map}
 use Rattle.smv_instances.specs.Program.{Program}
 use Rattle.smv_instances.specs.Plain.{plain_type}
-use Rattle.smv_instances.specs.Entries.{Entity, Entry, entries}
-use Rattle.smv_instances.specs.Instances.{Scope, module_of, instances, symbols, child, entry_variables, variables_from}
-use Rattle.smv_instances.specs.Numbered.{plain_entity, plain_entry, scope_at}
+use Rattle.smv_instances.specs.Entries.{Entry, entries}
+use Rattle.smv_instances.specs.Instances.{Scope, module_of, instances, symbols, entry_variables}
+use Rattle.smv_instances.specs.Numbered.{plain_entity, plain_entry}
 use Rattle.smv_instances.proofs.RowLemmas.{row_at, table_at, within_tables}
-use Rattle.smv_instantiate.specs.Bodies.{AreBodies, IsEntry, front, inner_variables}
+use Rattle.smv_instantiate.specs.Bodies.{IsEntry, inner_variables}
 use Rattle.smv_instantiate.specs.Types.{AreNamed}
 use Rattle.smv_instantiate.proofs.BodyLemmas.{variables_of_body}
 use Rattle.smv_instantiate.proofs.DeclaredLemmas.{few_symbols}

@@ -1,4 +1,4 @@
-use Rattle.std.proofs.Common.{◌≡◌, ℕ, ◌+◌, ◌*◌, List, ◌++◌, length, map, flat_map, take, Some}
+use Rattle.std.proofs.Common.{◌≡◌, ◌+◌, ◌*◌, ◌++◌, length, map, flat_map, take, Some}
 use Rattle.std.specs.List.{filter_map}
 use Rattle.smv_instances.specs.Program.{Program}
 use Rattle.smv_instances.specs.Entries.{entries}

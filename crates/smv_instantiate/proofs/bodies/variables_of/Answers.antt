@@ -1,4 +1,4 @@
-use Rattle.std.proofs.Common.{◌≡◌, sym, ◌∙◌, ap, ◌≤◌, ◌++◌, arith, length}
+use Rattle.std.proofs.Common.{sym, ◌∙◌, ap, ◌≤◌, ◌++◌, arith, length}
 use Rattle.smv_instances.specs.Instances.{Scope, greatest_depth, processes, variables_from}
 use Rattle.smv_instantiate.proofs.BodySteps.{root_first, variables_root}
 use Rattle.smv_instantiate.proofs.DeclaredLemmas.{process_count, root_module}

@@ -1,4 +1,4 @@
-use Rattle.std.proofs.Common.{◌≡◌, sym, ◌∙◌, ap, subst, ◌<◌, arith, ◌∷◌, [], ◌++◌, append-nil}
+use Rattle.std.proofs.Common.{sym, ◌∙◌, ap, subst, ◌<◌, arith, ◌∷◌, [], ◌++◌, append-nil}
 use Rattle.std.specs.Prelude.{string_bytes}
 use Rattle.smv_instances.specs.Walk.{IsStep}
 use Rattle.smv_instances.proofs.RowLemmas.{row_at, scope_of}

@@ -1,4 +1,4 @@
-use Rattle.std.proofs.Common.{◌≡◌, sym, ◌∙◌, ap, ◌+◌, [], ◌∷◌, ◌++◌, map, take, drop, true}
+use Rattle.std.proofs.Common.{◌≡◌, sym, ◌∙◌, ap, ◌+◌, ◌∷◌, ◌++◌, map, take, drop, true}
 use Rattle.std.specs.Prelude.{filter}
 use Rattle.smv_instances.specs.Entries.{Entry}
 use Rattle.smv_instances.specs.Instances.{declares_process}

@@ -1,4 +1,4 @@
-use Rattle.std.proofs.Common.{◌≡◌, refl, sym, ◌∙◌, ap, ◌+◌, ◌<◌, arith, [], ◌∷◌, length, map, flat_map, take, drop}
+use Rattle.std.proofs.Common.{sym, ◌∙◌, ap, ◌+◌, ◌<◌, arith, [], length, map, flat_map, take, drop}
 use Rattle.std.specs.Prelude.{filter}
 use Rattle.std.specs.List.{cons_option}
 use Rattle.std.proofs.lemmas.Option.{slice_get_within, get_or_from_slice_get}

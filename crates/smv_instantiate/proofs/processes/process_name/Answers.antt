@@ -1,4 +1,4 @@
-use Rattle.std.proofs.Common.{◌≡◌, sym, ◌∙◌, ap, subst, ◌<◌, arith}
+use Rattle.std.proofs.Common.{◌≡◌, sym, ◌∙◌, subst, ◌<◌, arith}
 use Rattle.std.specs.Prelude.{IfOk}
 use Rattle.smv_instances.specs.Walk.{IsStep}
 use Rattle.smv_instances.proofs.RowLemmas.{row_at, scope_of}

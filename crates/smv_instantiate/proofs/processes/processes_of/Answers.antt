@@ -1,7 +1,7 @@
-use Rattle.std.proofs.Common.{◌≡◌, refl, sym, ◌∙◌, ap, ◌+◌, ◌<◌, ◌≤◌, arith, List, [], ◌∷◌, ◌++◌, length, map, take, Some, true}
+use Rattle.std.proofs.Common.{◌≡◌, sym, ◌∙◌, ap, ◌≤◌, arith, [], ◌∷◌, ◌++◌, length, map, take, Some, true}
 use Rattle.std.specs.Prelude.{filter, slice_get}
 use Rattle.std.proofs.lemmas.Option.{slice_get_within}
-use Rattle.smv_instances.specs.Instances.{Scope, is_process, process_name}
+use Rattle.smv_instances.specs.Instances.{is_process, process_name}
 use Rattle.smv_instances.proofs.TableLemmas.{length_pairs}
 use Rattle.smv_instantiate.proofs.Members.{in_filter_back, map-append}
 use Rattle.smv_instantiate.proofs.TypeSteps.{taken_all}

@@ -1,6 +1,5 @@
-use Rattle.std.proofs.Common.{◌∙◌, ap, ◌+◌, ◌++◌, ◌∷◌, [], map, pos}
+use Rattle.std.proofs.Common.{◌∙◌, ap, ◌++◌, ◌∷◌, [], pos}
 use Rattle.kripke_model.specs.declared.expressions.Value.TheVariants.{Number}
-use Rattle.smv_instances.specs.Instances.{rising}
 use Rattle.smv_instantiate.proofs.ProcessSteps.{rising_added}
 use Rattle.smv_instantiate.proofs.processes.selector.Goals as goal
 
