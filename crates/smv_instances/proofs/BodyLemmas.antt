@@ -1,21 +1,20 @@
 -- The entries of one body.
-use Rattle.std.proofs.Common.{◌≡◌, refl, sym, ◌∙◌, ap, subst, ℕ, zero, suc, ◌+◌, ◌<◌, ◌≤◌, arith, List, [], ◌∷◌, ◌++◌, Bool, true, false, length, map, flat_map, take, get_or, append_assoc, append-nil, inl, inr, ⊎_elim}
-use Rattle.std.specs.Prelude.{Any}
+use Rattle.std.proofs.Common.{◌≡◌, refl, sym, ◌∙◌, ap, subst, ℕ, zero, suc, ◌+◌, ◌<◌, arith, List, [], ◌∷◌, ◌++◌, Bool, true, false, length, map, take, get_or, append-nil, inr, ⊎_elim}
 use Rattle.std.specs.List.{list_any}
 use Rattle.std.specs.Str.{bytes_eq}
-use Rattle.std.proofs.lemmas.List.{length-map, take_more, map-append}
+use Rattle.std.proofs.lemmas.List.{length-map, take_more}
 use Rattle.std.proofs.lemmas.List.Folds.{list_any_at, Any-from_list_any}
 use Rattle.std.proofs.lemmas.Grind.{flat_map-append}
 use Rattle.std.proofs.lemmas.Slice.Eq.{bytes_eq-Decides}
 use Rattle.kripke_model.specs.Refusing.{Silent, First}
 use Rattle.kripke_model.proofs.FirstLemmas.{silent_refuse, silent_then}
 use Rattle.smv_instances.specs.declared.refusals.FlatRefusal.{FlatRefusal}
-use Rattle.smv_instances.specs.Program.{Name, Program}
+use Rattle.smv_instances.specs.Program.{Program}
 use Rattle.smv_instances.specs.Entries.{Entry, entries}
 use Rattle.smv_instances.specs.Instances.{Scope, module_of}
 use Rattle.smv_instances.specs.Declarations.{IsDeclaredAgain, IsSecondMain, declaration, declaration_rows, entries_of}
-use Rattle.smv_instances.specs.Tables.{IsFresh, IsFront}
-use Rattle.smv_instances.proofs.FirstSteps.{silent_push, first_push, first_front}
+use Rattle.smv_instances.specs.Tables.{IsFresh}
+use Rattle.smv_instances.proofs.FirstSteps.{silent_push, first_push}
 use Rattle.smv_instances.proofs.TableLemmas.{get_or-map, map-take}
 
 clash : (b : Bool) → b ≡ true → b ≡ false → ⊥

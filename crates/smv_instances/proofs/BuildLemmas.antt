@@ -1,17 +1,17 @@
 -- The parts of building: the instances of a program with `main`, and their symbolic constants.
-use Rattle.std.proofs.Common.{◌≡◌, refl, sym, ◌∙◌, ap, subst, ℕ, ◌<◌, List, [], ◌∷◌, ◌++◌, Bool, map, flat_map, append-nil, Option, Some, None, not, ◌&&◌, IsTrue, take, length}
-use Rattle.std.specs.Prelude.{option_map, slice_get}
+use Rattle.std.proofs.Common.{◌≡◌, refl, ◌∙◌, ap, List, [], ◌∷◌, ◌++◌, map, flat_map, append-nil, Some, not, ◌&&◌, IsTrue}
+use Rattle.std.specs.Prelude.{option_map}
 use Rattle.std.specs.List.{cons_option, list_any}
 use Rattle.std.specs.Str.{bytes_eq}
 use Rattle.std.proofs.lemmas.Grind.{flat_map-append}
 use Rattle.std.proofs.lemmas.List.Folds.{flat_map-map}
-use Rattle.kripke_model.specs.Refusing.{Silent, first_of, refuse}
+use Rattle.kripke_model.specs.Refusing.{first_of, refuse}
 use Rattle.smv_instances.specs.declared.refusals.FlatRefusal.{FlatRefusal}
 use Rattle.smv_instances.specs.Program.{Name, Module, Program}
 use Rattle.smv_instances.specs.Entries.{Entry, entries, module_named}
 use Rattle.smv_instances.specs.Instances.{Scope, module_of, instances, instances_from, greatest_depth, main_name, main_scope, atoms_of, distinct_names, symbols}
 use Rattle.smv_instances.specs.Declarations.{Refusal, is_parameter}
-use Rattle.smv_instances.specs.Symbols.{body_atoms, entry_atoms}
+use Rattle.smv_instances.specs.Symbols.{body_atoms}
 
 pub instances_main : (p : Program) (m : Module) → module_named p main_name ≡ Some m → instances p ≡ instances_from p greatest_depth (Scope.Main m)
 instances_main p m is = ap (λ o. flat_map (instances_from p greatest_depth) (cons_option (option_map Scope.Main o) [])) is ∙ append-nil (instances_from p greatest_depth (Scope.Main m))

@@ -1,5 +1,5 @@
 -- How many values constants have.
-use Rattle.std.proofs.Common.{◌≡◌, refl, sym, ◌∙◌, ap, subst, ℕ, zero, suc, ◌+◌, ◌<◌, ◌≤◌, arith, List, [], ◌∷◌, ◌++◌, Bool, true, false, not, cond, ◌||◌, ◌==◌, eqb, length, map, get_or, take, pos, eq-eqb, length-append, append-nil}
+use Rattle.std.proofs.Common.{◌≡◌, refl, sym, ◌∙◌, ap, subst, ℕ, zero, suc, ◌+◌, ◌<◌, arith, List, [], ◌∷◌, ◌++◌, Bool, true, false, not, cond, ◌||◌, ◌==◌, length, map, get_or, take, pos, eq-eqb, length-append, append-nil}
 use Rattle.std.specs.Prelude.{nat_eq, Result, Ok, Err, IfOk}
 use Rattle.std.specs.List.{list_any, position_or_len, filter_map}
 use Rattle.std.specs.Str.{bytes_eq}
@@ -10,13 +10,13 @@ use Rattle.std.specs.Prelude.{filter}
 use Rattle.std.proofs.lemmas.List.{map-append, take_more}
 use Rattle.std.proofs.lemmas.List.Elements.{filter-append}
 use Rattle.kripke_model.specs.declared.expressions.Value.{Value}
-use Rattle.kripke_model.specs.declared.expressions.Value.TheVariants.{Number, Symbol}
+use Rattle.kripke_model.specs.declared.expressions.Value.TheVariants.{Number}
 use Rattle.kripke_model.specs.Evaluation.{same, among, distinct}
 use Rattle.kripke_model.proofs.ValueLemmas.{same-true, same_self}
 use Rattle.smv_instances.specs.Program.{Name, Constant}
 use Rattle.smv_instances.specs.Instances.{place_of, value_of, truth_value, atom}
 use Rattle.smv_instances.specs.Declarations.{one_if}
-use Rattle.smv_instances.specs.Constants.{is_number, is_name, is_same, holds}
+use Rattle.smv_instances.specs.Constants.{is_number, is_same, holds}
 use Rattle.smv_instances.proofs.NameLemmas.{any_map}
 
 abbrev differs : Value → Value → Bool

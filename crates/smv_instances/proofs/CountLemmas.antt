@@ -1,15 +1,15 @@
 -- Counts with one entry more, and what they are refused for.
-use Rattle.std.proofs.Common.{◌≡◌, refl, sym, ◌∙◌, ap, subst, ℕ, ◌+◌, ◌<◌, ◌≤◌, arith, List, [], ◌∷◌, ◌++◌, Bool, true, false, ◌||◌, IsTrue, inl, inr, add-zero}
-use Rattle.std.specs.Prelude.{sum_by, ◌⊎◌}
+use Rattle.std.proofs.Common.{◌≡◌, refl, sym, ◌∙◌, ap, subst, ℕ, ◌+◌, ◌<◌, ◌≤◌, arith, List, [], ◌∷◌, ◌++◌, Bool, true, false, ◌||◌, IsTrue, inl, inr}
+use Rattle.std.specs.Prelude.{sum_by}
 use Rattle.std.specs.List.{list_any}
 use Rattle.std.proofs.lemmas.List.Folds.{list_any-append}
 use Rattle.std.proofs.lemmas.List.Sums.{sum_by-append}
-use Rattle.kripke_model.specs.Refusing.{Silent, ◌then◌}
+use Rattle.kripke_model.specs.Refusing.{Silent}
 use Rattle.kripke_model.proofs.FirstLemmas.{silent_refuse, silent_then}
 use Rattle.smv_instances.specs.declared.counts.Counts.{Counts}
 use Rattle.smv_instances.specs.declared.refusals.Which.{Which}
 use Rattle.smv_instances.specs.declared.refusals.FlatRefusal.{FlatRefusal}
-use Rattle.smv_instances.specs.Program.{Name, Expr, Plain, Program}
+use Rattle.smv_instances.specs.Program.{Plain, Program}
 use Rattle.smv_instances.specs.Entries.{Entity, Entry}
 use Rattle.smv_instances.specs.Instances.{Scope, depth, declares_process}
 use Rattle.smv_instances.specs.Declarations.{Refusal, is_reversed, value_count, variable_count, entry_variable_count, is_instance, one_if, variables_in, instances_in, declaration_rows}

@@ -1,5 +1,5 @@
 -- The instances inside one, declaration by declaration.
-use Rattle.std.proofs.Common.{◌≡◌, refl, sym, ◌∙◌, ap, subst, ℕ, zero, suc, ◌+◌, ◌-◌, ◌<◌, ◌≤◌, arith, List, [], ◌∷◌, ◌++◌, length, map, flat_map, take, get_or, append_assoc, append-nil, length-append, Option, Some, None, ◌⊎◌, inl, inr, ⊎_elim}
+use Rattle.std.proofs.Common.{◌≡◌, refl, sym, ◌∙◌, ap, subst, ℕ, zero, suc, ◌+◌, ◌-◌, ◌<◌, ◌≤◌, arith, List, [], ◌∷◌, ◌++◌, length, flat_map, take, get_or, append_assoc, append-nil, length-append, Some, None, ◌⊎◌, inl, inr, ⊎_elim}
 use Rattle.std.specs.Prelude.{slice_get, filter}
 use Rattle.std.specs.List.{filter_map, cons_option}
 use Rattle.std.proofs.lemmas.List.{take_more}
@@ -18,7 +18,7 @@ use Rattle.smv_instances.specs.Instances.{Scope, module_of, depth, is_process, c
 use Rattle.smv_instances.specs.Declarations.{body, declaration, entries_of}
 use Rattle.smv_instances.specs.Counting.{IsCounts}
 use Rattle.smv_instances.specs.Tables.{Pairs}
-use Rattle.smv_instances.specs.Walk.{AreRows, IsRow, AreLinked, Reaches, Visited, updated, inside}
+use Rattle.smv_instances.specs.Walk.{AreRows, IsRow, Reaches, Visited, updated, inside}
 use Rattle.smv_instances.proofs.RowLemmas.{slice_get_left, slice_get_seam}
 use Rattle.smv_instances.proofs.WalkLemmas.{below_or, pairs_weaken, instances_inside, visited_more, updated_get, updated_at, updated_past, take-updated, length-updated, kept_less}
 use Rattle.smv_instances.proofs.FirstSteps.{first_append, first_front}

@@ -1,14 +1,14 @@
 -- The instances that are kept, and those of the program.
-use Rattle.std.proofs.Common.{◌≡◌, refl, sym, ◌∙◌, ap, subst, ℕ, zero, suc, ◌+◌, ◌<◌, ◌≤◌, arith, List, [], ◌∷◌, ◌++◌, Bool, true, false, not, cond, ◌||◌, length, map, flat_map, take, get_or, Option, Some, None}
+use Rattle.std.proofs.Common.{◌≡◌, refl, sym, ◌∙◌, ap, subst, ℕ, zero, suc, ◌+◌, ◌<◌, arith, List, [], ◌∷◌, ◌++◌, Bool, true, false, not, cond, ◌||◌, length, map, flat_map, take, get_or, Option, Some, None}
 use Rattle.std.specs.Prelude.{slice_get, option_map, IfSome, IfNone}
-use Rattle.std.specs.List.{list_any, position_or_len}
+use Rattle.std.specs.List.{list_any}
 use Rattle.std.specs.Str.{bytes_eq}
 use Rattle.std.proofs.lemmas.List.{length-map}
 use Rattle.std.proofs.lemmas.List.Folds.{list_any-append}
 use Rattle.std.proofs.lemmas.List.Sums.{passes_at_first}
 use Rattle.std.proofs.lemmas.Option.{same_Some, slice_get_read, slice_get_within}
 use Rattle.std.proofs.lemmas.Slice.Eq.{bytes_eq-Decides}
-use Rattle.kripke_model.specs.Refusing.{Silent, First}
+use Rattle.kripke_model.specs.Refusing.{Silent}
 use Rattle.smv_instances.specs.declared.instances.Instances.{Instances}
 use Rattle.smv_instances.specs.declared.modules.Table.{Table}
 use Rattle.smv_instances.specs.declared.entries.Entry.{Entry as Line}
@@ -19,9 +19,9 @@ use Rattle.smv_instances.specs.Plain.{plain_expr}
 use Rattle.smv_instances.specs.Program.{Name, Expr, Module, Program}
 use Rattle.smv_instances.specs.Entries.{Entity, Entry, entries, entity_in, module_named}
 use Rattle.smv_instances.specs.Instances.{Scope, module_of, child, children, declares_process, has_selector, instances, main_name, main_scope, place_of, symbols}
-use Rattle.smv_instances.specs.Declarations.{body, declaration, declarations, entries_of, instances_in, named_constant, refused_declarations}
-use Rattle.smv_instances.specs.Numbered.{IsActual, IsChild, actuals_of, plain_entry, scope_at}
-use Rattle.smv_instances.specs.Tables.{Pairs, IsTable, IsFresh, counts_from}
+use Rattle.smv_instances.specs.Declarations.{declaration, declarations, entries_of, instances_in, named_constant, refused_declarations}
+use Rattle.smv_instances.specs.Numbered.{IsActual, actuals_of, plain_entry, scope_at}
+use Rattle.smv_instances.specs.Tables.{Pairs, IsTable, IsFresh}
 use Rattle.smv_instances.specs.Walk.{IsRow, IsStep}
 use Rattle.smv_instances.specs.Built.{AreInstances, IsEntryOf}
 use Rattle.smv_instances.proofs.NameLemmas.{any_map}

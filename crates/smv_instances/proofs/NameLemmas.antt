@@ -1,5 +1,5 @@
 -- Names in a list, and in a list of references to them.
-use Rattle.std.proofs.Common.{◌≡◌, refl, sym, ◌∙◌, ap, ℕ, ◌+◌, ◌<◌, List, [], ◌∷◌, Bool, true, false, not, ◌||◌, cond, ltb, length, map, Option, Some, None}
+use Rattle.std.proofs.Common.{◌≡◌, refl, sym, ap, ℕ, ◌+◌, List, [], ◌∷◌, Bool, true, false, not, ◌||◌, cond, ltb, length, map, Option, Some, None}
 use Rattle.std.specs.Prelude.{IfSome, IfNone, is_some, position}
 use Rattle.std.specs.List.{list_any, position_or_len}
 

@@ -1,17 +1,16 @@
 -- One instance more at the end of the rows.
-use Rattle.std.proofs.Common.{◌≡◌, refl, sym, ◌∙◌, ap, subst, ℕ, zero, suc, ◌+◌, ◌<◌, ◌≤◌, arith, List, [], ◌∷◌, ◌++◌, Bool, true, false, length, map, length-append, append-nil, Option, Some, None, inl, inr, ⊎_elim}
+use Rattle.std.proofs.Common.{◌≡◌, refl, sym, ◌∙◌, ap, subst, ℕ, zero, suc, ◌+◌, ◌<◌, ◌≤◌, arith, List, [], ◌∷◌, ◌++◌, Bool, true, false, length, map, length-append, append-nil, Option, Some, None, ⊎_elim}
 use Rattle.std.specs.Prelude.{slice_get, filter}
 use Rattle.std.proofs.lemmas.Option.{same_Some, slice_get_within}
 use Rattle.std.proofs.lemmas.List.Elements.{filter-append}
 use Rattle.smv_instances.specs.declared.modules.Modules.{Modules}
 use Rattle.smv_instances.specs.declared.rows.Step.{Step}
 use Rattle.smv_instances.specs.declared.rows.Row.{Row}
-use Rattle.smv_instances.specs.declared.rows.Walk.{Walk}
 use Rattle.smv_instances.specs.Program.{Name, Expr, Module}
 use Rattle.smv_instances.specs.Plain.{plain_expr}
-use Rattle.smv_instances.specs.Instances.{Scope, module_of, depth, is_process, process_of}
+use Rattle.smv_instances.specs.Instances.{Scope, depth, is_process, process_of}
 use Rattle.smv_instances.specs.Tables.{Pairs}
-use Rattle.smv_instances.specs.Walk.{Stands, Comes, IsStep, IsRow, AreRows, Reaches, Adds}
+use Rattle.smv_instances.specs.Walk.{Stands, IsStep, IsRow, AreRows}
 use Rattle.smv_instances.proofs.TableLemmas.{pairs_push, length_pairs}
 use Rattle.smv_instances.proofs.RowLemmas.{slice_get_left, slice_get_seam}
 use Rattle.smv_instances.proofs.WalkLemmas.{below_or, front_get, pairs_weaken}

@@ -1,5 +1,5 @@
 -- Rows of instances, and the instances that they are of.
-use Rattle.std.proofs.Common.{not, cond, ◌≡◌, refl, sym, ◌∙◌, ap, subst, ℕ, zero, suc, ◌+◌, ◌<◌, ◌≤◌, arith, List, [], ◌∷◌, ◌++◌, Bool, true, false, ◌||◌, length, map, get_or, Option, Some, None, length-append, ◌⊎◌, inl, inr}
+use Rattle.std.proofs.Common.{not, cond, ◌≡◌, refl, sym, ◌∙◌, ap, subst, ℕ, zero, suc, ◌+◌, ◌<◌, arith, List, [], ◌∷◌, ◌++◌, Bool, true, false, length, map, get_or, Option, Some, None}
 use Rattle.std.specs.Prelude.{slice_get, is_some, Contains}
 use Rattle.std.specs.List.{list_any, position_or_len}
 use Rattle.std.specs.Str.{bytes_eq}
@@ -11,7 +11,7 @@ use Rattle.smv_instances.specs.declared.modules.Table.{Table}
 use Rattle.smv_instances.specs.declared.modules.Modules.{Modules}
 use Rattle.smv_instances.specs.declared.rows.Step.{Step}
 use Rattle.smv_instances.specs.declared.rows.Row.{Row}
-use Rattle.smv_instances.specs.Program.{Name, Expr, Module, Program}
+use Rattle.smv_instances.specs.Program.{Name, Module, Program}
 use Rattle.smv_parser.specs.ProgramView as programs
 use Rattle.smv_instances.specs.Abstract as plain
 use Rattle.smv_instances.specs.Entries.{module_named}

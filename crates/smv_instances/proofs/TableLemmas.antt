@@ -1,6 +1,6 @@
 -- Tables of modules, and names that stand once.
-use Rattle.std.proofs.Common.{◌≡◌, refl, sym, ◌∙◌, ap, subst, ℕ, zero, suc, ◌+◌, ◌<◌, ◌≤◌, arith, List, [], ◌∷◌, ◌++◌, Bool, true, false, cond, ◌||◌, length, map, take, get_or, Option, Some, None, length-append}
-use Rattle.std.specs.Prelude.{is_some, find, slice_get}
+use Rattle.std.proofs.Common.{◌≡◌, refl, sym, ◌∙◌, ap, ℕ, zero, suc, ◌+◌, ◌<◌, ◌≤◌, arith, List, [], ◌∷◌, ◌++◌, Bool, true, false, cond, ◌||◌, length, map, take, get_or, Option, Some, length-append}
+use Rattle.std.specs.Prelude.{is_some, slice_get}
 use Rattle.std.specs.List.{list_any}
 use Rattle.std.specs.Str.{bytes_eq}
 use Rattle.std.proofs.lemmas.Slice.Eq.{bytes_eq-Decides}
@@ -8,7 +8,7 @@ use Rattle.std.proofs.lemmas.List.{get_or_append_left, take-append-le}
 use Rattle.std.proofs.Math.Seq.{get_or-append_seam}
 use Rattle.std.proofs.lemmas.List.Sums.{sum_by-append}
 use borrow.Author.Count.{below_more}
-use Rattle.smv_instances.specs.Program.{Name, Module, Program}
+use Rattle.smv_instances.specs.Program.{Name, Program}
 use Rattle.smv_instances.specs.Entries.{module_named}
 use Rattle.smv_instances.specs.Entries.{Entry}
 use Rattle.smv_instances.specs.Declarations.{instances_in, is_instance, one_if}

@@ -1,19 +1,16 @@
 -- The walk over bodies: how its parts come together.
-use Rattle.std.proofs.Common.{◌≡◌, refl, sym, ◌∙◌, ap, subst, ℕ, zero, suc, ◌+◌, ◌<◌, ◌≤◌, arith, List, [], ◌∷◌, ◌++◌, length, take, append_assoc, length-append, Option, Some, None, ◌⊎◌, inl, inr, ⊎_elim}
+use Rattle.std.proofs.Common.{◌≡◌, refl, sym, ◌∙◌, ap, subst, ℕ, zero, suc, ◌<◌, ◌≤◌, arith, List, [], ◌∷◌, ◌++◌, length, take, append_assoc, length-append, Some, None, ◌⊎◌, inl, inr, ⊎_elim}
 use Rattle.std.specs.Prelude.{slice_get}
-use Rattle.std.proofs.lemmas.Option.{same_Some, slice_get_within}
-use Rattle.kripke_model.specs.Refusing.{Silent, First}
-use Rattle.kripke_model.proofs.FirstLemmas.{silent_then}
+use Rattle.std.proofs.lemmas.Option.{same_Some}
 use Rattle.smv_instances.specs.declared.modules.Modules.{Modules}
-use Rattle.smv_instances.specs.declared.rows.Row.{Row}
 use Rattle.smv_instances.specs.declared.rows.Walk.{Walk}
 use Rattle.smv_instances.specs.Program.{Program}
 use Rattle.smv_instances.specs.Instances.{Scope, children, instances_from}
 use Rattle.smv_instances.specs.Declarations.{body}
 use Rattle.smv_instances.specs.Tables.{Pairs}
-use Rattle.smv_instances.specs.Walk.{AreRows, AreLinked, Reaches, Visited, updated, inside}
+use Rattle.smv_instances.specs.Walk.{Reaches, Visited, updated, inside}
 use Rattle.smv_instances.proofs.FirstSteps.{silent_append}
-use Rattle.smv_instances.proofs.RowLemmas.{slice_get_left, slice_get_seam, some_at}
+use Rattle.smv_instances.proofs.RowLemmas.{slice_get_left}
 
 -- ---- lists
 

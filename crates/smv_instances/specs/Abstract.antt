@@ -1,5 +1,5 @@
 -- The plain program of a parsed one.
-use Rattle.std.specs.Prelude.{ℕ, Bool, true, false, List, [], ◌∷◌, map}
+use Rattle.std.specs.Prelude.{ℕ, Bool, true, false, List, map}
 use Rattle.kripke_model.specs.declared.expressions.BinOp.{BinOp}
 use Rattle.kripke_model.specs.declared.expressions.PathOp.{PathOp}
 use Rattle.kripke_model.specs.declared.models.Part.{Part}
@@ -10,7 +10,7 @@ use Rattle.smv_parser.specs.declared.program.Condition.{Condition}
 use Rattle.smv_parser.specs.declared.program.LeftKind.{LeftKind}
 use Rattle.smv_parser.specs.Tree as tree
 use Rattle.smv_parser.specs.Program as parsed
-use Rattle.smv_instances.specs.Program.{Name, Expr, Exprs, Arms, Path, Constant, Plain, Form, Declaration, Definition, Assigned, Kind, Stated, Section, Formal, Module, Program}
+use Rattle.smv_instances.specs.Program.{Expr, Exprs, Arms, Path, Constant, Plain, Form, Declaration, Definition, Assigned, Kind, Stated, Section, Formal, Module, Program}
 
 -- ---- expressions
 

@@ -1,5 +1,5 @@
 -- All instances of a program as the code keeps them.
-use Rattle.std.specs.Prelude.{◌≡◌, ℕ, ◌<◌, List, Some, None, length, filter, slice_get}
+use Rattle.std.specs.Prelude.{◌≡◌, ℕ, ◌<◌, Some, length, filter, slice_get}
 use Rattle.kripke_model.specs.Refusing.{Silent}
 use Rattle.smv_instances.specs.declared.instances.Instances.{Instances}
 use Rattle.smv_instances.specs.Program.{Name, Module, Program}

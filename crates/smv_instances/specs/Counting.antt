@@ -1,5 +1,5 @@
 -- How far the counts of the declarations go.
-use Rattle.std.specs.Prelude.{◌≡◌, ◌≢◌, ℕ, ◌≤◌, Bool, List, [], ◌∷◌, ◌++◌, length, sum_by, Contains, Option, Some, None, Result, MatchResult}
+use Rattle.std.specs.Prelude.{◌≡◌, ◌≢◌, ℕ, ◌≤◌, Bool, List, [], ◌∷◌, ◌++◌, length, sum_by, Contains, Some, None, Result, MatchResult}
 use Rattle.std.specs.List.{list_any}
 use Rattle.kripke_model.specs.Refusing.{Silent}
 use Rattle.smv_instances.specs.declared.counts.Counts.{Counts}

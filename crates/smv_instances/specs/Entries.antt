@@ -1,5 +1,5 @@
 -- What a module declares.
-use Rattle.std.specs.Prelude.{ℕ, Bool, true, false, ◌==◌, List, [], ◌∷◌, ◌++◌, map, find, flat_map, Option, Some, None, option_map}
+use Rattle.std.specs.Prelude.{ℕ, Bool, List, [], ◌++◌, map, find, flat_map, Option, option_map}
 use Rattle.std.specs.Str.{bytes_eq}
 use Rattle.smv_instances.specs.Program.{Name, Expr, Plain, Form, Declaration, Definition, Section, Formal, Module, Program}
 

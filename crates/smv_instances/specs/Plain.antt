@@ -1,5 +1,4 @@
 -- The plain trees of what the program's types hold in memory.
-use Rattle.std.specs.Prelude.{ℕ, List, map}
 use Rattle.smv_parser.specs.declared.expressions.Expr as declared_expr
 use Rattle.smv_parser.specs.declared.program.Constant as declared_constant
 use Rattle.smv_parser.specs.declared.program.Plain as declared_plain

@@ -1,7 +1,6 @@
 -- The instances as the code keeps them, against those of the program.
 use Rattle.std.specs.Prelude.{◌≡◌, ℕ, zero, suc, ◌+◌, ◌<◌, ◌≤◌, Bool, List, [], ◌∷◌, ◌++◌, length, map, flat_map, filter, take, Option, Some, None, slice_get, MatchResult, Result}
 use Rattle.kripke_model.specs.Refusing.{Silent, First}
-use Rattle.smv_parser.specs.declared.program.Module.{Module as Source}
 use Rattle.smv_instances.specs.declared.counts.Counts.{Counts}
 use Rattle.smv_instances.specs.declared.modules.Table.{Table}
 use Rattle.smv_instances.specs.declared.modules.Modules.{Modules}

@@ -1,19 +1,17 @@
 -- Where no definition is refused, each one stands for a term.
-use Rattle.std.proofs.Common.{◌≡◌, refl, sym, ◌∙◌, ap, subst, ℕ, List, [], ◌∷◌, Bool, true, false, Some, None, Option, Any}
+use Rattle.std.proofs.Common.{◌≡◌, refl, sym, ◌∙◌, ap, subst, ℕ, Bool, true, false, Some, None, Option}
 use Rattle.std.specs.Prelude.{cond}
-use Rattle.kripke_model.specs.Term.{Term}
 use Rattle.smv_instances.specs.Program.{Expr, Path, Program}
 use Rattle.smv_instances.specs.Instances.{Scope}
 use Rattle.smv_paths.specs.Denotes.{Target, Denotes, Finds, Meaning, meaning}
 use Rattle.smv_paths.specs.Expands.{Expands}
-use Rattle.smv_paths.specs.Abbreviations.{Mention, mentions, index_mentions, Abbreviation, text_of, Uses}
+use Rattle.smv_paths.specs.Abbreviations.{mentions, index_mentions, Abbreviation, text_of, Uses}
 use Rattle.smv_paths.specs.Nodes.{abbreviation_at}
-use Rattle.smv_paths.specs.Naming.{NamedIn}
 use Rattle.smv_paths.specs.Sound.{IsSound, AreSound, AreDefined, text_mentions}
 use Rattle.std.proofs.lemmas.List.Elements.{All-head}
 use Rattle.smv_paths.proofs.NamedLemmas.{IsText, IsBare, text_means, bare_means, found_direct}
 use Rattle.smv_paths.proofs.GroundLemmas.{IsGrounded}
-use Rattle.smv_paths.proofs.ExistLemmas.{IsGoodTarget, IsGood, AllGood, denotes_good, term_exists}
+use Rattle.smv_paths.proofs.ExistLemmas.{IsGood, AllGood, denotes_good, term_exists}
 
 not_true : false ≡ true → ⊥
 not_true e = subst (λ b. cond b ⊥ (Unit {0})) e tt

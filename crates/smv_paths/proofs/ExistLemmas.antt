@@ -1,15 +1,14 @@
 -- Where no rule refuses paths and definitions, expressions stand for terms.
-use Rattle.std.proofs.Common.{◌≡◌, refl, sym, ◌∙◌, ap, subst, ℕ, List, [], ◌∷◌, ◌++◌, Bool, true, false, Some, None, Option, Any, ◌⊎◌, inl, inr}
-use Rattle.std.specs.Prelude.{cond, not, ◌||◌, All, IsTrue, option_and_then, option_map}
-use Rattle.kripke_model.specs.declared.expressions.Value.TheVariants.{Number, Symbol}
+use Rattle.std.proofs.Common.{◌≡◌, refl, sym, subst, ℕ, List, [], ◌∷◌, ◌++◌, Bool, true, false, Some, None, Option, Any, inl, inr}
+use Rattle.std.specs.Prelude.{cond, not, ◌||◌, IsTrue, option_and_then, option_map}
 use Rattle.kripke_model.specs.Term.{Term, Terms, Arms}
 use Rattle.smv_instances.specs.Program.{Name, Expr, Exprs, Path, Plain, Module, Program}
 use Rattle.smv_instances.specs.Program
 use Rattle.smv_instances.specs.Entries.{Entity, entity_in, module_named}
 use Rattle.smv_instances.specs.Instances.{Scope, module_of}
-use Rattle.smv_paths.specs.Denotes.{Bracket, Target, Denotes, Finds, Meaning, meaning, meaning_of, passed, actual_of}
-use Rattle.smv_paths.specs.Expands.{is_array, Expands, ExpandElements, ExpandArms, Selects, IsIndex, AreIndexes}
-use Rattle.smv_paths.specs.Abbreviations.{Mention, mentions, element_mentions, arm_mentions, index_mentions, is_value, Abbreviation, text_of, fronts, Names}
+use Rattle.smv_paths.specs.Denotes.{Target, Denotes, Finds, Meaning, meaning, meaning_of, passed, actual_of}
+use Rattle.smv_paths.specs.Expands.{is_array, Expands, ExpandElements, ExpandArms, Selects, AreIndexes}
+use Rattle.smv_paths.specs.Abbreviations.{Mention, mentions, element_mentions, arm_mentions, index_mentions, is_value, Abbreviation, fronts, Names}
 use Rattle.std.proofs.lemmas.List.Elements.{All-head}
 use Rattle.smv_paths.specs.Naming.{InFronts, NamedIn}
 use Rattle.smv_paths.specs.Sound.{HasIndexes, IsSound, AreSound}

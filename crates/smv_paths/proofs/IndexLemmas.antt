@@ -1,10 +1,10 @@
 -- The indexes that are written in a path are the last ones of what it denotes.
-use Rattle.std.proofs.Common.{◌≡◌, refl, sym, ◌∙◌, ap, subst, ℕ, zero, suc, List, [], ◌∷◌, ◌++◌, take, Bool, true, false, Some, None, Option, ◌⊎◌, inl, inr}
+use Rattle.std.proofs.Common.{◌≡◌, refl, sym, ◌∙◌, ap, subst, ℕ, List, [], ◌∷◌, take, Bool, true, false, inl, inr}
 use Rattle.std.specs.Prelude.{cond}
-use Rattle.smv_instances.specs.Program.{Name, Expr, Path, Plain, Program}
+use Rattle.smv_instances.specs.Program.{Path, Plain, Program}
 use Rattle.smv_instances.specs.Instances.{Scope}
-use Rattle.smv_paths.specs.Denotes.{Bracket, Target, Denotes, Finds}
-use Rattle.smv_paths.specs.Expands.{IsIndex, AreIndexes}
+use Rattle.smv_paths.specs.Denotes.{Bracket, Target, Denotes}
+use Rattle.smv_paths.specs.Expands.{IsIndex}
 use Rattle.smv_paths.specs.Abbreviations.{HasBadIndex}
 use Rattle.smv_paths.specs.Sound.{HasIndexes}
 use Rattle.smv_paths.specs.Known.{index_count, brackets_of, AllIndexes, SomeBad}

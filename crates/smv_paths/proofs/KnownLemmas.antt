@@ -1,12 +1,12 @@
 -- What is known of an expression's paths is known of those of its parts.
-use Rattle.std.proofs.Common.{◌≡◌, refl, sym, ◌∙◌, ap, subst, ℕ, List, [], ◌∷◌, ◌++◌, get_or, Bool, true, false, Some, None, Option, Any, ◌⊎◌, inl, inr, ℤ}
+use Rattle.std.proofs.Common.{◌≡◌, refl, sym, ◌∙◌, ap, subst, ℕ, List, [], ◌∷◌, ◌++◌, get_or, true, Some, None, Option, Any, ℤ}
 use Rattle.smv_parser.specs.declared.expressions.Expr.{Expr as Written}
 use Rattle.smv_instances.specs.Plain.{plain_expr}
-use Rattle.smv_instances.specs.Program.{Name, Expr, Path, Program}
+use Rattle.smv_instances.specs.Program.{Expr, Path, Program}
 use Rattle.smv_instances.specs.Instances.{Scope}
 use Rattle.smv_paths.specs.declared.sizes.Size.{Size}
-use Rattle.smv_paths.specs.Denotes.{Target, Denotes}
-use Rattle.smv_paths.specs.Abbreviations.{Mention, mentions, index_mentions, Abbreviation, text_of, fronts, Names, Uses}
+use Rattle.smv_paths.specs.Denotes.{Target}
+use Rattle.smv_paths.specs.Abbreviations.{Mention, mentions, index_mentions, Abbreviation, text_of, fronts, Names}
 use Rattle.smv_paths.specs.Nodes.{abbreviation_at}
 use Rattle.smv_paths.specs.Values.{IsNumber, IsNumberOf, IsSizeOf, IsSizeOfText}
 use Rattle.smv_paths.specs.Naming.{InFronts, NamedIn}

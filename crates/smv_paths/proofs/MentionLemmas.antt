@@ -7,12 +7,12 @@ use Rattle.smv_parser.specs.declared.expressions.Expr.{Expr as Written}
 use Rattle.smv_parser.specs.declared.expressions.PathPart.{PathPart, Field, Index'}
 use Rattle.smv_parser.specs.declared.expressions.PrefixOperator.{PrefixOperator}
 use Rattle.smv_parser.specs.Tree as tree
-use Rattle.smv_parser.specs.View.{form, tree_of, arm_pair}
+use Rattle.smv_parser.specs.View.{tree_of, arm_pair}
 use Rattle.smv_instances.specs.Abstract as abstract
 use Rattle.smv_instances.specs.Plain.{plain_expr}
 use Rattle.smv_instances.specs.Program.{Expr, Path}
 use Rattle.smv_paths.specs.Abbreviations.{Mention, mentions, element_mentions, arm_mentions, index_mentions}
-use Rattle.smv_paths.specs.Written.{extended, followed}
+use Rattle.smv_paths.specs.Written.{followed}
 use Rattle.smv_paths.specs.declared.mentions.Mention.{Mention as Held}
 use Rattle.smv_paths.specs.Mentions.{plain_mention, part_mentions}
 use Rattle.smv_paths.proofs.WrittenLemmas.{followed_more}

@@ -1,9 +1,8 @@
 -- Indexes as the code has them, the first one first, and as definitions have them, the last one first.
-use Rattle.std.proofs.Common.{◌≡◌, refl, sym, ◌∙◌, ap, subst, ℕ, zero, suc, ◌+◌, ◌-◌, ◌<◌, ◌≤◌, arith, List, [], ◌∷◌, ◌++◌, length, take, drop, reverse, Bool, true, false, Some, None, Option, ◌⊎◌, inl, inr}
+use Rattle.std.proofs.Common.{◌≡◌, refl, sym, ◌∙◌, ap, subst, ℕ, zero, suc, ◌-◌, arith, List, [], ◌∷◌, ◌++◌, length, take, drop, reverse, ◌⊎◌, inl, inr}
 use Rattle.std.proofs.lemmas.List.{reverse-append, reverse-reverse, length-reverse, take-append-drop}
 use Rattle.std.proofs.Common.{length-drop}
-use Rattle.smv_instances.specs.Program.{Path, Plain, Program}
-use Rattle.smv_instances.specs.Instances.{Scope}
+use Rattle.smv_instances.specs.Program.{Program}
 use Rattle.smv_instances.specs.Tables.{Pairs}
 use Rattle.smv_paths.specs.Denotes.{Bracket}
 use Rattle.smv_paths.specs.Expands.{IsIndex, AreIndexes}

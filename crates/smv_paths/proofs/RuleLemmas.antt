@@ -1,14 +1,14 @@
 -- What paths are refused for, one after the other.
-use Rattle.std.proofs.Common.{◌≡◌, refl, sym, ◌∙◌, ap, subst, ℕ, ◌+◌, ◌<◌, arith, List, [], ◌∷◌, ◌++◌, length, map, take, get_or, Bool, true, false, Some, None, Option, ◌⊎◌, inl, inr}
-use Rattle.std.specs.Prelude.{All, IsTrue, not, ◌||◌, Result, Ok, Err, MatchResult}
-use Rattle.kripke_model.specs.Refusing.{Rule, Silent, refuse, ◌then◌, First, first_of}
+use Rattle.std.proofs.Common.{List, get_or, inl, inr}
+use Rattle.std.specs.Prelude.{All, Result, Ok, Err, MatchResult}
+use Rattle.kripke_model.specs.Refusing.{Silent, first_of}
 use Rattle.kripke_model.proofs.FirstLemmas.{silent_refuse, silent_then, silent_list}
 use Rattle.smv_instances.specs.declared.refusals.FlatRefusal.{FlatRefusal}
 use Rattle.smv_instances.specs.Program.{Path, Program}
 use Rattle.smv_instances.specs.Instances.{Scope}
 use Rattle.smv_instances.specs.Answers.{Refused}
 use Rattle.smv_paths.specs.Abbreviations.{Mention, HasBadIndex, unknown_path, bad_index, path_rows}
-use Rattle.smv_paths.specs.Sound.{HasIndexes, IsSound, AreSound}
+use Rattle.smv_paths.specs.Sound.{HasIndexes, AreSound}
 use Rattle.smv_paths.specs.Known.{IsKnown}
 
 known_silent : (p : Program) (s : Scope) (m : Mention) → IsKnown p s m → Silent (unknown_path p s m)

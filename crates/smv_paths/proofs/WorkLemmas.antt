@@ -1,9 +1,9 @@
 -- A table over abbreviations that is filled in order.
-use Rattle.std.proofs.Common.{◌≡◌, ◌≢◌, refl, sym, ◌∙◌, ap, subst, ℕ, zero, suc, ◌+◌, ◌<◌, ◌≤◌, arith, List, [], ◌∷◌, length, get_or, set, replicate, Bool, true, false, Some, None, Option, ◌⊎◌, inl, inr}
+use Rattle.std.proofs.Common.{◌≡◌, ◌≢◌, refl, sym, ◌∙◌, ap, subst, ℕ, zero, suc, ◌+◌, ◌<◌, ◌≤◌, arith, List, [], ◌∷◌, length, get_or, set, replicate, Bool, false, Some, None, Option, ◌⊎◌, inl, inr}
 use Rattle.std.proofs.lemmas.List.{get_or-set_same, get_or-set_other, get_or-replicate, length-replicate, length-set}
 use Rattle.smv_instances.specs.Program.{Expr, Program}
 use Rattle.smv_instances.specs.Instances.{Scope, all_entries}
-use Rattle.smv_paths.specs.Abbreviations.{Abbreviation, text_of, Uses, IsCircular}
+use Rattle.smv_paths.specs.Abbreviations.{Abbreviation, text_of, Uses}
 use Rattle.smv_paths.specs.Nodes.{abbreviation_at}
 use Rattle.smv_paths.specs.Ordered.{AreOrdered}
 use Rattle.smv_paths.specs.Works.{Works}

@@ -1,5 +1,5 @@
 -- Abbreviations in an order in which they can be worked off, and those that are circular.
-use Rattle.std.specs.Prelude.{◌≡◌, ℕ, ◌<◌, Bool, true, false, List, length, slice_index, slice_index_or, Option, Some, None}
+use Rattle.std.specs.Prelude.{◌≡◌, ℕ, ◌<◌, Bool, true, false, List, length, slice_index, slice_index_or, Some}
 use Rattle.smv_instances.specs.Program.{Expr, Program}
 use Rattle.smv_instances.specs.Instances.{Scope, all_entries}
 use Rattle.smv_paths.specs.Abbreviations.{Abbreviation, text_of, Uses, IsCircular}

@@ -1,5 +1,5 @@
 -- Paths and definitions that no rule refuses.
-use Rattle.std.specs.Prelude.{◌≡◌, ℕ, Bool, false, not, ◌||◌, List, [], ◌∷◌, Option, Some, None, IsTrue, All}
+use Rattle.std.specs.Prelude.{◌≡◌, ℕ, false, not, ◌||◌, List, [], ◌∷◌, Option, Some, None, IsTrue, All}
 use Rattle.smv_instances.specs.Program.{Name, Expr, Path, Plain, Program}
 use Rattle.smv_instances.specs.Instances.{Scope}
 use Rattle.smv_paths.specs.Denotes.{Bracket, Target, Denotes, Meaning, meaning}

@@ -1,4 +1,4 @@
-use Rattle.std.proofs.Common.{◌≡◌, ℕ, refl, sym, ◌∙◌, ap, subst, ◌<◌, ◌≤◌, arith, List, [], ◌∷◌, ◌++◌, Bool, true, false, length, map, take, drop, get_or, append_assoc, inl, inr, ⊎_elim}
+use Rattle.std.proofs.Common.{◌≡◌, ℕ, refl, sym, ◌∙◌, ap, subst, ◌<◌, ◌≤◌, arith, List, [], ◌++◌, true, length, map, take, drop, get_or, inl, inr, ⊎_elim}
 use Rattle.std.specs.List.{list_any}
 use Rattle.std.specs.Str.{bytes_eq}
 use Rattle.std.proofs.lemmas.List.{length-map, take-append-drop}
@@ -9,7 +9,7 @@ use Rattle.smv_instances.specs.Instances.{module_of}
 use Rattle.smv_instances.specs.Declarations.{declaration, entries_of}
 use Rattle.smv_instances.specs.Counting.{IsCounts}
 use Rattle.smv_instances.specs.Numbered.{plain_entry}
-use Rattle.smv_instances.specs.Tables.{IsFresh, IsFront}
+use Rattle.smv_instances.specs.Tables.{IsFresh}
 use Rattle.smv_instances.proofs.ListSteps.{take_whole}
 use Rattle.smv_instances.proofs.FirstSteps.{first_front}
 use Rattle.smv_instances.proofs.TableLemmas.{get_or-map, map-take, length_take, front_short}

@@ -9,7 +9,6 @@ use Rattle.smv_instances.specs.Plain.{plain_expr}
 use Rattle.smv_instances.specs.Instances.{modules_to}
 use Rattle.smv_instances.specs.Declarations.{declaration_rows}
 use Rattle.smv_instances.specs.Answers.{Refused}
-use Rattle.smv_instances.specs.Counting.{IsNamed}
 use Rattle.smv_instances.proofs.RowLemmas.{row_at, table_at, module_absent, module_present, present_is_found, length_modules, table_formals, contains_name, name_contained}
 use Rattle.smv_instances.proofs.body.check_instance.Goals as goal
 

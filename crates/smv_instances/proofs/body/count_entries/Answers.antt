@@ -1,8 +1,7 @@
-use Rattle.std.proofs.Common.{◌≡◌, refl, sym, ◌∙◌, ap, subst, ◌+◌, ◌<◌, arith, List, [], ◌∷◌, ◌++◌, Bool, true, false, length, map, take, get_or, append_assoc, append-nil, inl, inr, ⊎_elim, IsTrue}
+use Rattle.std.proofs.Common.{◌≡◌, refl, sym, ◌∙◌, ap, subst, ◌<◌, arith, [], ◌∷◌, ◌++◌, Bool, false, length, map, take, get_or, append_assoc, append-nil, inl, inr, ⊎_elim, IsTrue}
 use Rattle.std.proofs.lemmas.Result.{err_from_is_err_and}
 use Rattle.kripke_model.specs.Refusing.{Silent, First}
 use Rattle.std.proofs.lemmas.List.{length-map, take_more}
-use Rattle.smv_instances.specs.Instances.{Scope}
 use Rattle.smv_instances.specs.Declarations.{IsSecondMain, declaration, entries_of}
 use Rattle.smv_instances.specs.Counting.{IsCounts}
 use Rattle.smv_instances.specs.Numbered.{plain_entry}

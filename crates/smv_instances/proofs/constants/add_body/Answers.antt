@@ -1,4 +1,4 @@
-use Rattle.std.proofs.Common.{◌≡◌, refl, sym, ◌∙◌, ap, ◌+◌, ◌<◌, arith, List, [], ◌∷◌, ◌++◌, length, map, flat_map, take, append_assoc, append-nil}
+use Rattle.std.proofs.Common.{◌≡◌, sym, ◌∙◌, ap, ◌+◌, arith, [], ◌∷◌, ◌++◌, map, take, append_assoc, append-nil}
 use Rattle.std.proofs.lemmas.Grind.{flat_map-append}
 use Rattle.smv_instances.specs.Entries.{Entry}
 use Rattle.smv_instances.specs.Instances.{atoms_of, distinct_names}

@@ -1,8 +1,8 @@
-use Rattle.std.proofs.Common.{◌≡◌, refl, sym, ◌∙◌, ap, subst, ◌+◌, ◌<◌, arith, List, [], ◌∷◌, ◌++◌, Bool, true, false, not, ◌&&◌, IsTrue, length, map, take, get_or}
+use Rattle.std.proofs.Common.{◌≡◌, refl, sym, ◌∙◌, ap, subst, ◌<◌, arith, Bool, false, not, ◌&&◌, IsTrue, length, map, get_or}
 use Rattle.std.specs.List.{list_any}
 use Rattle.std.specs.Str.{bytes_eq}
 use Rattle.std.proofs.lemmas.List.{length-map}
-use Rattle.kripke_model.specs.Refusing.{Silent, first_of, refuse}
+use Rattle.kripke_model.specs.Refusing.{Silent, refuse}
 use Rattle.kripke_model.proofs.FirstLemmas.{silent_refuse}
 use Rattle.smv_instances.specs.declared.refusals.FlatRefusal.{FlatRefusal}
 use Rattle.smv_instances.specs.Entries.{Entry}

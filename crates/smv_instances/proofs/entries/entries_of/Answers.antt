@@ -1,4 +1,4 @@
-use Rattle.std.proofs.Common.{refl, ◌∙◌, ap, sym, ◌++◌, map, flat_map}
+use Rattle.std.proofs.Common.{◌∙◌, ap, sym, ◌++◌, map, flat_map}
 use Rattle.smv_parser.specs.ProgramView as programs
 use Rattle.smv_instances.specs.Abstract as plain
 use Rattle.smv_instances.specs.Plain.{plain_formal, plain_section}

@@ -1,7 +1,5 @@
-use Rattle.std.proofs.Common.{refl}
 use Rattle.smv_instances.proofs.ListSteps.{map_map}
 use Rattle.smv_instances.specs.Abstract as plain
-use Rattle.smv_instances.specs.Program.{Expr}
 use Rattle.smv_instances.specs.Entries.{Entity}
 use Rattle.smv_parser.specs.View.{tree_of}
 use Rattle.std.proofs.Common.{ap, sym}

@@ -1,4 +1,4 @@
-use Rattle.std.proofs.Common.{◌≡◌, ◌++◌, map, flat_map, take}
+use Rattle.std.proofs.Common.{◌≡◌, ◌++◌, map, take}
 use Rattle.smv_instances.specs.Plain.{plain_declaration}
 use Rattle.smv_instances.specs.Entries.{of_declaration}
 use Rattle.smv_instances.specs.Numbered.{plain_entry}

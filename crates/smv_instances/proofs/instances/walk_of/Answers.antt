@@ -1,4 +1,4 @@
-use Rattle.std.proofs.Common.{◌≡◌, refl, sym, ◌∙◌, ap, subst, arith, [], ◌∷◌, inl, inr, ⊎_elim}
+use Rattle.std.proofs.Common.{refl, sym, subst, [], inl, inr, ⊎_elim}
 use Rattle.std.proofs.lemmas.Result.{err_from_is_err_and}
 use Rattle.kripke_model.specs.Refusing.{Silent, First}
 use Rattle.smv_instances.specs.Instances.{Scope}

@@ -1,8 +1,8 @@
-use Rattle.std.proofs.Common.{◌≡◌, refl, sym, ◌∙◌, ap, subst, ◌+◌, ◌<◌, arith, List, [], ◌∷◌, ◌++◌, Bool, true, false, not, cond, length, map, take, get_or, inr}
+use Rattle.std.proofs.Common.{◌≡◌, refl, sym, ◌∙◌, ap, subst, ◌+◌, ◌<◌, arith, [], ◌∷◌, ◌++◌, Bool, true, false, not, cond, length, map, take, get_or, inr}
 use Rattle.std.specs.Prelude.{is_some}
 use Rattle.std.specs.List.{list_any}
 use Rattle.std.specs.Str.{bytes_eq}
-use Rattle.kripke_model.specs.Refusing.{Silent, First, refuse}
+use Rattle.kripke_model.specs.Refusing.{Silent}
 use Rattle.kripke_model.proofs.FirstLemmas.{silent_refuse}
 use Rattle.smv_parser.specs.ProgramView as programs
 use Rattle.smv_instances.specs.declared.refusals.FlatRefusal.{FlatRefusal}

@@ -1,11 +1,10 @@
-use Rattle.std.proofs.Common.{◌≡◌, refl, sym, ◌∙◌, ap, subst, ℕ, zero, suc, arith, List, [], ◌∷◌, ◌++◌, length, None, Some, Option, lit≤}
+use Rattle.std.proofs.Common.{◌≡◌, refl, sym, ◌∙◌, ap, subst, ℕ, zero, suc, arith, [], ◌∷◌, ◌++◌, None, Some}
 use Rattle.std.specs.Prelude.{slice_get, filter}
 use Rattle.std.proofs.lemmas.Option.{same_Some}
 use Rattle.smv_instances.specs.declared.modules.Modules.{Modules}
 use Rattle.smv_instances.specs.declared.rows.Row.{Row}
-use Rattle.smv_instances.specs.declared.rows.Walk.{Walk}
 use Rattle.smv_instances.specs.Program.{Module}
-use Rattle.smv_instances.specs.Instances.{Scope, depth, is_process, process_of}
+use Rattle.smv_instances.specs.Instances.{Scope, is_process}
 use Rattle.smv_instances.specs.Walk.{AreRows, IsRow, IsStep, Stands}
 use Rattle.smv_instances.specs.Tables.{Pairs}
 use Rattle.smv_instances.proofs.rows.main_alone.Goals as goal

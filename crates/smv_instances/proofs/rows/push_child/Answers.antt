@@ -1,4 +1,4 @@
-use Rattle.std.proofs.Common.{◌≡◌, refl, sym, ◌∙◌, ap, subst, arith, List, [], ◌∷◌, ◌++◌, length, map, Some, None}
+use Rattle.std.proofs.Common.{◌≡◌, refl, sym, ◌∙◌, ap, subst, arith, [], ◌∷◌, ◌++◌, length, map, Some}
 use Rattle.std.specs.Prelude.{slice_get, filter}
 use Rattle.smv_instances.specs.declared.rows.Step.{Step}
 use Rattle.smv_instances.specs.declared.rows.Row.{Row}

@@ -1,4 +1,4 @@
-use Rattle.std.proofs.Common.{◌≡◌, refl, sym, ap, ℕ, zero, suc, ◌<◌, arith, List, [], ◌∷◌, length, get_or}
+use Rattle.std.proofs.Common.{◌≡◌, ap, ℕ, zero, suc, ◌<◌, arith, List, [], ◌∷◌, length, get_or}
 use Rattle.std.specs.Prelude.{slice_set}
 use Rattle.smv_instances.specs.Walk.{updated}
 use Rattle.smv_instances.proofs.rows.set_children.Goals as goal

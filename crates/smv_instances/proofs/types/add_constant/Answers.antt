@@ -1,9 +1,6 @@
-use Rattle.std.proofs.Common.{◌≡◌, refl, sym, subst}
+use Rattle.std.proofs.Common.{◌≡◌, refl}
 use Rattle.smv_instances.specs.Program.{Constant}
 use Rattle.smv_instances.specs.Plain.{plain_constant}
-use Rattle.std.specs.Prelude.{IfOk, not, if◌then◌else◌, ◌++◌, ◌∷◌, []}
-use Rattle.std.specs.List.{list_any}
-use Rattle.std.specs.Str.{bytes_eq}
 use Rattle.smv_instances.proofs.ConstantLemmas.{name_added}
 use Rattle.smv_instances.proofs.types.add_constant.Goals as goal
 

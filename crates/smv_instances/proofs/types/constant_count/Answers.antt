@@ -1,4 +1,4 @@
-use Rattle.std.proofs.Common.{◌≡◌, refl, sym, ◌∙◌, ap, ◌+◌, ◌<◌, ◌≤◌, arith, not, ◌||◌, length, map, take, get_or}
+use Rattle.std.proofs.Common.{◌≡◌, sym, ◌∙◌, ap, ◌+◌, ◌<◌, ◌≤◌, arith, not, ◌||◌, length, map, take, get_or}
 use Rattle.std.specs.List.{list_any, filter_map}
 use Rattle.std.proofs.lemmas.List.{length-map}
 use Rattle.std.proofs.lemmas.List.Folds.{list_any_more}
@@ -6,7 +6,7 @@ use Rattle.smv_instances.specs.Plain.{plain_constant}
 use Rattle.smv_instances.specs.Instances.{atom, value_of}
 use Rattle.kripke_model.specs.Evaluation.{distinct}
 use Rattle.smv_instances.specs.Declarations.{one_if}
-use Rattle.smv_instances.specs.Constants.{holds, is_same}
+use Rattle.smv_instances.specs.Constants.{is_same}
 use Rattle.smv_instances.proofs.TableLemmas.{get_or-map}
 use Rattle.smv_instances.proofs.ConstantLemmas.{known_at, value_step}
 use Rattle.smv_instances.proofs.types.constant_count.Goals as goal

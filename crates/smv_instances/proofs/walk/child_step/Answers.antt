@@ -1,10 +1,9 @@
-use Rattle.std.proofs.Common.{◌≡◌, refl, sym, ◌∙◌, ap, map, Option, Some, None}
+use Rattle.std.proofs.Common.{refl, sym, ◌∙◌, ap, map}
 use Rattle.std.specs.Prelude.{option_map}
 use Rattle.std.specs.List.{list_any}
 use Rattle.std.specs.Str.{bytes_eq}
 use Rattle.smv_instances.specs.Plain.{plain_expr}
-use Rattle.smv_instances.specs.Instances.{Scope, child}
-use Rattle.smv_instances.specs.Numbered.{plain_entry}
+use Rattle.smv_instances.specs.Instances.{Scope}
 use Rattle.smv_instances.proofs.RowLemmas.{module_absent, module_present}
 use Rattle.smv_instances.proofs.walk.child_step.Goals as goal
 

@@ -1,10 +1,6 @@
-use Rattle.std.proofs.Common.{◌≡◌, refl, ap, sym, ◌∙◌, subst, List, Option, Some, None, map}
-use Rattle.std.specs.Prelude.{slice_get, IfNone}
+use Rattle.std.proofs.Common.{refl, subst}
 use Rattle.std.proofs.lemmas.Option.{slice_get_past, slice_get_read}
-use Rattle.smv_instances.specs.declared.rows.Step.{Step}
-use Rattle.smv_instances.specs.Plain.{plain_expr}
 use Rattle.smv_instances.specs.Instances.{instances}
-use Rattle.smv_instances.specs.Numbered.{IsActual, actuals_of}
 use Rattle.smv_instances.specs.Walk.{IsStep}
 use Rattle.smv_instances.proofs.InstanceLemmas.{is_row, no_step, step_absent, step_actual}
 use Rattle.smv_instances.proofs.instances.Instances.actual.Goals as goal

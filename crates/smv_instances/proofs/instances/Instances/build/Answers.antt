@@ -1,16 +1,16 @@
-use Rattle.std.proofs.Common.{◌≡◌, refl, ap, sym, ◌∙◌, subst, ◌<◌, arith, ℕ, List, Some, length, map, inl, inr}
+use Rattle.std.proofs.Common.{◌≡◌, ap, sym, ◌∙◌, subst, ◌<◌, arith, length, map, inr}
 use Rattle.std.proofs.lemmas.Result.{err_from_is_err_and}
-use Rattle.kripke_model.specs.Refusing.{Silent, ◌then◌}
+use Rattle.kripke_model.specs.Refusing.{Silent}
 use Rattle.kripke_model.proofs.FirstLemmas.{silent_then}
-use Rattle.smv_instances.specs.Entries.{Entry, entries}
+use Rattle.smv_instances.specs.Entries.{entries}
 use Rattle.smv_instances.specs.Plain.{plain_program}
-use Rattle.smv_instances.specs.Instances.{instances, main_scope, module_of, symbols}
+use Rattle.smv_instances.specs.Instances.{instances, symbols}
 use Rattle.smv_instances.specs.Declarations.{declarations, named_constant, no_main, refused_declarations, second_module}
 use Rattle.smv_instances.specs.Numbered.{plain_entry}
 use Rattle.smv_instances.specs.Program.{Program}
 use Rattle.smv_instances.specs.Walk.{AreRows}
 use Rattle.smv_instances.proofs.RowLemmas.{table_at, within_tables}
-use Rattle.smv_instances.proofs.BuildLemmas.{constants_of, main_entries, symbols_bodies}
+use Rattle.smv_instances.proofs.BuildLemmas.{constants_of, symbols_bodies}
 use Rattle.smv_instances.proofs.InstanceLemmas.{selector_bodies, constants_main}
 use Rattle.smv_instances.proofs.instances.Instances.build.Goals as goal
 

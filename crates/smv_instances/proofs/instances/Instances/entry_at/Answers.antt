@@ -1,4 +1,4 @@
-use Rattle.std.proofs.Common.{◌≡◌, ap, sym, ◌∙◌, ℕ, None, false, ◌<◌, length, subst}
+use Rattle.std.proofs.Common.{◌≡◌, ap, sym, ◌∙◌, None, false, ◌<◌, length, subst}
 use Rattle.std.specs.List.{list_any}
 use Rattle.std.specs.Str.{bytes_eq}
 use Rattle.smv_instances.specs.Entries.{entity_in}

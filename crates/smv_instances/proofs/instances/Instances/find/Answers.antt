@@ -1,4 +1,4 @@
-use Rattle.std.proofs.Common.{◌≡◌, ap, sym, ◌∙◌, subst}
+use Rattle.std.proofs.Common.{subst}
 use Rattle.std.proofs.lemmas.Option.{slice_get_within}
 use Rattle.smv_instances.specs.Numbered.{IsFound}
 use Rattle.smv_instances.proofs.RowLemmas.{some_at}

@@ -1,13 +1,9 @@
-use Rattle.std.proofs.Common.{◌≡◌, refl, ap, sym, ◌∙◌, subst, ◌<◌, arith, ℕ, List, Some, length, map, get_or}
-use Rattle.std.specs.Prelude.{slice_get}
-use Rattle.std.proofs.lemmas.Option.{same_Some, slice_get_within, slice_get_read}
-use Rattle.smv_instances.specs.declared.entries.Entry.{Entry as Line}
-use Rattle.smv_instances.specs.Program.{Program}
+use Rattle.std.proofs.Common.{◌≡◌, ap, sym, ◌∙◌, ◌<◌, arith, Some, length, map, get_or}
+use Rattle.std.proofs.lemmas.Option.{slice_get_within}
 use Rattle.smv_instances.specs.Plain.{plain_expr}
-use Rattle.smv_instances.specs.Entries.{Entity, Entry, entries, entity_in}
-use Rattle.smv_instances.specs.Instances.{Scope, module_of}
-use Rattle.smv_instances.specs.Numbered.{IsFound, plain_entry, plain_entity, scope_at}
-use Rattle.smv_instances.specs.Built.{AreInstances}
+use Rattle.smv_instances.specs.Entries.{Entity, Entry, entries}
+use Rattle.smv_instances.specs.Instances.{module_of}
+use Rattle.smv_instances.specs.Numbered.{plain_entry, plain_entity, scope_at}
 use Rattle.smv_instances.proofs.RowLemmas.{some_at, table_at, within_tables}
 use Rattle.smv_instances.proofs.InstanceLemmas.{is_row, entry_read, entry_declared, entry_place, child_number, declared_child, length_entries, length_ordinals, get_value}
 use Rattle.smv_instances.proofs.FindLemmas.{formal_at}

@@ -1,5 +1,4 @@
-use Rattle.std.proofs.Common.{ap, sym, ◌∙◌, subst, ℕ, List, Bor}
-use Rattle.std.specs.Prelude.{IfSome, IfNone}
+use Rattle.std.proofs.Common.{ℕ, List, Bor}
 use Rattle.std.specs.Str.{bytes_eq}
 use Rattle.smv_instances.proofs.NameLemmas.{any_map, place_map, place_of_position, none_if_absent}
 use Rattle.smv_instances.proofs.names.Names.place.Goals as goal
