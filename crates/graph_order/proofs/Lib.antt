@@ -1,0 +1,5 @@
+pub mod GraphLemmas
+pub mod SearchLemmas
+pub mod AdvanceLemmas
+pub mod ComponentLemmas
+pub mod StepLemmas
