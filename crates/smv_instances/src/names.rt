@@ -1,6 +1,6 @@
 //! Names in the order of their first places.
 
-ghost use Rattle.std.specs.Prelude.{◌≡◌, ◌<◌, ◌++◌, ◌∷◌, [], length, not, if◌then◌else◌, IfOk, IfSome, IfNone, false, is_some};
+ghost use Rattle.std.specs.Prelude.{◌≡◌, ◌<◌, ◌++◌, ◌∷◌, [], length, not, if◌then◌else◌, IfOk, IfSome, IfNone, Some, false, is_some, slice_get};
 ghost use Rattle.std.specs.List.{list_any};
 ghost use Rattle.std.specs.Str.{bytes_eq};
 ghost use Rattle.smv_instances.specs.Instances.{place_of};
@@ -45,6 +45,17 @@ impl<'p> Names<'p> {
         ensures { result ≡ length self.now }
     {
         self.set.len()
+    }
+
+    /// The name at a place.
+    pub fn name_at(&self, place: usize) -> &'p str
+        requires { place < length self.now }
+        ensures { slice_get self.now place ≡ Some result.now }
+    {
+        match self.set.get_index(place) {
+            Some(name) => *name,
+            None => unreachable!(),
+        }
     }
 
     /// Whether a name is there.
