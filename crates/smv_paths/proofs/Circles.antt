@@ -1,7 +1,7 @@
 -- Circular abbreviations are those on a cycle of the graph of uses.
 use Rattle.std.proofs.Common.{◌≡◌, refl, sym, subst, ℕ, ◌<◌, List, Option, Some, None, ◌⊎◌, inl, inr}
 use Rattle.smv_instances.specs.Program.{Program}
-use Rattle.smv_paths.specs.Graphs.{HasEdge, LeadsTo}
+use Rattle.graph_order.specs.Graphs.{HasEdge, LeadsTo}
 use Rattle.smv_paths.specs.Abbreviations.{Abbreviation, text_of, Uses, Leads, IsCircular}
 
 no_text : {A : Type 0} {o : Option A} {a : A} → o ≡ None → o ≡ Some a → ⊥

@@ -22,7 +22,7 @@ use Rattle.smv_paths.proofs.ActualLemmas.{actual_for, parameter_meaning, passed_
 
 -- ---- formal parameters
 
-no_actual : (s : Scope) (x : Name) (place : ℕ) (p : Program) → IsFound p s x (found.Parameter place) → slice_get (actuals_of s) place ≡ None → actual_of s x ≡ None
+pub no_actual : (s : Scope) (x : Name) (place : ℕ) (p : Program) → IsFound p s x (found.Parameter place) → slice_get (actuals_of s) place ≡ None → actual_of s x ≡ None
 no_actual (Scope.Main m) x place p is none = refl
 no_actual (Scope.Inside around name process actuals m) x place p (declared, formal) none = actual_for around name process actuals m x place None formal none
 
@@ -30,7 +30,7 @@ no_actual (Scope.Inside around name process actuals m) x place p (declared, form
 pub parameter_none : (p : Program) (s : Scope) (x : Name) (place : ℕ) → IsFound p s x (found.Parameter place) → slice_get (actuals_of s) place ≡ None → meaning p s x ≡ None
 parameter_none p s x place is none = parameter_meaning p s x None is.0 (no_actual s x place p is none)
 
-actual_is : (p : Program) (s : Scope) (x : Name) (place caller : ℕ) (e : Expr) → IsFound p s x (found.Parameter place) → (a : IsActual p s place caller e) → actual_of s x ≡ Some (a.around, bare e)
+pub actual_is : (p : Program) (s : Scope) (x : Name) (place caller : ℕ) (e : Expr) → IsFound p s x (found.Parameter place) → (a : IsActual p s place caller e) → actual_of s x ≡ Some (a.around, bare e)
 actual_is p s x place caller e is a =
     let inside : Scope = Scope.Inside a.around a.name a.process a.actuals a.m in
     let formal = subst (λ z. IsFound p z x (found.Parameter place)) a.is is in
@@ -61,10 +61,10 @@ finding_direct p states s x h t is e = (t, is, Finds.direct e)
 pub numbered_by : (p : Program) (node : ℕ) (s : Scope) (x : Name) (e : Entry) → slice_get (all_entries p) node ≡ Some (s, e) → e.name ≡ x → abbreviation_at p node ≡ Some (record { scope = s; name = x })
 numbered_by p node s x e at named = ap (option_map (λ (d : Scope × Entry). record { scope = d.0; name = d.1.name })) at ∙ ap (λ (y : Name). Some (record { scope = s; name = y })) named
 
-text_defined : (s : Scope) (x : Name) (body : Expr) → entity_in (module_of s) x ≡ Some (Entity.Defined body) → text_of (record { scope = s; name = x }) ≡ Some (s, body)
+pub text_defined : (s : Scope) (x : Name) (body : Expr) → entity_in (module_of s) x ≡ Some (Entity.Defined body) → text_of (record { scope = s; name = x }) ≡ Some (s, body)
 text_defined s x body declared = rw declared
 
-text_parameter : (s : Scope) (x : Name) → entity_in (module_of s) x ≡ Some Entity.Parameter → text_of (record { scope = s; name = x }) ≡ actual_of s x
+pub text_parameter : (s : Scope) (x : Name) → entity_in (module_of s) x ≡ Some Entity.Parameter → text_of (record { scope = s; name = x }) ≡ actual_of s x
 text_parameter s x declared = rw declared
 
 pub text_none : (s : Scope) (x : Name) → entity_in (module_of s) x ≡ None → text_of (record { scope = s; name = x }) ≡ None

@@ -41,7 +41,7 @@ sizes_right p sizes s ms ns known v a at named = known v a at (named_right p s a
 first_named : (p : Program) (s : Scope) (q : Path) (rest : List Path) (a : Abbreviation) → fronts q ≡ q ∷ rest → Names p s q a → NamedIn p s (mentions (Expr.At q)) a
 first_named p s q rest a is n = any_here (InFronts p s a) (record { path = q; wanted = true }) (index_mentions q) (subst (λ z. Any (λ r. Names p s r a) z) (sym is) (any_here (λ r. Names p s r a) q rest n))
 
-named_itself : (p : Program) (s : Scope) (a : Abbreviation) (q : Path) → Names p s q a → NamedIn p s (mentions (Expr.At q)) a
+pub named_itself : (p : Program) (s : Scope) (a : Abbreviation) (q : Path) → Names p s q a → NamedIn p s (mentions (Expr.At q)) a
 named_itself p s a (Path.Here line x) n = first_named p s (Path.Here line x) [] a refl n
 named_itself p s a (Path.Field q x) n = first_named p s (Path.Field q x) (fronts q) a refl n
 named_itself p s a (Path.Index q e) n = absurd n
@@ -53,7 +53,7 @@ instance_or s other = s
 same_abbreviation : {a b : Abbreviation} → a.scope ≡ b.scope → a.name ≡ b.name → a ≡ b
 same_abbreviation {a} {b} e f = ap (λ z. record { scope = z; name = a.name }) e ∙ ap (λ z. record { scope = b.scope; name = z }) f
 
-names_one : (p : Program) (s : Scope) (a b : Abbreviation) (q : Path) → Names p s q a → Names p s q b → a ≡ b
+pub names_one : (p : Program) (s : Scope) (a b : Abbreviation) (q : Path) → Names p s q a → Names p s q b → a ≡ b
 names_one p s a b (Path.Here line x) n m = same_abbreviation (n.0 ∙ sym m.0) (n.1 ∙ sym m.1)
 names_one p s a b (Path.Field q x) n m = same_abbreviation (ap (instance_or a.scope) (denotes_one n.0 m.0)) (n.1 ∙ sym m.1)
 names_one p s a b (Path.Index q e) n m = absurd n

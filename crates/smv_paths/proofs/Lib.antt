@@ -1,9 +1,4 @@
 pub mod Once
-pub mod GraphLemmas
-pub mod SearchLemmas
-pub mod AdvanceLemmas
-pub mod ComponentLemmas
-pub mod StepLemmas
 pub mod Circles
 pub mod WrittenLemmas
 pub mod MentionLemmas
@@ -20,6 +15,8 @@ pub mod ActualLemmas
 pub mod StateLemmas
 pub mod FoundLemmas
 pub mod NameNodes
+pub mod DistinctLemmas
+pub mod UseLemmas
 pub mod BeginLemmas
 pub mod WorkLemmas
 pub mod IndexLemmas
@@ -28,3 +25,12 @@ pub mod PairLemmas
 pub mod RuleLemmas
 pub mod ExistLemmas
 pub mod DefinedLemmas
+pub mod PlaceLemmas
+pub mod TextLemmas
+pub mod FillLemmas
+pub mod MeasureLemmas
+pub mod EndLemmas
+pub mod CheckLemmas
+pub mod MemberLemmas
+pub mod DefinitionLemmas
+pub mod AllDefined

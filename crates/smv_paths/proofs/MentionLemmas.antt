@@ -1,5 +1,5 @@
 -- The paths of an expression part by part.
-use Rattle.std.proofs.Common.{◌≡◌, refl, sym, ◌∙◌, ap, ℕ, ◌+◌, ◌<◌, List, [], ◌∷◌, ◌++◌, length, get_or, take, append_assoc}
+use Rattle.std.proofs.Common.{◌≡◌, refl, sym, ◌∙◌, ap, ℕ, ◌+◌, ◌<◌, List, [], ◌∷◌, ◌++◌, length, get_or, take, append_assoc, true, false}
 use Rattle.std.specs.Prelude.{map}
 use Rattle.std.proofs.lemmas.List.{append-nil, map_push, take_more}
 use Rattle.smv_parser.specs.declared.expressions.Arm.{Arm}
@@ -11,8 +11,9 @@ use Rattle.smv_parser.specs.View.{tree_of, arm_pair}
 use Rattle.smv_instances.specs.Abstract as abstract
 use Rattle.smv_instances.specs.Plain.{plain_expr}
 use Rattle.smv_instances.specs.Program.{Expr, Path}
-use Rattle.smv_paths.specs.Abbreviations.{Mention, mentions, element_mentions, arm_mentions, index_mentions}
-use Rattle.smv_paths.specs.Written.{followed}
+use Rattle.smv_paths.specs.Abbreviations.{Mention, mentions, actual_mentions, element_mentions, arm_mentions, index_mentions}
+use Rattle.smv_paths.specs.Written.{followed, is_path}
+use Rattle.smv_paths.specs.Denotes.{bare}
 use Rattle.smv_paths.specs.declared.mentions.Mention.{Mention as Held}
 use Rattle.smv_paths.specs.Mentions.{plain_mention, part_mentions}
 use Rattle.smv_paths.proofs.WrittenLemmas.{followed_more}
@@ -71,3 +72,44 @@ parts_added old q xs k part mid new h is a b =
     added_twice old (index_mentions (followed q (take k xs))) (part_mentions part) mid new a b
     ∙ ap (λ z. old ++ z) (sym (parts-push q (take k xs) part))
     ∙ ap (λ z. old ++ index_mentions (followed q z)) (sym (take_more xs k part h ∙ ap (λ z. take k xs ++ z ∷ []) (sym is)))
+
+-- ---- actual parameters
+
+-- the paths of one without parentheses
+abbrev bare_mentions : Expr → List Mention
+bare_mentions (Expr.At q) = record { path = q; wanted = false } ∷ index_mentions q
+bare_mentions other = mentions other
+
+actual_bare : (e : Expr) → actual_mentions e ≡ bare_mentions (bare e)
+actual_bare (Expr.At q) = refl
+actual_bare (Expr.Number n) = refl
+actual_bare (Expr.Truth b) = refl
+actual_bare Expr.Running = refl
+actual_bare (Expr.Next e) = refl
+actual_bare (Expr.Parens e) = actual_bare e
+actual_bare (Expr.Braces es) = refl
+actual_bare (Expr.Case arms) = refl
+actual_bare (Expr.Not e) = refl
+actual_bare (Expr.Binary op a b) = refl
+actual_bare (Expr.Quant op e) = refl
+actual_bare (Expr.Until all a b) = refl
+
+other_mentions : (e : Expr) → is_path e ≡ false → bare_mentions e ≡ mentions e
+other_mentions (Expr.At q) other = absurd (let clash : true ≡ false = other in cc)
+other_mentions (Expr.Number n) other = refl
+other_mentions (Expr.Truth b) other = refl
+other_mentions Expr.Running other = refl
+other_mentions (Expr.Next e) other = refl
+other_mentions (Expr.Parens e) other = refl
+other_mentions (Expr.Braces es) other = refl
+other_mentions (Expr.Case arms) other = refl
+other_mentions (Expr.Not e) other = refl
+other_mentions (Expr.Binary op a b) other = refl
+other_mentions (Expr.Quant op e) other = refl
+other_mentions (Expr.Until all a b) other = refl
+
+pub actual_path : (e : Expr) (q : Path) → bare e ≡ Expr.At q → actual_mentions e ≡ record { path = q; wanted = false } ∷ index_mentions q
+actual_path e q is = actual_bare e ∙ ap bare_mentions is
+
+pub actual_other : (e b : Expr) → b ≡ bare e → is_path b ≡ false → mentions b ≡ actual_mentions e
+actual_other e b is other = sym (other_mentions b other) ∙ ap bare_mentions is ∙ sym (actual_bare e)

@@ -177,7 +177,7 @@ bare_reading {t = Target.Instance i} b (Finds.direct f) r = not_true r
 bare_reading {t = Target.Constant x} b (Finds.direct f) r = not_true r
 bare_reading b (Finds.passed_on f d) r = subst IsBare f b
 
-no_reading : {p : Program} {s : Scope} {q : Path} {t : Target} → ((a : Abbreviation) → Names p s q a → text_of a ≡ None) → Denotes p s q t → is_reading t ≡ true → ⊥
+pub no_reading : {p : Program} {s : Scope} {q : Path} {t : Target} → ((a : Abbreviation) → Names p s q a → text_of a ≡ None) → Denotes p s q t → is_reading t ≡ true → ⊥
 no_reading {p} {s} none (Denotes.here {x = x} f) r = bare_reading (bare_means p (record { scope = s; name = x }) (none (record { scope = s; name = x }) (refl, refl))) f r
 no_reading none (Denotes.constant m is) r = not_true r
 no_reading {p} none (Denotes.field {i = i} {x = x} d f) r = bare_reading (bare_means p (record { scope = i; name = x }) (none (record { scope = i; name = x }) (d, refl))) f r

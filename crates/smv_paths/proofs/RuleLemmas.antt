@@ -11,7 +11,7 @@ use Rattle.smv_paths.specs.Abbreviations.{Mention, HasBadIndex, unknown_path, ba
 use Rattle.smv_paths.specs.Sound.{HasIndexes, AreSound}
 use Rattle.smv_paths.specs.Known.{IsKnown}
 
-known_silent : (p : Program) (s : Scope) (m : Mention) → IsKnown p s m → Silent (unknown_path p s m)
+pub known_silent : (p : Program) (s : Scope) (m : Mention) → IsKnown p s m → Silent (unknown_path p s m)
 known_silent p s m known = silent_refuse (λ never. never known.0 known.1 known.2)
 
 pub all_known : (p : Program) (s : Scope) (ms : List Mention) → All (IsKnown p s) ms → Silent (first_of ms (unknown_path p s))
@@ -25,8 +25,11 @@ good_not_bad p s (Path.Index q e) good (inr bad) =
     let one = good.1 bad.0 bad.1 bad.2 bad.3 bad.4 bad.5 bad.6 in
     bad.7 one.0 one.1
 
+pub indexed_silent : (p : Program) (s : Scope) (m : Mention) → HasIndexes p s m.path → Silent (bad_index p s m)
+indexed_silent p s m good = silent_refuse (good_not_bad p s m.path good)
+
 pub all_indexed : (p : Program) (s : Scope) (ms : List Mention) → All (λ m. HasIndexes p s m.path) ms → Silent (first_of ms (bad_index p s))
-all_indexed p s ms all = silent_list (bad_index p s) ms (λ k d below. silent_refuse (good_not_bad p s (get_or ms k d).path (all k d below)))
+all_indexed p s ms all = silent_list (bad_index p s) ms (λ k d below. indexed_silent p s (get_or ms k d) (all k d below))
 
 pub all_sound : (p : Program) (s : Scope) (ms : List Mention) → All (IsKnown p s) ms → All (λ m. HasIndexes p s m.path) ms → AreSound p s ms
 all_sound p s ms known indexed k d below =

@@ -33,11 +33,11 @@ pub running_size : {p : Program} {s : Scope} {z : Size} → IsSize z 1 1 → IsS
 running_size z t Expands.running = z
 
 -- z is the size of an expression with parts of the size y
-abbrev Surrounds : Size → Size → Type 0
+abbrev pub Surrounds : Size → Size → Type 0
 Surrounds z y = (n d : ℕ) → IsSize y n d → IsSize z (1 + n) (1 + d)
 
 -- z is the size of parts of the sizes x and y
-abbrev Joins : Size → Size → Size → Type 0
+abbrev pub Joins : Size → Size → Size → Type 0
 Joins z x y = (n d m c : ℕ) → IsSize x n d → IsSize y m c → IsSize z (n + m) (max d c)
 
 pub next_size : {p : Program} {s : Scope} {e : Expr} {y z : Size} → IsSizeOf p s e y → Surrounds z y → IsSizeOf p s (Expr.Next e) z

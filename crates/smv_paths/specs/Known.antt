@@ -78,3 +78,8 @@ SomeBad p (b ∷ bs) = ((n : ℕ) → IsIndex p b n → ⊥) ⊎ SomeBad p bs
 -- the value of an index within its bounds, or none
 abbrev pub IsIndexValue : Program → Bracket → Option ℕ → Type 0
 IsIndexValue p b found = MatchOption found ((n : ℕ) → IsIndex p b n → ⊥) (λ n. IsIndex p b n)
+
+-- the indexes have values within their bounds exactly where the test says so
+abbrev pub AreIndexedBy : Program → List Bracket → Bool → Type 0
+AreIndexedBy p bs true = AllIndexes p bs
+AreIndexedBy p bs false = SomeBad p bs

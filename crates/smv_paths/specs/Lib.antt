@@ -1,8 +1,6 @@
 pub mod Denotes
 pub mod Expands
 pub mod Abbreviations
-pub mod Graphs
-pub mod Searches
 pub mod Written
 pub mod Mentions
 pub mod Naming
@@ -13,7 +11,11 @@ pub mod Heights
 pub mod Passed
 pub mod Ready
 pub mod Ordered
+pub mod Uses
 pub mod Sound
 pub mod Works
 pub mod Known
 pub mod Asking
+pub mod Ends
+pub mod Definitions
+pub mod Paths

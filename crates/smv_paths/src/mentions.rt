@@ -1,14 +1,15 @@
 //! The paths that are written in an expression.
 
-ghost use Rattle.std.specs.Prelude.{◌≡◌, ◌++◌, map, IfOk};
+ghost use Rattle.std.specs.Prelude.{◌≡◌, ◌++◌, flat_map, map, IfOk};
 ghost use Rattle.smv_parser.specs.Tree as tree;
 ghost use Rattle.smv_parser.specs.View.{tree_of, arm_pair};
 ghost use Rattle.smv_instances.specs.Abstract as abstract;
 ghost use Rattle.smv_instances.specs.Plain.{plain_expr};
-ghost use Rattle.smv_paths.specs.Abbreviations.{mentions as mentions_of, element_mentions, arm_mentions, index_mentions};
+ghost use Rattle.smv_paths.specs.Abbreviations.{actual_mentions, mentions as mentions_of, element_mentions, arm_mentions, index_mentions};
 ghost use Rattle.smv_paths.specs.Mentions.{plain_mention, part_mentions};
 ghost use Rattle.smv_paths.specs.Written.{plain_path};
 
+use crate::walk::{bare_of, path_of};
 use smv_parser::{Arm, Expr, ExprKind, Path, PathPart};
 use std::alloc::AllocError;
 
@@ -98,4 +99,34 @@ fn push_part<'p>(part: &'p PathPart, mentions: &mut Vec<Mention<'p>>) -> Result<
         PathPart::Field(_) => Ok(()),
         PathPart::Index(index) => push_mentions(index, mentions),
     }
+}
+
+/// Adds the paths of an actual parameter. One that is a path alone may denote an instance or an array.
+fn push_actual<'p>(actual: &'p Expr, mentions: &mut Vec<Mention<'p>>) -> Result<(), AllocError>
+    ensures { IfOk result (λ _. map plain_mention mentions.new.items ≡ map plain_mention mentions.old.items ++ actual_mentions (plain_expr actual.now)) }
+{
+    let inner = bare_of(actual);
+    match path_of(inner) {
+        Some(path) => {
+            mentions.push(Mention {
+                path,
+                wanted: false,
+            })?;
+            push_index_mentions(path, mentions)
+        }
+        None => push_mentions(inner, mentions),
+    }
+}
+
+/// Adds the paths of actual parameters.
+pub fn push_actuals<'p>(
+    actuals: &'p [Expr],
+    mentions: &mut Vec<Mention<'p>>,
+) -> Result<(), AllocError>
+    ensures { IfOk result (λ _. map plain_mention mentions.new.items ≡ map plain_mention mentions.old.items ++ flat_map actual_mentions (map plain_expr actuals.now)) }
+{
+    for actual in actuals {
+        push_actual(actual, mentions)?;
+    }
+    Ok(())
 }

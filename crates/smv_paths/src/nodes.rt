@@ -1,12 +1,12 @@
 //! Numbers of abbreviations: the entries of all instances, in instantiation order.
 
-ghost use Rattle.std.specs.Prelude.{◌≡◌, ◌<◌, length, slice_get, IfOk, Some};
+ghost use Rattle.std.specs.Prelude.{◌≡◌, ◌+◌, ◌<◌, length, slice_get, IfOk, Some};
 ghost use Rattle.smv_instances.specs.Program.{Program as Plain};
 ghost use Rattle.smv_instances.specs.Entries.{Entry, entries};
-ghost use Rattle.smv_instances.specs.Instances.{Scope, module_of};
+ghost use Rattle.smv_instances.specs.Instances.{Scope, all_entries, module_of};
 ghost use Rattle.smv_instances.specs.Numbered.{scope_at};
 ghost use Rattle.smv_instances.specs.Built.{AreInstances};
-ghost use Rattle.smv_paths.specs.Nodes.{AreNodes, IsNode};
+ghost use Rattle.smv_paths.specs.Nodes.{AreNodes, IsBetween, IsNode, IsPlaced};
 
 use smv_instances::Instances;
 use std::alloc::{AllocError, Global};
@@ -46,5 +46,33 @@ impl Nodes {
     {
         let _count = self.count;
         self.firsts[i] + k
+    }
+
+    /// The instance in whose body the entry with this number stands.
+    fn home(&self, node: usize) -> usize
+        requires { (p : Plain) × AreNodes p self.now × (node < length (all_entries p)) }
+        ensures inside { result < length self.now.firsts.items }
+        ensures between { (p : Plain) → AreNodes p self.now → node < length (all_entries p) → IsBetween p node result (result + 1) }
+    {
+        let mut low = 0;
+        let mut high = self.firsts.len();
+        while high - low > 1 {
+            let middle = low + (high - low) / 2;
+            if self.firsts[middle] <= node {
+                low = middle;
+            } else {
+                high = middle;
+            }
+        }
+        low
+    }
+
+    /// The instance in whose body the entry with this number stands, and its place there.
+    pub fn entry(&self, node: usize) -> (usize, usize)
+        requires { (p : Plain) × AreNodes p self.now × (node < length (all_entries p)) }
+        ensures { (p : Plain) → AreNodes p self.now → node < length (all_entries p) → IsPlaced p node result.0 result.1 }
+    {
+        let i = self.home(node);
+        (i, node - self.firsts[i])
     }
 }

@@ -1,7 +1,9 @@
 //! What paths of `main` denote, worked out by hand. Instances are numbered in instantiation order.
 
 use crate::resolving::Targets;
+use crate::tables::{ends_of, numbers_of, sizes_of};
 use crate::targets::Target;
+use crate::uses::order_of_uses;
 use smv_instances::Instances;
 use smv_lexer::lex;
 use smv_parser::{Condition, Expr, ExprKind, Path, Program, SectionKind, parse};
@@ -214,6 +216,180 @@ fn chain_of_parameters(rt: HostRuntime) -> Result<(), Fail> {
     assert_eq!(rt;
         answer(rt.alloc(), text.as_str(), "p.f0")?,
         Seen::Stored(0, 0)
+    );
+    Ok(())
+}
+
+/// The order of the abbreviations of a program by their numbers, each with `!` where it is circular.
+fn order_in(alloc: Global, text: &str) -> Result<String, Fail> {
+    let mut seen = String::new(alloc);
+    let Ok(tokens) = lex(alloc, text.as_bytes()) else {
+        return Ok(seen);
+    };
+    let Ok(program) = parse(alloc, &tokens) else {
+        return Ok(seen);
+    };
+    let Ok(instances) = Instances::build(alloc, &program) else {
+        return Ok(seen);
+    };
+    let targets = Targets::build(alloc, &instances)?;
+    let found = order_of_uses(alloc, &instances, &targets)?;
+    for node in &found.order {
+        let circular = found.circular.get(*node) == Some(&true);
+        let mark = if circular { "!" } else { "" };
+        let shown = format!(in alloc; " {node}{mark}")?;
+        seen.push_str(shown.as_str())?;
+    }
+    Ok(seen)
+}
+
+/// Numbers are those of the entries of all bodies, from 0 for the first of `main`.
+#[test]
+fn orders_of_uses(rt: HostRuntime) -> Result<(), Fail> {
+    for (text, expected) in [
+        (
+            "MODULE main VAR x : boolean ; DEFINE a := b & x ; b := ! c ; c := x ;",
+            " 0 3 2 1",
+        ),
+        (
+            "MODULE main VAR x : array 0 .. 1 of boolean ; DEFINE a := x[b] ; b := 1 - c ; c := 0 ;",
+            " 0 3 2 1",
+        ),
+        (
+            "MODULE main DEFINE a := b ; b := a + c ; c := 1 ; d := a ; e := e ;",
+            " 2 0! 1! 3 4!",
+        ),
+        (
+            "MODULE cell ( f ) DEFINE g := f ; MODULE main VAR p : cell ( 1 + q.g ) ; q : cell ( p.g - 1 ) ;",
+            " 0 1 2! 5! 4! 3!",
+        ),
+        (
+            "MODULE cell ( f ) DEFINE g := f ; MODULE main VAR p : cell ( 1 + q.g ) ; q : cell ( 2 ) ;",
+            " 0 1 4 5 2 3",
+        ),
+    ] {
+        let seen = order_in(rt.alloc(), text)?;
+        assert_eq!(rt; seen.as_str(), expected, "at {text}");
+    }
+    Ok(())
+}
+
+/// The numbers and the sizes of some abbreviations of a program: ` number nodes/nesting`, with `-` in
+/// place of a number that isn't there.
+fn known_in(alloc: Global, text: &str, wanted: &[usize]) -> Result<String, Fail> {
+    let mut seen = String::new(alloc);
+    let Ok(tokens) = lex(alloc, text.as_bytes()) else {
+        return Ok(seen);
+    };
+    let Ok(program) = parse(alloc, &tokens) else {
+        return Ok(seen);
+    };
+    let Ok(instances) = Instances::build(alloc, &program) else {
+        return Ok(seen);
+    };
+    let targets = Targets::build(alloc, &instances)?;
+    let order = order_of_uses(alloc, &instances, &targets)?;
+    let numbers = numbers_of(alloc, &instances, &targets, &order)?;
+    let sizes = sizes_of(alloc, &instances, &targets, &order)?;
+    for node in wanted {
+        match numbers.get(*node) {
+            Some(Some(number)) => seen.push_str(format!(in alloc; " {number}")?.as_str())?,
+            _ => seen.push_str(" -")?,
+        }
+        if let Some(size) = sizes.get(*node) {
+            let shown = format!(in alloc; " {}/{}", size.nodes, size.nesting)?;
+            seen.push_str(shown.as_str())?;
+        }
+    }
+    Ok(seen)
+}
+
+/// Each definition is twice the one before: 2 to the power k, with 2 to the power k + 1 nodes less one,
+/// k + 1 deep. Numbers end at 32 bits, nodes are counted up to 200,001, and depths up to 1,025.
+#[test]
+fn doubling_definitions(rt: HostRuntime) -> Result<(), Fail> {
+    let mut text = String::from_str(rt.alloc(), "MODULE main DEFINE d0 := 1 ;")?;
+    for k in 1..1201u32 {
+        let before = k - 1;
+        let more = format!(in rt.alloc(); " d{k} := d{before} + d{before} ;")?;
+        text.push_str(more.as_str())?;
+    }
+    let wanted = [0, 1, 2, 16, 17, 30, 31, 1023, 1024, 1025, 1200];
+    let seen = known_in(rt.alloc(), text.as_str(), &wanted)?;
+    assert_eq!(rt;
+        seen.as_str(),
+        " 1 1/1 2 3/2 4 7/3 65536 131071/17 131072 200001/18 1073741824 200001/31 - 200001/32 - 200001/1024 - 200001/1025 - 200001/1025 - 200001/1025"
+    );
+    Ok(())
+}
+
+/// The number of `a` is 1, that of the variable `x` 0.
+#[test]
+fn numbers_and_sizes(rt: HostRuntime) -> Result<(), Fail> {
+    for (definition, expected) in [
+        ("( 7 - 9 ) * 3", " -6 5/3"),
+        ("TRUE + 1", " 2 3/2"),
+        ("7 / 0", " - 3/2"),
+        ("( ( x ) )", " - 1/1"),
+        ("! x & { 1 , x }", " - 6/3"),
+        ("7 + case 1 : 2 ; esac", " - 5/3"),
+        ("E [ x U next ( x ) ]", " - 4/3"),
+    ] {
+        let text = format!(in rt.alloc();
+            "MODULE main VAR x : 0 .. 3 ; DEFINE a := {definition} ;"
+        )?;
+        let seen = known_in(rt.alloc(), text.as_str(), &[1])?;
+        assert_eq!(rt; seen.as_str(), expected, "at {definition}");
+    }
+    Ok(())
+}
+
+/// The ends of the chains of a program's abbreviations, by their numbers: the instance and the line, or
+/// `-` where there is none.
+fn ends_in(alloc: Global, text: &str) -> Result<String, Fail> {
+    let mut seen = String::new(alloc);
+    let Ok(tokens) = lex(alloc, text.as_bytes()) else {
+        return Ok(seen);
+    };
+    let Ok(program) = parse(alloc, &tokens) else {
+        return Ok(seen);
+    };
+    let Ok(instances) = Instances::build(alloc, &program) else {
+        return Ok(seen);
+    };
+    let targets = Targets::build(alloc, &instances)?;
+    let order = order_of_uses(alloc, &instances, &targets)?;
+    for found in &ends_of(alloc, &instances, &targets, &order)? {
+        match found {
+            Some(end) => {
+                let shown = format!(in alloc; " {}:{}", end.home, end.right.line)?;
+                seen.push_str(shown.as_str())?;
+            }
+            None => seen.push_str(" -")?,
+        }
+    }
+    Ok(seen)
+}
+
+#[test]
+fn ends_of_chains(rt: HostRuntime) -> Result<(), Fail> {
+    let text = "MODULE cell ( f )
+DEFINE g := f ;
+MODULE main
+VAR x : boolean ; p : cell ( ( c ) ) ; q : cell ( 1 + 1 ) ;
+DEFINE a := p.g ;
+b := ( a ) ;
+c := x ;
+d := x & x ;
+e := d ;
+h := k ;
+k := k ;
+s := q.g ;";
+    let seen = ends_in(rt.alloc(), text)?;
+    // x p q, a to s, then f and g of p and of q
+    assert_eq!(rt;
+        seen.as_str(),
+        " - - - 0:7 0:7 0:7 0:8 0:8 - - 0:4 0:7 0:7 0:4 0:4"
     );
     Ok(())
 }

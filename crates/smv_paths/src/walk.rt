@@ -94,7 +94,7 @@ fn parameter<'p>(targets: &Targets<'p>, at: Parameter) -> Result<Outcome<'p>, Al
 }
 
 /// The number of the abbreviation of this name, if the instance's module declares the name.
-fn entry_node(
+pub fn entry_node(
     instances: &Instances<'_>,
     targets: &Targets<'_>,
     i: usize,
@@ -154,7 +154,7 @@ fn outcome_of<'p>(
 }
 
 /// What a path of one name denotes.
-fn first<'p>(
+pub fn first<'p>(
     alloc: Global,
     instances: &Instances<'p>,
     targets: &Targets<'p>,
@@ -235,7 +235,7 @@ fn element<'p>(i: usize, front: Target<'p>, index: &'p Expr) -> Result<Outcome<'
 }
 
 /// A path with one part more.
-fn follow<'p>(
+pub fn follow<'p>(
     alloc: Global,
     instances: &Instances<'p>,
     targets: &Targets<'p>,
@@ -290,7 +290,7 @@ pub fn walk<'p>(
 }
 
 /// The path that an expression is, if it is one.
-fn path_of(expr: &Expr) -> Option<&Path>
+pub fn path_of(expr: &Expr) -> Option<&Path>
     ensures some { IfSome result (λ q. plain_expr expr.now ≡ Body.At (plain_path q.now)) }
     ensures none { IfNone result (is_path (plain_expr expr.now) ≡ false) }
 {
@@ -334,7 +334,7 @@ pub fn actual_outcome<'p>(
 }
 
 /// The number of the instance that the target is, if it is one.
-fn instance_number(target: &Target<'_>) -> Option<usize>
+pub fn instance_number(target: &Target<'_>) -> Option<usize>
     ensures { (p : Plain) (s : Scope) (q : Written) → Resolves p s q (Some target.now) → LeadsInto p s q result }
 {
     match target {

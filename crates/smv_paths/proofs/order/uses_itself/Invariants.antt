@@ -1,5 +1,0 @@
-use Rattle.std.proofs.Common.{◌≡◌, ℕ, ◌<◌, ◌≤◌, get_or}
-use Rattle.smv_paths.proofs.order.uses_itself.Given as goal
-
-abbrev pub invariant-loop-place : goal.invariant-loop-place
-invariant-loop-place l = (k : ℕ) → get_or l.graph.firsts.items l.node 0 ≤ k → k < l.place → get_or l.graph.targets.items k 0 ≡ l.node → ⊥
