@@ -29,7 +29,7 @@ use Rattle.smv_instantiate.proofs.DeclaredLemmas as declared
 
 -- ---- items
 
-item_in_section : (s : Section) → IsWrittenSection s → (i : Item) → In i (section_items s) → IsWrittenExpr (expression i)
+pub item_in_section : (s : Section) → IsWrittenSection s → (i : Item) → In i (section_items s) → IsWrittenExpr (expression i)
 item_in_section (Section.Vars ds) w i j = elim j [ ]
 item_in_section (Section.Defines ds) w i j = elim j [ ]
 item_in_section (Section.Assigns items) w i j = let b = in_map_back Item.Assigns items j in

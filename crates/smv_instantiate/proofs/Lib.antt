@@ -12,7 +12,15 @@ mod DeclaredLemmas
 mod BodySteps
 mod FrontSteps
 mod ProcessSteps
+mod ExpandLemmas
+mod PathSteps
 mod FlatLemmas
+mod TermLemmas
+mod ItemLemmas
+mod PassLemmas
+mod PassSteps
+mod PartLemmas
+mod ModelLemmas
 mod TypeSteps
 mod TypeViews
 mod WrittenLemmas

@@ -34,7 +34,7 @@ matched_length R [] (y ∷ ys) m = absurd m
 matched_length R (x ∷ xs) [] m = absurd m
 matched_length R (x ∷ xs) (y ∷ ys) m = ap suc (matched_length R xs ys m.1)
 
-matched_append : {A B : Type 0} (R : A → B → Type 0) (xs us : List A) (ys vs : List B) → Matches R xs ys → Matches R us vs → Matches R (xs ++ us) (ys ++ vs)
+pub matched_append : {A B : Type 0} (R : A → B → Type 0) (xs us : List A) (ys vs : List B) → Matches R xs ys → Matches R us vs → Matches R (xs ++ us) (ys ++ vs)
 matched_append R [] us [] vs m n = n
 matched_append R [] us (y ∷ ys) vs m n = absurd m
 matched_append R (x ∷ xs) us [] vs m n = absurd m

@@ -209,7 +209,7 @@ module _ (p : Program) (kept : IsKept p) where
       by None found f = absurd (not_some f)
       by (Some m) found f = subst IsGoodMeaning (some_same f) (subst (λ z. In (Scope.Inside s z process actuals m) (instances p)) named (kept.closed s e (Scope.Inside s e.name process actuals m) i j (child_is m found)))
 
-  good_meaning : (s : Scope) (x : Name) (M : Meaning) → In s (instances p) → meaning p s x ≡ Some M → IsGoodMeaning M
+  pub good_meaning : (s : Scope) (x : Name) (M : Meaning) → In s (instances p) → meaning p s x ≡ Some M → IsGoodMeaning M
   good_meaning s x M i given = by (find (λ e. bytes_eq e.name x) (entries (module_of s))) refl given
     where
       by : (o : Option Entry) → find (λ e. bytes_eq e.name x) (entries (module_of s)) ≡ o → option_and_then (meaning_of p s x) (option_map (λ e. e.entity) o) ≡ Some M → IsGoodMeaning M

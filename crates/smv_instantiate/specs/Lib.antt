@@ -7,3 +7,7 @@ pub mod Items
 pub mod Parsed
 pub mod Bodies
 pub mod Expanded
+pub mod Names
+pub mod Expansion
+pub mod Passes
+pub mod Parts

@@ -2,12 +2,21 @@
 #![tactic(auto)]
 
 pub mod bodies;
+pub mod checks;
+pub mod expansion;
+#[cfg(test)]
+mod flat_tests;
 pub mod fronts;
 pub mod items;
+pub mod models;
+pub mod names;
 pub mod operators;
+pub mod parts;
+pub mod passes;
 pub mod processes;
 #[cfg(test)]
 mod tests;
+pub mod totals;
 pub mod types;
 pub mod variables;
 
@@ -24,6 +33,8 @@ ghost use Rattle.smv_instantiate.specs.Flattens.{Flattens};
 ghost use Rattle.smv_instantiate.specs.Parsed.{IsParsed};
 ghost use Rattle.smv_instantiate.specs.Refuses.{Refuses};
 ghost use Rattle.smv_instantiate.specs.Written.{IsWritten};
+
+pub use models::flatten;
 
 /// A program has one flat model at most, and is refused for one reason at most.
 pub fn one_answer()

@@ -2,6 +2,7 @@
 
 ghost use Rattle.std.specs.Prelude.{◌≡◌, IfOk};
 ghost use Rattle.kripke_model.specs.Reading.{term_of};
+ghost use Rattle.kripke_model.specs.Term.{Term};
 ghost use Rattle.smv_instances.specs.Abstract.{is_all, operator};
 ghost use Rattle.smv_instantiate.specs.Expanded.{prefix_term};
 
@@ -57,4 +58,29 @@ pub fn prefixed(alloc: Global, written: PrefixOperator, inner: Expr) -> Result<E
         PrefixOperator::ExistsGlobally => Expr::Quant(PathOp::EG, inner),
         PrefixOperator::AllGlobally => Expr::Quant(PathOp::AG, inner),
     })
+}
+
+/// `next ( .. )`.
+pub fn next_of(alloc: Global, inner: Expr) -> Result<Expr, AllocError>
+    ensures { IfOk result (λ e. term_of e ≡ Term.Next (term_of inner)) }
+{
+    Ok(Expr::Next(Box::new(alloc, inner)?))
+}
+
+/// The operator between two expressions.
+pub fn binary(alloc: Global, op: BinOp, left: Expr, right: Expr) -> Result<Expr, AllocError>
+    ensures { IfOk result (λ e. term_of e ≡ Term.Binary op (term_of left) (term_of right)) }
+{
+    let left = Box::new(alloc, left)?;
+    let right = Box::new(alloc, right)?;
+    Ok(Expr::Binary(op, left, right))
+}
+
+/// `A [ .. U .. ]` where every path is asked for, else `E [ .. U .. ]`.
+pub fn until(alloc: Global, every: bool, left: Expr, right: Expr) -> Result<Expr, AllocError>
+    ensures { IfOk result (λ e. term_of e ≡ Term.Until every (term_of left) (term_of right)) }
+{
+    let left = Box::new(alloc, left)?;
+    let right = Box::new(alloc, right)?;
+    Ok(Expr::Until(every, left, right))
 }

@@ -1,9 +1,11 @@
 //! Each call once with ample memory, on types whose values and elements were written down by hand.
 
+use crate::names::VariableNames;
 use crate::types::{push_elements, values_of};
 use crate::variables::push_variables;
 use kripke_model::Name;
 use kripke_model::expressions::Value;
+use kripke_model::models::FlatVar;
 use smv_instances::names::Names;
 use smv_parser::{Plain, PlainKind};
 use std::test::Fail;
@@ -59,5 +61,21 @@ fn range_of_one_variable(rt: HostRuntime) -> Result<(), Fail> {
         [Value::Number(4), Value::Number(5)].as_slice()
     );
     assert_eq!(rt; variables[0].line, 7);
+    Ok(())
+}
+
+#[test]
+fn variable_is_found_by_its_name(rt: HostRuntime) -> Result<(), Fail> {
+    let mut variables = Vec::new(rt.alloc());
+    variables.push(FlatVar {
+        name: Name::new(String::from_str(rt.alloc(), "p.x")?),
+        values: Vec::new(rt.alloc()),
+        line: 1,
+    })?;
+    let names = VariableNames::of(rt.alloc(), &variables)?;
+    let there = Name::new(String::from_str(rt.alloc(), "p.x")?);
+    let missing = Name::new(String::from_str(rt.alloc(), "p.y")?);
+    assert_eq!(rt; names.number(&there), Some(0));
+    assert_eq!(rt; names.number(&missing), None);
     Ok(())
 }

@@ -109,7 +109,7 @@ pub fn values_of(
 // ---- names of elements
 
 /// The name of an element: `x[i]`.
-fn indexed_name(alloc: Global, name: &Name, index: u32) -> Result<Name, AllocError>
+pub fn indexed_name(alloc: Global, name: &Name, index: u32) -> Result<Name, AllocError>
     ensures { IfOk result (λ element. element ≡ indexed name.now index) }
 {
     let text = name.as_str();

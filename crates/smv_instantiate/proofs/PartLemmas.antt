@@ -1,0 +1,83 @@
+-- One more item of the flat model.
+use Rattle.std.proofs.Common.{◌≡◌, refl, sym, ◌∙◌, ap, subst, List, [], ◌∷◌, ◌++◌, Bool, true, false, cond, append-nil}
+use Rattle.std.specs.Prelude.{filter}
+use Rattle.std.proofs.lemmas.List.Elements.{filter-append}
+use Rattle.kripke_model.specs.System.{Assignment, Condition}
+use Rattle.smv_instances.specs.Instances.{Scope}
+use Rattle.smv_instances.specs.Program.{Assigned, Kind, Stated, Program}
+use Rattle.smv_instantiate.specs.declared.parts.Parts.{Parts}
+use Rattle.smv_instantiate.specs.Flattens.{Item, Placed, Matches, IsAssignment, IsCondition, is_assignment, is_of, same_kind}
+use Rattle.smv_instantiate.specs.Parts.{AreParts}
+use Rattle.smv_instantiate.proofs.SizeLemmas.{matched_append}
+
+module _ {A B : Type 0} (R : A → B → Type 0) (f : A → Bool) (items : List A) (x : A) where
+  pub matched_more : (ys zs : List B) (y : B) → f x ≡ true → Matches R (filter f items) ys → R x y → zs ≡ ys ++ (y ∷ []) → Matches R (filter f (items ++ (x ∷ []))) zs
+  matched_more ys zs y is m r e = subst (λ us. Matches R (filter f (items ++ (x ∷ []))) us) (sym e)
+      (subst (λ us. Matches R us (ys ++ (y ∷ []))) (sym (filter-append f items (x ∷ []) ∙ ap (λ b. filter f items ++ cond b (x ∷ []) []) is))
+      (matched_append R (filter f items) (x ∷ []) ys (y ∷ []) m (r, tt)))
+
+  pub matched_still : (ys zs : List B) → f x ≡ false → Matches R (filter f items) ys → zs ≡ ys → Matches R (filter f (items ++ (x ∷ []))) zs
+  matched_still ys zs is m e = subst (λ us. Matches R (filter f (items ++ (x ∷ []))) us) (sym e)
+      (subst (λ us. Matches R us ys) (sym (filter-append f items (x ∷ []) ∙ ap (λ b. filter f items ++ cond b (x ∷ []) []) is ∙ append-nil (filter f items))) m)
+
+module _ (p : Program) (items : List Placed) (s : Scope) (old new : Parts) (are : AreParts p items old) where
+  pub assignment_added : (a : Assigned) (b : Assignment) → IsAssignment p (s, Item.Assigns a) b → new.assigns.items ≡ old.assigns.items ++ (b ∷ [])
+      → new.inits.items ≡ old.inits.items → new.trans.items ≡ old.trans.items → new.constraints.items ≡ old.constraints.items → new.specs.items ≡ old.specs.items
+      → AreParts p (items ++ ((s, Item.Assigns a) ∷ [])) new
+  assignment_added a b is e1 e2 e3 e4 e5 = record {
+    assigns = matched_more (IsAssignment p) (λ (i : Placed). is_assignment i.1) items (s, Item.Assigns a) old.assigns.items new.assigns.items b refl are.assigns is e1;
+    inits = matched_still (IsCondition p) (λ (i : Placed). is_of Kind.Init i.1) items (s, Item.Assigns a) old.inits.items new.inits.items refl are.inits e2;
+    trans = matched_still (IsCondition p) (λ (i : Placed). is_of Kind.Trans i.1) items (s, Item.Assigns a) old.trans.items new.trans.items refl are.trans e3;
+    constraints = matched_still (IsCondition p) (λ (i : Placed). is_of Kind.Fairness i.1) items (s, Item.Assigns a) old.constraints.items new.constraints.items refl are.constraints e4;
+    specs = matched_still (IsCondition p) (λ (i : Placed). is_of Kind.Spec i.1) items (s, Item.Assigns a) old.specs.items new.specs.items refl are.specs e5;
+  }
+
+  module _ (c : Stated) (d : Condition) (is : IsCondition p (s, Item.States c) d) where
+    apart : (k l : Kind) → c.kind ≡ l → same_kind k l ≡ false → (ys zs : List Condition) → Matches (IsCondition p) (filter (λ i. is_of k i.1) items) ys → zs ≡ ys → Matches (IsCondition p) (filter (λ i. is_of k i.1) (items ++ ((s, Item.States c) ∷ []))) zs
+    apart k l kind other ys zs m e = matched_still (IsCondition p) (λ (i : Placed). is_of k i.1) items (s, Item.States c) ys zs (ap (same_kind k) kind ∙ other) m e
+
+    together : (k : Kind) → c.kind ≡ k → same_kind k k ≡ true → (ys zs : List Condition) → Matches (IsCondition p) (filter (λ i. is_of k i.1) items) ys → zs ≡ ys ++ (d ∷ []) → Matches (IsCondition p) (filter (λ i. is_of k i.1) (items ++ ((s, Item.States c) ∷ []))) zs
+    together k kind same ys zs m e = matched_more (IsCondition p) (λ (i : Placed). is_of k i.1) items (s, Item.States c) ys zs d (ap (same_kind k) kind ∙ same) m is e
+
+    assigns_kept : new.assigns.items ≡ old.assigns.items → Matches (IsAssignment p) (filter (λ i. is_assignment i.1) (items ++ ((s, Item.States c) ∷ []))) new.assigns.items
+    assigns_kept e = matched_still (IsAssignment p) (λ (i : Placed). is_assignment i.1) items (s, Item.States c) old.assigns.items new.assigns.items refl are.assigns e
+
+    pub init_added : c.kind ≡ Kind.Init → new.assigns.items ≡ old.assigns.items → new.inits.items ≡ old.inits.items ++ (d ∷ []) → new.trans.items ≡ old.trans.items
+        → new.constraints.items ≡ old.constraints.items → new.specs.items ≡ old.specs.items → AreParts p (items ++ ((s, Item.States c) ∷ [])) new
+    init_added kind e1 e2 e3 e4 e5 = record {
+      assigns = assigns_kept e1;
+      inits = together Kind.Init kind refl old.inits.items new.inits.items are.inits e2;
+      trans = apart Kind.Trans Kind.Init kind refl old.trans.items new.trans.items are.trans e3;
+      constraints = apart Kind.Fairness Kind.Init kind refl old.constraints.items new.constraints.items are.constraints e4;
+      specs = apart Kind.Spec Kind.Init kind refl old.specs.items new.specs.items are.specs e5;
+    }
+
+    pub trans_added : c.kind ≡ Kind.Trans → new.assigns.items ≡ old.assigns.items → new.inits.items ≡ old.inits.items → new.trans.items ≡ old.trans.items ++ (d ∷ [])
+        → new.constraints.items ≡ old.constraints.items → new.specs.items ≡ old.specs.items → AreParts p (items ++ ((s, Item.States c) ∷ [])) new
+    trans_added kind e1 e2 e3 e4 e5 = record {
+      assigns = assigns_kept e1;
+      inits = apart Kind.Init Kind.Trans kind refl old.inits.items new.inits.items are.inits e2;
+      trans = together Kind.Trans kind refl old.trans.items new.trans.items are.trans e3;
+      constraints = apart Kind.Fairness Kind.Trans kind refl old.constraints.items new.constraints.items are.constraints e4;
+      specs = apart Kind.Spec Kind.Trans kind refl old.specs.items new.specs.items are.specs e5;
+    }
+
+    pub constraint_added : c.kind ≡ Kind.Fairness → new.assigns.items ≡ old.assigns.items → new.inits.items ≡ old.inits.items → new.trans.items ≡ old.trans.items
+        → new.constraints.items ≡ old.constraints.items ++ (d ∷ []) → new.specs.items ≡ old.specs.items → AreParts p (items ++ ((s, Item.States c) ∷ [])) new
+    constraint_added kind e1 e2 e3 e4 e5 = record {
+      assigns = assigns_kept e1;
+      inits = apart Kind.Init Kind.Fairness kind refl old.inits.items new.inits.items are.inits e2;
+      trans = apart Kind.Trans Kind.Fairness kind refl old.trans.items new.trans.items are.trans e3;
+      constraints = together Kind.Fairness kind refl old.constraints.items new.constraints.items are.constraints e4;
+      specs = apart Kind.Spec Kind.Fairness kind refl old.specs.items new.specs.items are.specs e5;
+    }
+
+    pub spec_added : c.kind ≡ Kind.Spec → new.assigns.items ≡ old.assigns.items → new.inits.items ≡ old.inits.items → new.trans.items ≡ old.trans.items
+        → new.constraints.items ≡ old.constraints.items → new.specs.items ≡ old.specs.items ++ (d ∷ []) → AreParts p (items ++ ((s, Item.States c) ∷ [])) new
+    spec_added kind e1 e2 e3 e4 e5 = record {
+      assigns = assigns_kept e1;
+      inits = apart Kind.Init Kind.Spec kind refl old.inits.items new.inits.items are.inits e2;
+      trans = apart Kind.Trans Kind.Spec kind refl old.trans.items new.trans.items are.trans e3;
+      constraints = apart Kind.Fairness Kind.Spec kind refl old.constraints.items new.constraints.items are.constraints e4;
+      specs = together Kind.Spec kind refl old.specs.items new.specs.items are.specs e5;
+    }

@@ -1,0 +1,13 @@
+-- The items of the flat model, by their kinds.
+use Rattle.std.specs.Prelude.{List, filter}
+use Rattle.smv_instances.specs.Program.{Kind, Program}
+use Rattle.smv_instantiate.specs.declared.parts.Parts.{Parts}
+use Rattle.smv_instantiate.specs.Flattens.{Placed, Matches, IsAssignment, IsCondition, is_assignment, is_of}
+
+-- they are those of these items, in order
+pub record AreParts (p : Program) (items : List Placed) (parts : Parts) : Type 0 where
+  pub assigns : Matches (IsAssignment p) (filter (λ i. is_assignment i.1) items) parts.assigns.items
+  pub inits : Matches (IsCondition p) (filter (λ i. is_of Kind.Init i.1) items) parts.inits.items
+  pub trans : Matches (IsCondition p) (filter (λ i. is_of Kind.Trans i.1) items) parts.trans.items
+  pub constraints : Matches (IsCondition p) (filter (λ i. is_of Kind.Fairness i.1) items) parts.constraints.items
+  pub specs : Matches (IsCondition p) (filter (λ i. is_of Kind.Spec i.1) items) parts.specs.items

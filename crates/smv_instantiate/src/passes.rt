@@ -1,0 +1,57 @@
+//! The pass over items.
+
+ghost use Rattle.std.specs.Prelude.{◌≡◌, [], All, List, MatchResult, Some};
+ghost use Rattle.kripke_model.specs.Refusing.{First, Silent};
+ghost use Rattle.smv_instances.specs.Program.{Program as Plain};
+ghost use Rattle.smv_instances.specs.Instances.{Scope};
+ghost use Rattle.smv_instances.specs.Numbered.{scope_at};
+ghost use Rattle.smv_instances.specs.Answers.{Refused};
+ghost use Rattle.smv_instantiate.specs.Flattens.{Placed, all_items};
+ghost use Rattle.smv_instantiate.specs.Passes.{AreTables, IsPassed, IsReady, PassesAll, placed};
+ghost use Rattle.smv_instantiate.specs.Refuses.{item as item_rule};
+
+use crate::checks::check_item;
+use crate::items::{Item, items_of};
+use crate::names::VariableNames;
+use crate::totals::{Totals, no_totals};
+use smv_instances::{FlatRefusal, Instances};
+use smv_paths::Paths;
+use std::alloc::Global;
+
+/// Goes over the items of an instance.
+fn check_body<'p>(
+    alloc: Global,
+    instances: &Instances<'p>,
+    paths: &Paths<'p>,
+    names: &VariableNames<'_>,
+    i: usize,
+    items: &[Item<'p>],
+    totals: &Totals,
+) -> Result<Totals, FlatRefusal>
+    requires { (p : Plain) × (s : Scope) × (before : List Placed) × AreTables p instances.now paths.now names.now × (scope_at p i ≡ Some s) × IsPassed p before totals.now }
+    ensures { (p : Plain) (s : Scope) (before : List Placed) → AreTables p instances.now paths.now names.now → scope_at p i ≡ Some s → IsPassed p before totals.now → PassesAll p before (placed s items.now) result }
+{
+    let mut so_far = *totals;
+    for item in items {
+        so_far = check_item(alloc, instances, paths, names, i, item, &so_far)?;
+    }
+    Ok(so_far)
+}
+
+/// Goes over the items of all instances.
+pub fn check_items<'p>(
+    alloc: Global,
+    instances: &Instances<'p>,
+    paths: &Paths<'p>,
+    names: &VariableNames<'_>,
+) -> Result<(), FlatRefusal>
+    requires { (p : Plain) × AreTables p instances.now paths.now names.now }
+    ensures { (p : Plain) → AreTables p instances.now paths.now names.now → MatchResult result (λ _. All (IsReady p) (all_items p) × Silent (First (item_rule p) [] (all_items p))) (Refused (First (item_rule p) [] (all_items p))) }
+{
+    let mut totals = no_totals();
+    for i in 0..instances.len() {
+        let items = items_of(alloc, instances.module(i))?;
+        totals = check_body(alloc, instances, paths, names, i, &items, &totals)?;
+    }
+    Ok(())
+}
