@@ -1,25 +1,23 @@
 -- Cycles in the graphs of a model, read off two tables.
-use Rattle.std.proofs.Common.{◌≡◌, ◌≢◌, ℕ, ◌+◌, ◌<◌, ◌≤◌, ◌⊎◌, inl, inr, ⊎_elim, List, [], ◌++◌, length, get_or, refl, sym, ◌∙◌, ap, subst, arith, Any}
+use Rattle.std.proofs.Common.{◌≡◌, ◌≢◌, ℕ, ◌+◌, ◌<◌, ◌≤◌, ◌⊎◌, inl, inr, ⊎_elim, List, ◌++◌, length, get_or, refl, sym, ◌∙◌, ap, subst, arith, Any}
 use Rattle.std.specs.Prelude.{Contains, All}
-use Rattle.std.specs.List.{slice_index_or}
 use Rattle.std.proofs.lemmas.Bool.{cases_lt}
 use Rattle.std.proofs.lemmas.List.{get_or_default}
 use Rattle.std.proofs.lemmas.List.Elements.{Contains-append_left, Contains-append_right, Contains-append_cases}
 use Rattle.kripke_model.specs.declared.models.Part.{Part}
 use Rattle.kripke_model.specs.Term.{Term}
 use Rattle.kripke_model.specs.System.{System, Assignment}
-use Rattle.kripke_model.specs.Static.{Graph, LeadsTo, HasWay, IsOnCycle, variables_in, under_next}
+use Rattle.kripke_model.specs.Refusing.{Silent}
+use Rattle.kripke_model.specs.Static.{Graph, LeadsTo, HasWay, variables_in, under_next, assigned_twice, current_beside_other}
 use Rattle.smv_static.specs.Numbers.{row}
 use Rattle.smv_static.specs.Targets.{targets_by, targets_of}
 use Rattle.smv_static.specs.Groups.{group_by, group_of, IsGrouped, IsTable}
 use Rattle.smv_static.specs.Ways.{Edge, Way}
-use Rattle.smv_static.specs.Circles.{IsCircular, HoldsOf, IsLeastAmong, IsGraphOf, IsOnCycleOf, IsClear, IsFound}
+use Rattle.smv_static.specs.Circles.{IsCircular, IsLeastAmong, IsGraphOf, IsOnCycleOf, IsClear, IsFound}
 use Rattle.smv_static.proofs.TargetLemmas.{next_to, next_from}
+use Rattle.smv_static.proofs.OnceLemmas.{IsOneOf, one_place}
 
 -- ---- an assignment's group says in which graphs it has edges
-
-abbrev IsOneOf : ℕ → ℕ → ℕ → Type 0
-IsOneOf P q group = (group ≡ q) ⊎ (group ≡ P)
 
 module _ (P q x : ℕ) where
   start_by : (part : Part) (e : Term) (process : ℕ) → q ≡ P + 1 → part ≢ Part.Next → Contains (variables_in e) x → IsOneOf P q (group_by P part process) × Contains (targets_by part e) x
@@ -46,6 +44,11 @@ module _ (P q x : ℕ) where
 
   pub group_leads : (g : Graph) (a : Assignment) → IsGraphOf P q g → a.process < P → IsOneOf P q (group_of P a) → Contains (targets_of a) x → LeadsTo g a x
   group_leads g a is known group c = leads_by a.part g a refl is known group c
+
+-- the group beside that of the current values is another one
+apart : (P q : ℕ) (g : Graph) → IsGraphOf P q g → q ≢ P
+apart P q Graph.AtStart is e = omega arith
+apart P q (Graph.InProcess p) is e = let a = is.0 in let b = is.1 in omega arith
 
 -- ---- the tables of a graph
 
@@ -91,18 +94,29 @@ module _ (m : System) (P q : ℕ) (g : Graph) (is : IsGraphOf P q g) (processes 
   way_from x z HasWay.stay = Way.stay
   way_from x z (HasWay.step edge w) = Way.step (edge_from x _ edge) (way_from _ z w)
 
-  circular_to : (k : ℕ) (d : Assignment) → Contains (row groups q ++ row groups P) k → IsCircular base extra (get_or m.assigns k d) → IsOnCycleOf m g (get_or m.assigns k d)
-  circular_to k d place c =
+  -- an edge from an assignment's variable is one of the assignment itself, the only one of that variable in the graph
+  own_edge : Silent (assigned_twice m) → Silent (current_beside_other m) → (k y : ℕ) (d : Assignment) → k < length m.assigns → IsOneOf P q (group_of P (get_or m.assigns k d)) → Edge base extra (get_or m.assigns k d).var y
+      → LeadsTo g (get_or m.assigns k d) y
+  own_edge twice beside k y d below group edge =
+      let h = edge_to (get_or m.assigns k d).var y edge in
+      let same : get_or m.assigns h.0 d ≡ h.1 = get_or_default m.assigns h.0 d h.1 h.2 ∙ h.3 in
+      let leads : LeadsTo g (get_or m.assigns h.0 d) y = subst (λ (a : Assignment). LeadsTo g a y) (sym same) h.4.1 in
+      let place : h.0 ≡ k =
+      one_place m P processes twice beside d q h.0 k (apart P q g is) h.2 below (ap (λ (a : Assignment). a.var) same ∙ h.4.0) (leads_group P q y g (get_or m.assigns h.0 d) is leads).0 group in
+      subst (λ (j : ℕ). LeadsTo g (get_or m.assigns j d) y) place leads
+
+  circular_to : Silent (assigned_twice m) → Silent (current_beside_other m) → (k : ℕ) (d : Assignment) → Contains (row groups q ++ row groups P) k → IsCircular base extra (get_or m.assigns k d) → IsOnCycleOf m g (get_or m.assigns k d)
+  circular_to twice beside k d place c =
       let a : Assignment = get_or m.assigns k d in
       let at : (r : ℕ) → IsOneOf P q r → Contains (row groups r) k → LeadsTo g a c.0 = λ r one h.
-      group_leads P q c.0 g a is (processes k d (grouped.known r k h)) (subst (λ (n : ℕ). IsOneOf P q n) (sym (grouped.sound r k d h)) one) c.1 in
+      own_edge twice beside k c.0 d (grouped.known r k h) (subst (λ (n : ℕ). IsOneOf P q n) (sym (grouped.sound r k d h)) one) c.1 in
       (c.0, ⊎_elim (λ h. at q (inl refl) h) (λ h. at P (inr refl) h) (Contains-append_cases (row groups q) (row groups P) k place), way_to c.0 a.var c.2)
 
   circular_from : (k : ℕ) (d : Assignment) → k < length m.assigns → IsOnCycleOf m g (get_or m.assigns k d) → Contains (row groups q ++ row groups P) k × IsCircular base extra (get_or m.assigns k d)
   circular_from k d below c =
       let a : Assignment = get_or m.assigns k d in
       let l = leads_group P q c.0 g a is c.1 in
-      (⊎_elim (λ h. Contains-append_left (row groups q) (row groups P) k h) (λ h. Contains-append_right (row groups q) (row groups P) k h) (place_of k d below l.0), (c.0, l.1, way_from c.0 a.var c.2))
+      (⊎_elim (λ h. Contains-append_left (row groups q) (row groups P) k h) (λ h. Contains-append_right (row groups q) (row groups P) k h) (place_of k d below l.0), (c.0, edge_at k c.0 d below c.1, way_from c.0 a.var c.2))
 
   -- where the least among one group is behind all assignments, none of that group lies on a cycle
   pub own_clear : (bound least : ℕ) → length m.assigns ≤ least → IsLeastAmong (IsCircular base extra) m.assigns (row groups q) bound least
@@ -111,10 +125,10 @@ module _ (m : System) (P q : ℕ) (g : Graph) (is : IsGraphOf P q g) (processes 
       among.none k (subst (λ (r : ℕ). Contains (row groups r) k) group (grouped.complete k d below)) (omega (arith, below, far)) d (circular_from k d below c).1
 
   module _ (bound least : ℕ) (among : IsLeastAmong (IsCircular base extra) m.assigns (row groups q ++ row groups P) bound least) where
-    pub found_in_graph : IsFound m bound least
-    found_in_graph = elim among.holds [
+    pub found_in_graph : Silent (assigned_twice m) → Silent (current_beside_other m) → IsFound m bound least
+    found_in_graph twice beside = elim among.holds [
       | inl same ↦ inl same
-      | inr h ↦ inr (⊎_elim (λ c. grouped.known q least c) (λ c. grouped.known P least c) (Contains-append_cases (row groups q) (row groups P) least h.0), λ d. let c = circular_to least d h.0 (h.1 d) in (g, c.0, c.1, c.2))
+      | inr h ↦ inr (⊎_elim (λ c. grouped.known q least c) (λ c. grouped.known P least c) (Contains-append_cases (row groups q) (row groups P) least h.0), λ d. let c = circular_to twice beside least d h.0 (h.1 d) in (g, c.0, c.1, c.2))
     ]
 
     pub clear_in_graph : bound ≤ length m.assigns → IsClear m g least

@@ -1,6 +1,6 @@
 -- What a flat model says of its assignments.
-use Rattle.std.proofs.Common.{◌≡◌, ℕ, ◌+◌, ◌<◌, ◌≤◌, List, [], ◌∷◌, ◌++◌, length, map, get_or, sym, ◌∙◌, ap, subst, arith, length-append}
-use Rattle.std.specs.Prelude.{All, Contains, sum_by}
+use Rattle.std.proofs.Common.{ℕ, ◌<◌, ◌≤◌, List, [], ◌∷◌, ◌++◌, length, map, get_or, arith, length-append}
+use Rattle.std.specs.Prelude.{All, sum_by}
 use Rattle.std.proofs.lemmas.List.{length-map}
 use Rattle.std.proofs.lemmas.List.Elements.{All-weaker, All-contains}
 use Rattle.std.proofs.lemmas.List.Sums.{sum_by-cons}
@@ -9,9 +9,9 @@ use Rattle.kripke_model.specs.Term.{Term}
 use Rattle.kripke_model.specs.System.{System, Assignment, Condition}
 use Rattle.kripke_model.specs.Size.{node_count}
 use Rattle.kripke_model.specs.Static.{variables_in}
-use Rattle.kripke_model.specs.Flat.{IsFlat, IsSound, HasNumbers, expressions, node_total}
+use Rattle.kripke_model.specs.Flat.{IsFlat, HasNumbers, expressions, node_total}
 use Rattle.kripke_model.proofs.RuledLemmas.{rights_sound}
-use Rattle.smv_static.specs.Numbers.{row, IsBelow}
+use Rattle.smv_static.specs.Numbers.{IsBelow}
 use Rattle.smv_static.specs.Targets.{targets_by, targets_of, next_variables_in}
 use Rattle.smv_static.specs.Groups.{IsTable}
 use Rattle.smv_static.proofs.NumberLemmas.{all_members}

@@ -2,13 +2,15 @@ mod ResultLemmas
 mod NextLemmas
 mod NumberLemmas
 mod RowLemmas
+mod EdgeLemmas
 mod WayLemmas
 mod TargetLemmas
 mod FlatLemmas
 mod CycleFacts
+mod SideLemmas
+mod OnceLemmas
 mod CircleLemmas
 mod LeastLemmas
-mod SideLemmas
 mod FormulaLemmas
 mod RuleLemmas
 mod RowModels

@@ -1,8 +1,8 @@
 -- The models of the tests are ones that a program can have.
-use Rattle.std.proofs.Common.{◌≡◌, ℕ, zero, suc, ◌<◌, ◌≤◌, Bool, true, false, List, [], ◌∷◌, length, map, get_or, refl, sym, ap, subst, arith, lit<, lit≤}
+use Rattle.std.proofs.Common.{◌≡◌, ℕ, zero, suc, ◌<◌, ◌≤◌, List, [], ◌∷◌, length, map, refl, ap, arith, lit<, lit≤}
 use Rattle.std.specs.Prelude.{All, pos}
 use Rattle.std.specs.List.{slice_index_or}
-use Rattle.std.proofs.lemmas.List.Elements.{All-nil, All-cons, All-from_recursion}
+use Rattle.std.proofs.lemmas.List.Elements.{All-nil, All-from_recursion}
 use Rattle.kripke_model.specs.declared.expressions.Value.{Value}
 use Rattle.kripke_model.specs.declared.expressions.Value.TheVariants.{Number}
 use Rattle.kripke_model.specs.Evaluable.{IsKnown}
@@ -10,7 +10,7 @@ use Rattle.kripke_model.specs.Names.{IsAtom, IsVariableName, IsProcessName}
 use Rattle.kripke_model.specs.Size.{nesting}
 use Rattle.kripke_model.specs.System.{System, Variable, Assignment, Condition}
 use Rattle.kripke_model.specs.Term.{Term}
-use Rattle.kripke_model.specs.Flat.{IsFlat, IsSound, IsWellTyped, HasNumbers, HasSelector, AreDistinct, expressions, node_total, main_name}
+use Rattle.kripke_model.specs.Flat.{IsFlat, IsSound, IsWellTyped, HasNumbers, AreDistinct, expressions, node_total, main_name}
 use Rattle.smv_static.specs.Rows.{boolean, variables, two_processes, beside_row, circular_row, apart_row}
 
 bits_differ : AreDistinct (Number (pos 0) ∷ Number (pos 1) ∷ [])

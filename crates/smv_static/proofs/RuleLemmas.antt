@@ -1,12 +1,12 @@
 -- The rules one after the other, and what those of a model that keeps them say.
-use Rattle.std.proofs.Common.{◌≡◌, true, false, List, map, get_or, refl, sym, ◌∙◌, subst, inl, inr, ⊎_elim}
-use Rattle.std.specs.Prelude.{Bool, IsTrue, IsFalse, ◌⊎◌, All, cond}
+use Rattle.std.proofs.Common.{◌≡◌, true, false, List, map, get_or, refl, inl, inr, ⊎_elim}
+use Rattle.std.specs.Prelude.{Bool, IsTrue, IsFalse, ◌⊎◌, All}
 use Rattle.kripke_model.specs.declared.expressions.Formula.{Formula}
 use Rattle.kripke_model.specs.declared.refusals.StaticRefusal.{StaticRefusal}
 use Rattle.kripke_model.specs.Term.{has_path_operator}
 use Rattle.kripke_model.specs.Ctl.{formula_of}
 use Rattle.kripke_model.specs.System.{System, Condition}
-use Rattle.kripke_model.specs.Refusing.{Rule, Silent, ◌then◌}
+use Rattle.kripke_model.specs.Refusing.{Silent, ◌then◌}
 use Rattle.kripke_model.specs.Static.{StaticRule, KeepsRules, HasFormula, is_formula}
 use Rattle.kripke_model.specs.Flat.{IsFlat}
 use Rattle.kripke_model.specs.WellFormed.{IsRuled, ctl_of}

@@ -1,5 +1,5 @@
 -- Assignments that give the same have the same cell, and the other way round.
-use Rattle.std.proofs.Common.{◌≡◌, ℕ, ◌+◌, ◌*◌, ◌<◌, ◌≤◌, ◌⊎◌, inl, inr, ⊎_elim, List, length, take, get_or, refl, sym, ◌∙◌, ap, subst, arith, Any}
+use Rattle.std.proofs.Common.{◌≡◌, ℕ, ◌+◌, ◌*◌, ◌<◌, ◌≤◌, ⊎_elim, List, length, take, get_or, refl, sym, ◌∙◌, ap, subst, arith, Any}
 use Rattle.std.specs.Prelude.{All}
 use Rattle.std.proofs.lemmas.List.{get_or-take, get_or_default, length-take-le}
 use Rattle.std.proofs.Math.Nat.{mul-le-mul_right}
@@ -20,7 +20,7 @@ same_group P Part.Init other p q e h = ap (λ (r : Part). group_by P r q) e
 same_group P Part.Now other p q e h = ap (λ (r : Part). group_by P r q) e
 same_group P Part.Next other p q e h = ap (λ (r : Part). group_by P r q) e ∙ h refl
 
-same_part : (P : ℕ) (part other : Part) (p q : ℕ) → p < P → q < P → group_by P other q ≡ group_by P part p → (other ≡ part) × (part ≡ Part.Next → q ≡ p)
+pub same_part : (P : ℕ) (part other : Part) (p q : ℕ) → p < P → q < P → group_by P other q ≡ group_by P part p → (other ≡ part) × (part ≡ Part.Next → q ≡ p)
 same_part P Part.Init Part.Init p q l m e = (refl, λ n. cc)
 same_part P Part.Init Part.Now p q l m e = absurd (omega arith)
 same_part P Part.Init Part.Next p q l m e = absurd (omega arith)

@@ -1,20 +1,46 @@
--- Ways in the graph of two tables.
-use Rattle.std.proofs.Common.{◌≡◌, ℕ, List}
-use Rattle.std.specs.Prelude.{Contains}
-use Rattle.smv_static.specs.Ways.{Edge, Way, IsReached}
+-- Cycles in the graph of two tables, and the flags of a graph with the same edges.
+use Rattle.std.proofs.Common.{◌≡◌, ℕ, ◌+◌, ◌<◌, ⊎_elim, true, false, List, length, get_or, refl, sym, ◌∙◌, subst, arith}
+use Rattle.std.specs.Prelude.{◌↔◌, Bool, IsTrue, cond}
+use Rattle.std.proofs.lemmas.Bool.{cases_lt}
+use Rattle.std.proofs.lemmas.List.{get_or_past}
+use Rattle.graph_order.specs.Graphs.{LeadsTo, Orders}
+use Rattle.smv_static.specs.Numbers.{IsBelow}
+use Rattle.smv_static.specs.Ways.{Edge, Way, AreCycleFlags, HasRows}
 
-module _ (base extra : List (List ℕ)) where
-  pub way_more : (x y z : ℕ) → Way base extra x y → Edge base extra y z → Way base extra x z
-  way_more x y z Way.stay e = Way.step e Way.stay
-  way_more x y z (Way.step f w) e = Way.step f (way_more _ y z w e)
+differ : false ≡ true → ⊥
+differ e = subst (λ (b : Bool). cond b ⊥ (Unit {0})) e tt
 
-  pub reached_more : (from : List ℕ) (y z : ℕ) → IsReached base extra from y → Edge base extra y z → IsReached base extra from z
-  reached_more from y z r e = (r.0, r.1, way_more r.0 y z r.2 e)
+-- a flag that is set on one side of P alone
+flag_is : {P : Type 0} (b : Bool) → (b ≡ true → P) → (b ≡ false → P → ⊥) → IsTrue b ↔ P
+flag_is true set clear = (λ e. set e, λ p. refl)
+flag_is false set clear = (λ e. absurd (differ e), λ p. absurd (clear refl p))
 
-  pub reached_start : (from : List ℕ) (y : ℕ) → Contains from y → IsReached base extra from y
-  reached_start from y h = (y, h, Way.stay)
+module _ (base extra : List (List ℕ)) (variables : ℕ) (b : IsBelow variables base) (e : IsBelow variables extra) where
+  edge_below : (x y : ℕ) → Edge base extra x y → y < variables
+  edge_below x y edge = ⊎_elim (λ h. b x y h) (λ h. e x y h) edge
 
-  -- what is closed under the edges holds where a way leads
-  pub way_closed : (P : ℕ → Type 0) → ((x y : ℕ) → P x → Edge base extra x y → P y) → (x z : ℕ) → Way base extra x z → P x → P z
-  way_closed P closed x z Way.stay p = p
-  way_closed P closed x z (Way.step e w) p = way_closed P closed _ z w (closed x _ p e)
+  way_below : (x y : ℕ) → Way base extra x y → x < variables → y < variables
+  way_below x y Way.stay low = low
+  way_below x y (Way.step {y = u} edge w) low = way_below u y w (edge_below x u edge)
+
+  module _ (firsts targets : List ℕ) (rows : HasRows base extra variables variables firsts targets) where
+    leads_way : (x z : ℕ) → x < variables → LeadsTo firsts targets x z → (y : ℕ) × Edge base extra x y × Way base extra y z
+    leads_way x z low (LeadsTo.one h) = (z, (rows.edges x z low).0 h, Way.stay)
+    leads_way x z low (LeadsTo.more {w = u} h r) =
+        let edge : Edge base extra x u = (rows.edges x u low).0 h in
+        let s = leads_way u z (edge_below x u edge) r in
+        (u, edge, Way.step s.1 s.2)
+
+    way_leads : (x y z : ℕ) → x < variables → Edge base extra x y → Way base extra y z → LeadsTo firsts targets x z
+    way_leads x y z low edge Way.stay = LeadsTo.one ((rows.edges x y low).1 edge)
+    way_leads x y z low edge (Way.step {y = u} next w) = LeadsTo.more ((rows.edges x y low).1 edge) (way_leads y u z (edge_below x y edge) next w)
+
+    pub cycle_flags : (order : List ℕ) (circular : List Bool) → Orders firsts targets order circular → AreCycleFlags base extra circular
+    cycle_flags order circular orders x =
+        let nodes : length firsts ≡ variables + 1 = rows.nodes in
+        ⊎_elim (λ low. flag_is (get_or circular x false) (λ set. leads_way x x low (orders.on_cycle x (omega arith) set))
+        (λ clear c. orders.on_none x (omega arith) clear (way_leads x c.0 x low c.1 c.2)))
+        (λ high. flag_is (get_or circular x false)
+        (λ set. absurd (differ (sym (get_or_past circular x false (let flags = orders.flags in omega arith)) ∙ set)))
+        (λ clear c. let low = way_below c.0 x c.2 (edge_below x c.0 c.1) in omega arith))
+        (cases_lt x variables)

@@ -5,12 +5,11 @@ use Rattle.kripke_model.specs.System.{System, Assignment}
 use Rattle.kripke_model.specs.Static.{Graph, LeadsTo, HasWay, IsOnCycle}
 use Rattle.smv_static.specs.Numbers.{row}
 use Rattle.smv_static.specs.Groups.{IsGrouped, IsTable}
-use Rattle.smv_static.specs.Targets.{targets_of}
-use Rattle.smv_static.specs.Ways.{IsReached}
+use Rattle.smv_static.specs.Ways.{LiesOnCycle}
 
--- a way leads from what the assignment's variable depends on to that variable
+-- the assignment's variable lies on a cycle
 abbrev pub IsCircular : List (List ℕ) → List (List ℕ) → Assignment → Type 0
-IsCircular base extra a = IsReached base extra (targets_of a) a.var
+IsCircular base extra a = LiesOnCycle base extra a.var
 
 -- the assignment at place k is P
 abbrev pub HoldsOf : (Assignment → Type 0) → List Assignment → ℕ → Type 0

@@ -1,7 +1,6 @@
 pub mod Nexts
 pub mod Sections
 pub mod Numbers
-pub mod Kept
 pub mod Ways
 pub mod Targets
 pub mod Groups

@@ -1,7 +1,6 @@
 -- Small models for the static rules, of which the tests speak: variables 1 and 2 are Boolean, and there are two
 -- processes.
-use Rattle.std.specs.Prelude.{◌≤◌, ℕ, Bool, true, false, List, [], ◌∷◌, pos}
-use Rattle.kripke_model.specs.declared.expressions.Value.{Value}
+use Rattle.std.specs.Prelude.{ℕ, true, List, [], ◌∷◌, pos}
 use Rattle.kripke_model.specs.declared.expressions.Value.TheVariants.{Number}
 use Rattle.kripke_model.specs.declared.expressions.BinOp.{BinOp}
 use Rattle.kripke_model.specs.declared.expressions.PathOp.{PathOp}

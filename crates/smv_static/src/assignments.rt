@@ -1,22 +1,20 @@
 //! Which assignments may stand side by side.
 
-ghost use Rattle.std.specs.Prelude.{◌≡◌, ◌≢◌, ◌⊎◌, ◌↔◌, ◌+◌, ◌*◌, ◌<◌, ◌≤◌, ℕ, OnOk, IfOk, IfErr, IsTrue, All, Contains, length};
+ghost use Rattle.std.specs.Prelude.{◌≡◌, ◌≢◌, ◌⊎◌, ◌↔◌, ◌+◌, ◌*◌, ◌<◌, ◌≤◌, ℕ, OnOk, IfOk, IfErr, IsTrue, All, length, false, slice_index_or};
 ghost use Rattle.kripke_model.specs.Flat.{IsFlat};
 ghost use Rattle.kripke_model.specs.Refusing.{Silent};
 ghost use Rattle.kripke_model.specs.Static.{assigned_twice, current_beside_other};
 ghost use Rattle.kripke_model.specs.declared.models.Part.{Part as Parts};
-ghost use Rattle.smv_static.specs.Numbers.{Extends};
-ghost use Rattle.smv_static.specs.Sides.{HasOther, cell_of};
+ghost use Rattle.smv_static.specs.Sides.{IsFlagged, AreOtherFlags, cell_of};
 
 use crate::groups::group_of;
-use crate::numbers::Found;
 use crate::parts::{assigns_of, line_of_assign, process_count, var_of, variable_count};
 use kripke_model::models::{Assign, FlatModel, Part};
 use kripke_model::refusals::StaticRefusal;
 use std::alloc::{AllocError, Global};
 
 /// The assignment's cell in a table with a row for each group and a column for each variable.
-fn cell_of(assign: &Assign, processes: usize, variables: usize) -> u32
+fn cell_of(assign: &Assign, processes: usize, variables: usize) -> usize
     requires processes { processes ≤ 1024 }
     requires variables { variables ≤ 256 }
     requires process { assign.now.process < processes }
@@ -24,7 +22,7 @@ fn cell_of(assign: &Assign, processes: usize, variables: usize) -> u32
     ensures cell { result ≡ cell_of processes variables assign.now }
     ensures bound { result < (processes + 2) * variables }
 {
-    (group_of(assign, processes) * variables + var_of(assign) as usize) as u32
+    group_of(assign, processes) * variables + var_of(assign) as usize
 }
 
 /// Refuses the first assignment that gives again what an earlier one gives.
@@ -36,56 +34,63 @@ pub fn check_twice(alloc: Global, flat: &FlatModel) -> Result<(), StaticRefusal>
     let assigns = assigns_of(flat);
     let processes = process_count(flat);
     let variables = variable_count(flat);
-    let mut given = Found::new(alloc, (processes + 2) * variables)?;
+    let mut given = vec![in alloc; false; (processes + 2) * variables]?;
     for assign in assigns {
         let cell = cell_of(assign, processes, variables);
-        if given.has(cell) {
+        if given[cell] {
             return Err(StaticRefusal::AssignedTwice {
                 line: line_of_assign(assign),
             });
         }
-        given.add(cell)?;
+        given[cell] = true;
     }
     Ok(())
 }
 
-/// Adds the assignment's variable where it is its initial or next value.
-fn add_other(found: &mut Found, assign: &Assign) -> Result<(), AllocError>
-    requires { assign.now.var < found.old.count }
-    ensures count { found.new.count ≡ found.old.count }
-    ensures more { OnOk result (Extends found.old.found (λ x. (x ≡ assign.now.var) × (assign.now.part ≢ Parts.Now)) found.new.found) }
-    ensures has { OnOk result (assign.now.part ≢ Parts.Now → Contains found.new.found assign.now.var) }
+/// Whether the assignment's variable is flagged.
+pub fn is_flagged(flags: &[bool], assign: &Assign) -> bool
+    ensures { IsTrue result ↔ IsFlagged flags.now assign.now }
+{
+    match flags.get(assign.var as usize) {
+        Some(flag) => *flag,
+        None => false,
+    }
+}
+
+/// Flags the assignment's variable where it is its initial or next value.
+fn flag_other(flags: &mut Vec<bool>, assign: &Assign)
+    requires { assign.now.var < length flags.old.items }
+    ensures count { length flags.new.items ≡ length flags.old.items }
+    ensures flags { (x : ℕ) → IsTrue (slice_index_or flags.new.items x false) ↔ IsTrue (slice_index_or flags.old.items x false) ⊎ (x ≡ assign.now.var) × (assign.now.part ≢ Parts.Now) }
 {
     if assign.part == Part::Now {
-        return Ok(());
+        return;
     }
-    found.add(assign.var)
+    flags[assign.var as usize] = true;
 }
 
-/// The variables that have an initial or a next value.
-fn with_other(alloc: Global, assigns: &[Assign], variables: usize) -> Result<Found, AllocError>
+/// For each variable whether it has an initial or a next value.
+fn with_other(alloc: Global, assigns: &[Assign], variables: usize) -> Result<Vec<bool>, AllocError>
     requires { All (λ a. a.var < variables) assigns.now }
-    ensures sound { IfOk result (λ f. All (HasOther assigns.now) f.found) }
-    ensures complete { IfOk result (λ f. All (λ a. a.part ≢ Parts.Now → Contains f.found a.var) assigns.now) }
+    ensures { IfOk result (λ flags. AreOtherFlags assigns.now flags.items) }
 {
-    let mut found = Found::new(alloc, variables)?;
+    let mut flags = vec![in alloc; false; variables]?;
     for assign in assigns {
-        add_other(&mut found, assign)?;
+        flag_other(&mut flags, assign);
     }
-    Ok(found)
+    Ok(flags)
 }
 
-/// Whether the assignment is a current value of one of the variables.
-fn is_beside(others: &Found, assign: &Assign) -> bool
-    ensures { IsTrue result ↔ (assign.now.part ≡ Parts.Now) × Contains others.now.found assign.now.var }
+/// Whether the assignment is a current value of a flagged variable.
+fn is_beside(others: &[bool], assign: &Assign) -> bool
+    ensures { IsTrue result ↔ (assign.now.part ≡ Parts.Now) × IsFlagged others.now assign.now }
 {
-    assign.part == Part::Now && others.has(assign.var)
+    assign.part == Part::Now && is_flagged(others, assign)
 }
 
-/// Refuses the first current value of one of these variables, which are those that have an initial or a next one.
-fn refuse_beside(flat: &FlatModel, others: &Found) -> Result<(), StaticRefusal>
-    requires sound { All (HasOther flat.now.assigns) others.now.found }
-    requires complete { All (λ a. a.part ≢ Parts.Now → Contains others.now.found a.var) flat.now.assigns }
+/// Refuses the first current value of a flagged variable, which is one that has an initial or a next value.
+fn refuse_beside(flat: &FlatModel, others: &[bool]) -> Result<(), StaticRefusal>
+    requires { AreOtherFlags flat.now.assigns others.now }
     ensures ok { OnOk result (Silent (current_beside_other flat.now)) }
     ensures err { IfErr result (current_beside_other flat.now) }
 {

@@ -2,94 +2,50 @@
 //!
 //! The edges of the initial graph are those of the initial and of the current values, and the edges of a process's
 //! graph are those of its next values and of the current values. So the edges of the current values are kept in one
-//! table for all graphs. A process whose next values depend on no next value has no graph of its own to search. Of any
-//! other process the next values are tried first: while nothing was found and none of them lies on a cycle, no current
-//! value does, since a cycle of current values alone is one of the initial graph.
+//! table for all graphs. In one graph a variable has one assignment only, since a second one was refused before: an
+//! assignment lies on a cycle where its variable does. A process whose next values depend on no next value has no graph
+//! of its own to search. Of any other process the next values are tried first: while nothing was found and none of them
+//! lies on a cycle, no current value does, since a cycle of current values alone is one of the initial graph.
 
-ghost use Rattle.std.specs.Prelude.{◌≡◌, ◌⊎◌, ◌↔◌, ◌<◌, ◌≤◌, ℕ, length, true, All, Contains, IfOk, IfErr, OnOk, IsTrue};
+ghost use Rattle.std.specs.Prelude.{◌≡◌, ◌⊎◌, ◌<◌, ◌≤◌, ℕ, length, true, All, Contains, IfOk, IfErr, OnOk};
 ghost use Rattle.kripke_model.specs.Flat.{IsFlat};
 ghost use Rattle.kripke_model.specs.Refusing.{Silent};
-ghost use Rattle.kripke_model.specs.Static.{Graph, circular_assignment};
-ghost use Rattle.smv_static.specs.Circles.{IsCircular, IsLeastAmong, IsFirstCircular, IsFound, IsClear, HasTables};
+ghost use Rattle.kripke_model.specs.Static.{Graph, assigned_twice, current_beside_other, circular_assignment};
+ghost use Rattle.smv_static.specs.Circles.{IsLeastAmong, IsFirstCircular, IsFound, IsClear, HasTables};
 ghost use Rattle.smv_static.specs.Groups.{IsTable};
 ghost use Rattle.smv_static.specs.Numbers.{IsBelow, row};
-ghost use Rattle.smv_static.specs.Targets.{targets_of};
+ghost use Rattle.smv_static.specs.Sides.{IsFlagged};
 
+use crate::assignments::is_flagged;
 use crate::groups::{grouped, table};
 use crate::numbers::{Row, row_at};
-use crate::parts::{assigns_of, line_of_assign, process_count, var_of, variable_count};
-use crate::search::reached;
-use crate::targets::push_targets;
+use crate::parts::{assigns_of, line_of_assign, process_count, variable_count};
+use crate::ways::on_cycles;
 use kripke_model::models::{Assign, FlatModel};
 use kripke_model::refusals::StaticRefusal;
 use std::alloc::{AllocError, Global};
 
-/// Whether a way leads from what the assignment's variable depends on to that variable.
-fn is_circular(
-    alloc: Global,
-    assign: &Assign,
-    base: &[Row],
-    extra: &[Row],
-    variables: usize,
-) -> Result<bool, AllocError>
-    requires base { IsBelow variables base.now }
-    requires extra { IsBelow variables extra.now }
-    requires targets { All (λ x. x < variables) (targets_of assign.now) }
-    ensures { IfOk result (λ b. IsTrue b ↔ IsCircular base.now extra.now assign.now) }
-{
-    let mut from = Row::new(alloc);
-    push_targets(assign, &mut from)?;
-    let found = reached(alloc, base, extra, from.items(), variables)?;
-    Ok(found.has(var_of(assign)))
-}
-
-/// The lesser of `least` and the place k of the assignment, if that lies on a cycle.
-fn lesser(
-    alloc: Global,
-    assign: &Assign,
-    k: usize,
-    base: &[Row],
-    extra: &[Row],
-    variables: usize,
-    least: usize,
-) -> Result<usize, AllocError>
-    requires base { IsBelow variables base.now }
-    requires extra { IsBelow variables extra.now }
-    requires targets { All (λ x. x < variables) (targets_of assign.now) }
-    ensures { IfOk result (λ r. (r ≡ least) × (k < least → IsCircular base.now extra.now assign.now → ⊥) ⊎ (r ≡ k) × (k < least) × IsCircular base.now extra.now assign.now) }
+/// The lesser of `least` and the place k of the assignment, if its variable is flagged.
+fn lesser(assign: &Assign, k: usize, flags: &[bool], least: usize) -> usize
+    ensures { (result ≡ least) × (k < least → IsFlagged flags.now assign.now → ⊥) ⊎ (result ≡ k) × (k < least) × IsFlagged flags.now assign.now }
 {
     if k >= least {
-        return Ok(least);
+        return least;
     }
-    if is_circular(alloc, assign, base, extra, variables)? {
-        Ok(k)
-    } else {
-        Ok(least)
-    }
+    if is_flagged(flags, assign) { k } else { least }
 }
 
-/// The least of the bound and of those places whose assignment lies on a cycle of the graph of the two tables.
-fn least_circular(
-    alloc: Global,
-    assigns: &[Assign],
-    places: &[u32],
-    base: &[Row],
-    extra: &[Row],
-    variables: usize,
-    bound: usize,
-) -> Result<usize, AllocError>
-    requires places { All (λ k. k < length assigns.now) places.now }
-    requires base { IsBelow variables base.now }
-    requires extra { IsBelow variables extra.now }
-    requires targets { All (λ a. All (λ x. x < variables) (targets_of a)) assigns.now }
-    ensures { IfOk result (λ least. IsLeastAmong (IsCircular base.now extra.now) assigns.now places.now bound least) }
+/// The least of the bound and of those places whose assignment's variable is flagged.
+fn least_flagged(assigns: &[Assign], places: &[u32], flags: &[bool], bound: usize) -> usize
+    requires { All (λ k. k < length assigns.now) places.now }
+    ensures { IsLeastAmong (IsFlagged flags.now) assigns.now places.now bound result }
 {
     let mut least = bound;
     for place in places {
         let k = *place as usize;
-        least = lesser(alloc, &assigns[k], k, base, extra, variables, least)?;
+        least = lesser(&assigns[k], k, flags, least);
     }
-    Ok(least)
+    least
 }
 
 /// What the graphs of a model are read from: its assignments in groups, and the edges of the current values.
@@ -97,7 +53,7 @@ fn least_circular(
 struct Tables {
     groups: Vec<Row>,
     base: Vec<Row>,
-    processes: u32,
+    processes: usize,
     variables: usize,
 }
 
@@ -109,39 +65,29 @@ fn make_tables(alloc: Global, flat: &FlatModel) -> Result<Tables, AllocError>
     let variables = variable_count(flat);
     let assigns = assigns_of(flat);
     let groups = grouped(alloc, assigns, processes)?;
-    let base = table(alloc, assigns, row_at(&groups, processes as u32), variables)?;
+    let base = table(alloc, assigns, row_at(&groups, processes), variables)?;
     Ok(Tables {
         groups,
         base,
-        processes: processes as u32,
+        processes,
         variables,
     })
 }
 
-/// The least of the bound and of the places of one group whose assignment lies on a cycle of the graph.
+/// The least of the bound and of the places of one group whose assignment's variable is flagged.
 fn least_of_group(
-    alloc: Global,
     flat: &FlatModel,
     tables: &Tables,
-    group: u32,
-    extra: &[Row],
+    group: usize,
+    flags: &[bool],
     bound: usize,
-) -> Result<usize, AllocError>
+) -> usize
     requires flat { IsFlat flat.now }
     requires tables { HasTables flat.now tables.now.groups.items tables.now.base.items tables.now.processes tables.now.variables }
-    requires extra { IsBelow tables.now.variables extra.now }
-    ensures { IfOk result (λ least. IsLeastAmong (IsCircular tables.now.base.items extra.now) flat.now.assigns (row tables.now.groups.items group) bound least) }
+    ensures { IsLeastAmong (IsFlagged flags.now) flat.now.assigns (row tables.now.groups.items group) bound result }
 {
     let places = row_at(&tables.groups, group);
-    least_circular(
-        alloc,
-        assigns_of(flat),
-        places,
-        &tables.base,
-        extra,
-        tables.variables,
-        bound,
-    )
+    least_flagged(assigns_of(flat), places, flags, bound)
 }
 
 /// The edges of one group.
@@ -149,7 +95,7 @@ fn edges_of(
     alloc: Global,
     flat: &FlatModel,
     tables: &Tables,
-    group: u32,
+    group: usize,
 ) -> Result<Vec<Row>, AllocError>
     requires flat { IsFlat flat.now }
     requires tables { HasTables flat.now tables.now.groups.items tables.now.base.items tables.now.processes tables.now.variables }
@@ -163,6 +109,8 @@ fn edges_of(
 /// The place of the first assignment on a cycle of the initial graph, or how many assignments there are.
 fn least_at_start(alloc: Global, flat: &FlatModel, tables: &Tables) -> Result<usize, AllocError>
     requires flat { IsFlat flat.now }
+    requires twice { Silent (assigned_twice flat.now) }
+    requires beside { Silent (current_beside_other flat.now) }
     requires tables { HasTables flat.now tables.now.groups.items tables.now.base.items tables.now.processes tables.now.variables }
     ensures at_most { IfOk result (λ least. least ≤ length flat.now.assigns) }
     ensures found { IfOk result (λ least. IsFound flat.now (length flat.now.assigns) least) }
@@ -171,8 +119,9 @@ fn least_at_start(alloc: Global, flat: &FlatModel, tables: &Tables) -> Result<us
     let count = assigns_of(flat).len();
     let group = tables.processes + 1;
     let extra = edges_of(alloc, flat, tables, group)?;
-    let least = least_of_group(alloc, flat, tables, group, &extra, count)?;
-    least_of_group(alloc, flat, tables, tables.processes, &extra, least)
+    let flags = on_cycles(alloc, &tables.base, &extra, tables.variables)?;
+    let least = least_of_group(flat, tables, group, &flags, count);
+    Ok(least_of_group(flat, tables, tables.processes, &flags, least))
 }
 
 /// Whether nothing is in the table.
@@ -192,10 +141,12 @@ fn least_in_process(
     alloc: Global,
     flat: &FlatModel,
     tables: &Tables,
-    p: u32,
+    p: usize,
     bound: usize,
 ) -> Result<usize, AllocError>
     requires flat { IsFlat flat.now }
+    requires twice { Silent (assigned_twice flat.now) }
+    requires beside { Silent (current_beside_other flat.now) }
     requires tables { HasTables flat.now tables.now.groups.items tables.now.base.items tables.now.processes tables.now.variables }
     requires process { p < tables.now.processes }
     requires bound { bound ≤ length flat.now.assigns }
@@ -208,16 +159,19 @@ fn least_in_process(
     if is_empty(&extra) {
         return Ok(bound);
     }
-    let least = least_of_group(alloc, flat, tables, p, &extra, bound)?;
+    let flags = on_cycles(alloc, &tables.base, &extra, tables.variables)?;
+    let least = least_of_group(flat, tables, p, &flags, bound);
     if least == assigns_of(flat).len() {
         return Ok(least);
     }
-    least_of_group(alloc, flat, tables, tables.processes, &extra, least)
+    Ok(least_of_group(flat, tables, tables.processes, &flags, least))
 }
 
 /// The place of the first assignment on a cycle, or how many assignments there are.
 fn first_circular(alloc: Global, flat: &FlatModel) -> Result<usize, AllocError>
-    requires { IsFlat flat.now }
+    requires flat { IsFlat flat.now }
+    requires twice { Silent (assigned_twice flat.now) }
+    requires beside { Silent (current_beside_other flat.now) }
     ensures { IfOk result (λ least. IsFirstCircular flat.now least) }
 {
     let tables = make_tables(alloc, flat)?;
@@ -230,7 +184,9 @@ fn first_circular(alloc: Global, flat: &FlatModel) -> Result<usize, AllocError>
 
 /// Refuses the first assignment that lies on a cycle of one of the graphs.
 pub fn check_cycles(alloc: Global, flat: &FlatModel) -> Result<(), StaticRefusal>
-    requires { IsFlat flat.now }
+    requires flat { IsFlat flat.now }
+    requires twice { Silent (assigned_twice flat.now) }
+    requires beside { Silent (current_beside_other flat.now) }
     ensures ok { OnOk result (Silent (circular_assignment flat.now)) }
     ensures err { IfErr result (λ r. (r ≡ StaticRefusal.Memory) ⊎ circular_assignment flat.now r) }
 {

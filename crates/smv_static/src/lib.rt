@@ -10,9 +10,9 @@ pub mod laws;
 mod numbers;
 mod operators;
 mod parts;
-mod search;
 mod sections;
 mod targets;
+mod ways;
 
 pub use acceptance::accept;
 

@@ -1,7 +1,7 @@
-//! Tables of numbers, and growing sets of them.
+//! Tables of numbers.
 
-ghost use Rattle.std.specs.Prelude.{◌≡◌, ◌↔◌, ◌<◌, ◌≤◌, ◌++◌, ◌∷◌, ℕ, [], length, All, Contains, IfOk, OnOk, IsTrue, slice_index, slice_set};
-ghost use Rattle.smv_static.specs.Numbers.{Extends, row};
+ghost use Rattle.std.specs.Prelude.{◌≡◌, ◌<◌, ◌++◌, ◌∷◌, ℕ, [], length, IfOk, OnOk, slice_set};
+ghost use Rattle.smv_static.specs.Numbers.{row};
 
 use std::alloc::{AllocError, Global};
 use std::marker::Model;
@@ -56,10 +56,10 @@ pub fn empty_rows(alloc: Global, count: usize) -> Result<Vec<Row>, AllocError>
 }
 
 /// The numbers in row x.
-pub fn row_at(rows: &[Row], x: u32) -> &[u32]
+pub fn row_at(rows: &[Row], x: usize) -> &[u32]
     ensures { result.now ≡ row rows.now x }
 {
-    match rows.get(x as usize) {
+    match rows.get(x) {
         Some(row) => row.items(),
         None => &[],
     }
@@ -72,86 +72,4 @@ pub fn push_at(rows: &mut Vec<Row>, x: usize, y: u32) -> Result<(), AllocError>
     ensures count { length rows.new.items ≡ length rows.old.items }
 {
     rows[x].push(y)
-}
-
-/// Numbers below a count, in the order in which they were found, each once.
-#[derive(Drop)]
-pub struct Found {
-    marks: Vec<bool>,
-    order: Vec<u32>,
-}
-
-impl Model for Found {
-    ghost use Rattle.std.specs.Prelude.{length};
-    ghost use Rattle.smv_static.specs.Numbers.{Finding};
-    ghost use Rattle.smv_static.specs.Kept.{IsKept};
-
-    ghost Value = { Finding };
-
-    ghost view = { λ f. record { count = length f.marks.items; found = f.order.items } };
-
-    ghost invariant = { λ f. IsKept f.marks.items f.order.items };
-}
-
-impl Found {
-    pub fn new(alloc: Global, count: usize) -> Result<Found, AllocError>
-        ensures { IfOk result (λ f. f ≡ record { count = count; found = [] }) }
-    {
-        Ok(Found {
-            marks: vec![in alloc; false; count]?,
-            order: Vec::new(alloc),
-        })
-    }
-
-    pub fn has(&self, y: u32) -> bool
-        ensures { IsTrue result ↔ Contains self.now.found y }
-    {
-        match self.marks.get(y as usize) {
-            Some(mark) => *mark,
-            None => false,
-        }
-    }
-
-    /// How many were found.
-    pub fn len(&self) -> usize
-        ensures len { result ≡ length self.now.found }
-        ensures bound { result ≤ self.now.count }
-    {
-        self.order.len()
-    }
-
-    pub fn at(&self, i: usize) -> u32
-        requires { i < length self.now.found }
-        ensures { result ≡ slice_index self.now.found i }
-    {
-        self.order[i]
-    }
-
-    /// Adds y where it is new.
-    pub fn add(&mut self, y: u32) -> Result<(), AllocError>
-        requires { y < self.old.count }
-        ensures count { self.new.count ≡ self.old.count }
-        ensures more { OnOk result (Extends self.old.found (λ x. x ≡ y) self.new.found) }
-        ensures has { OnOk result (Contains self.new.found y) }
-    {
-        if self.has(y) {
-            return Ok(());
-        }
-        self.order.push(y)?;
-        self.marks[y as usize] = true;
-        Ok(())
-    }
-
-    /// Adds those that are new.
-    pub fn add_all(&mut self, ys: &[u32]) -> Result<(), AllocError>
-        requires { All (λ y. y < self.old.count) ys.now }
-        ensures count { self.new.count ≡ self.old.count }
-        ensures more { OnOk result (Extends self.old.found (Contains ys.now) self.new.found) }
-        ensures has { OnOk result (All (Contains self.new.found) ys.now) }
-    {
-        for y in ys {
-            self.add(*y)?;
-        }
-        Ok(())
-    }
 }

@@ -1,4 +1,4 @@
-use Rattle.std.proofs.Common.{◌≡◌, ℕ, ◌+◌, ◌*◌, ◌<◌, ap, arith}
+use Rattle.std.proofs.Common.{◌≡◌, ℕ, ◌*◌, ap, arith}
 use Rattle.smv_static.specs.Groups.{group_of}
 use Rattle.smv_static.proofs.SideLemmas.{cell_known, group_known}
 use Rattle.smv_static.proofs.assignments.cell_of.Goals as goal

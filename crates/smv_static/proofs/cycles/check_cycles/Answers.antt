@@ -1,4 +1,4 @@
-use Rattle.std.proofs.Common.{◌≡◌, ℕ, ◌<◌, inr, List, length, get_or, sym, ◌∙◌, ap, subst, arith}
+use Rattle.std.proofs.Common.{◌≡◌, ℕ, ◌<◌, inr, List, length, get_or, ◌∙◌, ap, arith}
 use Rattle.kripke_model.specs.declared.refusals.StaticRefusal.{StaticRefusal}
 use Rattle.kripke_model.specs.System.{System, Assignment}
 use Rattle.kripke_model.specs.Refusing.{refuse, Rule}

@@ -1,4 +1,4 @@
-use Rattle.std.proofs.Common.{◌≡◌, ℕ, List, ◌∙◌, ap, refl}
+use Rattle.std.proofs.Common.{ℕ, List, ◌∙◌, ap}
 use Rattle.kripke_model.specs.System.{System}
 use Rattle.smv_static.specs.Numbers.{row}
 use Rattle.smv_static.proofs.ResultLemmas.{if_ok}

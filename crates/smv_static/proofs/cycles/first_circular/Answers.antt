@@ -1,4 +1,4 @@
-use Rattle.std.proofs.Common.{◌≡◌, ℕ, ◌<◌, ◌≤◌, ⊎_elim, length, arith, below_more}
+use Rattle.std.proofs.Common.{ℕ, ⊎_elim, length, arith, below_more}
 use Rattle.kripke_model.specs.System.{System}
 use Rattle.kripke_model.specs.Static.{Graph}
 use Rattle.smv_static.specs.Circles.{IsClear}
@@ -26,7 +26,7 @@ returns c =
     let m : System = c.args.flat.now in
     let inv = c.loop-p.invariant in
     let P : ℕ = c.in_ok-tables.tables.processes in
-    let clear = clear_everywhere m P c.loop-p.least (processes_in m P c.requires c.in_ok-tables.ensures.processes_are) inv.at_most inv.start (λ q l. inv.passed q (omega (arith, l, c.loop-p-test.false))) in
+    let clear = clear_everywhere m P c.loop-p.least (processes_in m P c.requires.flat c.in_ok-tables.ensures.processes_are) inv.at_most inv.start (λ q l. inv.passed q (omega (arith, l, c.loop-p-test.false))) in
     record {
       at_most = inv.at_most;
       holds = λ less. ⊎_elim (λ same. absurd (omega (arith, same, less))) (λ h. h.1) inv.found;

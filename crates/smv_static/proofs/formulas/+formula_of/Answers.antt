@@ -1,6 +1,6 @@
 use Rattle.std.proofs.Common.{◌≡◌, true, sym, ◌∙◌, ap}
 use Rattle.kripke_model.specs.declared.expressions.Expr.{Expr}
-use Rattle.kripke_model.specs.Ctl.{Ctl, formula_of}
+use Rattle.kripke_model.specs.Ctl.{formula_of}
 use Rattle.kripke_model.specs.Reading.{term_of}
 use Rattle.kripke_model.specs.Static.{is_formula, is_connective}
 use Rattle.kripke_model.specs.Term.{Term}

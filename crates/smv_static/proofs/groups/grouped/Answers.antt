@@ -1,9 +1,8 @@
-use Rattle.std.proofs.Common.{◌≡◌, ℕ, ◌+◌, ◌<◌, List, [], ◌∷◌, ◌++◌, ⊎_elim, length, get_or, set, refl, sym, ◌∙◌, ap, subst, arith, below_more}
+use Rattle.std.proofs.Common.{◌≡◌, ℕ, ◌<◌, List, [], ◌∷◌, ◌++◌, ⊎_elim, length, get_or, set, refl, sym, ◌∙◌, ap, subst, arith, below_more}
 use Rattle.std.specs.Prelude.{Contains}
 use Rattle.std.proofs.lemmas.List.{get_or_default}
-use Rattle.kripke_model.specs.declared.models.Part.{Part}
 use Rattle.kripke_model.specs.System.{Assignment}
-use Rattle.smv_static.specs.Groups.{group_by, group_of}
+use Rattle.smv_static.specs.Groups.{group_of}
 use Rattle.smv_static.specs.Numbers.{row}
 use Rattle.smv_static.proofs.NumberLemmas.{only_member}
 use Rattle.smv_static.proofs.RowLemmas.{appended_cases, appended_old, appended_new}

@@ -1,4 +1,4 @@
-use Rattle.std.proofs.Common.{◌≡◌, ℕ, List, sym, ◌∙◌, ap}
+use Rattle.std.proofs.Common.{List, sym, ◌∙◌, ap}
 use Rattle.kripke_model.specs.declared.expressions.Expr.{Expr}
 use Rattle.kripke_model.specs.declared.expressions.Arm.{Arm}
 use Rattle.kripke_model.specs.Reading.{term_of, terms_in, arms_in}

@@ -1,4 +1,4 @@
-use Rattle.std.proofs.Common.{◌≡◌, arith, List, sym, ◌∙◌, ap, subst, OnOk, IfErr, Ok, Err, inl, inr, Result}
+use Rattle.std.proofs.Common.{◌≡◌, List, sym, subst, inl, inr}
 use Rattle.std.proofs.lemmas.Result.{err_from_is_err_and}
 use Rattle.kripke_model.specs.declared.refusals.StaticRefusal.{StaticRefusal}
 use Rattle.kripke_model.specs.System.{Assignment, Condition}

@@ -1,4 +1,4 @@
-use Rattle.std.proofs.Common.{◌≡◌, ℕ, arith, List, sym, ◌∙◌, ap, subst, length, get_or}
+use Rattle.std.proofs.Common.{arith, List, ◌∙◌, ap, subst}
 use Rattle.kripke_model.specs.declared.refusals.StaticRefusal.{StaticRefusal}
 use Rattle.kripke_model.specs.System.{Assignment}
 use Rattle.kripke_model.specs.Refusing.{refuse, Rule}
