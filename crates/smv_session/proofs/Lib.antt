@@ -8,3 +8,5 @@ pub mod ModelAnswers
 pub mod Decided
 pub mod OneAnswer
 pub mod SourceLemmas
+pub mod SmallLemmas
+pub mod RefusedLemmas

@@ -4,10 +4,18 @@ use Rattle.std.proofs.lemmas.Bool.{cases_lt}
 use Rattle.smv_lexer.specs.Text.{Placed, Lexes, IsBadByteAt, IsTooLargeAt, most_bytes}
 use Rattle.smv_parser.specs.Program.{Program, program_depth}
 use Rattle.smv_parser.specs.Programs.{DerivesProgram, IsSyntaxPlace, IsTooDeepPlace, greatest_depth}
+use Rattle.kripke_model.specs.Refusing.{Silent}
+use Rattle.kripke_model.specs.Small.{IsSmall}
+use Rattle.kripke_model.specs.Static.{Breaks}
 use Rattle.kripke_model.specs.System.{System}
-use Rattle.first_form.specs.FirstForm.{IsFirstForm}
-use Rattle.smv_session.specs.Source.{line_at, token_line, HasTokens, HasProgram, IsAccepted}
-use Rattle.smv_session.specs.Refusals.{Refusal, Refuses, TooLong, BadByte, NumberTooLarge, NoProgram, TooDeep, NotBuilt}
+use Rattle.kripke_model.specs.declared.refusals.StaticRefusal.{StaticRefusal}
+use Rattle.smv_instances.specs.Abstract as plain
+use Rattle.smv_instances.specs.Program as flat_program
+use Rattle.smv_instances.specs.declared.refusals.FlatRefusal.{FlatRefusal}
+use Rattle.smv_instantiate.specs.Flattens.{Flattens}
+use Rattle.smv_instantiate.specs.Refuses as flattening
+use Rattle.smv_session.specs.Source.{line_at, token_line, HasTokens, HasProgram, HasFlat, HasRuled, IsAccepted}
+use Rattle.smv_session.specs.Refusals.{Refusal, Refuses, TooLong, BadByte, NumberTooLarge, NoProgram, TooDeep, NotFlat, BreaksRule, NotBuilt}
 
 -- what the layers say of their answers
 pub record Laws : Type 0 where
@@ -22,14 +30,19 @@ pub record Laws : Type 0 where
   pub syntax_place : (at other : ℕ) (ts : List Placed) → IsSyntaxPlace ts at → IsSyntaxPlace ts other → at ≡ other
   pub deep : (at other : ℕ) (ts : List Placed) → IsTooDeepPlace ts at → IsTooDeepPlace ts other → at ≡ other
   pub syntax_or_deep : (at other : ℕ) (ts : List Placed) → IsSyntaxPlace ts at → IsTooDeepPlace ts other → ⊥
-  pub one_form : (bytes : List ℕ) (m n : System) → IsFirstForm bytes m → IsFirstForm bytes n → m ≡ n
+  pub one_tree : (ts : List Placed) (p q : Program) → DerivesProgram ts p → DerivesProgram ts q → p ≡ q
+  pub one_flat : (p : flat_program.Program) (m n : System) → Flattens p m → Flattens p n → m ≡ n
+  pub one_flat_refusal : (p : flat_program.Program) (r q : FlatRefusal) → flattening.Refuses p r → flattening.Refuses p q → r ≡ q
+  pub one_static_refusal : (m : System) (r q : StaticRefusal) → Breaks m r → Breaks m q → r ≡ q
 
 -- the text passes the first steps, so many of them
 abbrev Passes : List ℕ → ℕ → Type 0
 Passes bytes zero = length bytes ≤ most_bytes
 Passes bytes (suc zero) = (ts : List Placed) × HasTokens bytes ts
 Passes bytes (suc (suc zero)) = (p : Program) × HasProgram bytes p
-Passes bytes (suc (suc (suc k))) = (m : System) × IsAccepted bytes m
+Passes bytes (suc (suc (suc zero))) = (m : System) × HasFlat bytes m
+Passes bytes (suc (suc (suc (suc zero)))) = (m : System) × HasRuled bytes m
+Passes bytes (suc (suc (suc (suc (suc k))))) = (m : System) × IsAccepted bytes m
 
 -- the step at which it is refused
 abbrev stage : Refusal → ℕ
@@ -38,14 +51,18 @@ stage (BadByte l) = 1
 stage (NumberTooLarge l) = 1
 stage (NoProgram l) = 2
 stage (TooDeep l) = 2
-stage NotBuilt = 3
+stage (NotFlat r) = 3
+stage (BreaksRule r) = 4
+stage NotBuilt = 5
 
 module _ (bytes : List ℕ) where
   down : (k : ℕ) → Passes bytes (suc k) → Passes bytes k
   down zero h = h.1.few
   down (suc zero) h = (h.1.tokens, h.1.has)
   down (suc (suc zero)) h = (h.1.program, h.1.has)
-  down (suc (suc (suc k))) h = h
+  down (suc (suc (suc zero))) h = (h.0, h.1.flat)
+  down (suc (suc (suc (suc zero)))) h = (h.0, h.1.ruled)
+  down (suc (suc (suc (suc (suc k))))) h = h
 
   passes_down : (n k : ℕ) → k ≤ n → Passes bytes n → Passes bytes k
   passes_down zero k below h = let e : zero ≡ k = omega (arith, below) in subst (Passes bytes) e h
@@ -60,14 +77,25 @@ module _ (bytes : List ℕ) where
   passed (NumberTooLarge l) k below h = passes_down 0 k (omega (arith, below)) h.0
   passed (NoProgram l) k below h = passes_down 1 k (omega (arith, below)) (h.0, h.2)
   passed (TooDeep l) k below h = passes_down 1 k (omega (arith, below)) (h.0, h.2)
-  passed NotBuilt k below h = passes_down 2 k (omega (arith, below)) (h.0, h.1)
+  passed (NotFlat r) k below h = passes_down 2 k (omega (arith, below)) (h.0, h.1)
+  passed (BreaksRule r) k below h = passes_down 3 k (omega (arith, below)) (h.0, h.1)
+  passed NotBuilt k below h = passes_down 4 k (omega (arith, below)) (h.0, h.1)
 
 module _ (laws : Laws) (bytes : List ℕ) where
   one_tokens : (ts us : List Placed) → HasTokens bytes ts → HasTokens bytes us → ts ≡ us
   one_tokens ts us h k = laws.list bytes ts us h.lexed k.lexed
 
+  one_program : (p q : Program) → HasProgram bytes p → HasProgram bytes q → p ≡ q
+  one_program p q h k = laws.one_tree k.tokens p q (subst (λ ts. DerivesProgram ts p) (one_tokens h.tokens k.tokens h.has k.has) h.derived) k.derived
+
+  one_flat : (m n : System) → HasFlat bytes m → HasFlat bytes n → m ≡ n
+  one_flat m n h k = laws.one_flat (plain.program k.program) m n (subst (λ p. Flattens (plain.program p) m) (one_program h.program k.program h.has k.has) h.flattens) k.flattens
+
+  one_ruled : (m n : System) → HasRuled bytes m → HasRuled bytes n → m ≡ n
+  one_ruled m n h k = one_flat m n h.flat k.flat
+
   pub one_model : (m n : System) → IsAccepted bytes m → IsAccepted bytes n → m ≡ n
-  one_model m n h k = laws.one_form bytes m n h.form k.form
+  one_model m n h k = one_ruled m n h.ruled k.ruled
 
   -- what is refused at a step doesn't pass it
   stopped : (r : Refusal) → Refuses bytes r → Passes bytes (stage r) → ⊥
@@ -78,17 +106,21 @@ module _ (laws : Laws) (bytes : List ℕ) where
       laws.syntax_or_tree h.1 has.1.tokens has.0 (subst (λ ts. IsSyntaxPlace ts h.1) (one_tokens h.0 has.1.tokens h.2 has.1.has) h.3) has.1.derived
   stopped (TooDeep l) h has =
       laws.deep_or_tree h.1 has.1.tokens has.0 (subst (λ ts. IsTooDeepPlace ts h.1) (one_tokens h.0 has.1.tokens h.2 has.1.has) h.3) has.1.derived has.1.within
-  stopped NotBuilt h has = h.2 has.0 has.1.form
+  stopped (NotFlat r) h has = has.1.kept r (subst (λ p. flattening.Refuses (plain.program p) r) (one_program h.0 has.1.program h.1 has.1.has) h.2)
+  stopped (BreaksRule r) h has = has.1.rules r (subst (λ m. Breaks m r) (one_flat h.0 has.0 h.1 has.1.flat) h.2)
+  stopped NotBuilt h has = h.2 (subst IsSmall (one_ruled has.0 h.0 has.1.ruled h.1) has.1.small)
 
   pub model_or_refusal : (m : System) (r : Refusal) → IsAccepted bytes m → Refuses bytes r → ⊥
-  model_or_refusal m r accepted h = stopped r h (passes_down bytes 3 (stage r) (at_most r) (m, accepted))
+  model_or_refusal m r accepted h = stopped r h (passes_down bytes 5 (stage r) (at_most r) (m, accepted))
     where
-      at_most : (r : Refusal) → stage r ≤ 3
+      at_most : (r : Refusal) → stage r ≤ 5
       at_most TooLong = omega arith
       at_most (BadByte l) = omega arith
       at_most (NumberTooLarge l) = omega arith
       at_most (NoProgram l) = omega arith
       at_most (TooDeep l) = omega arith
+      at_most (NotFlat r) = omega arith
+      at_most (BreaksRule r) = omega arith
       at_most NotBuilt = omega arith
 
   same_stage : (r q : Refusal) → Refuses bytes r → Refuses bytes q → stage r ≡ stage q
@@ -120,6 +152,9 @@ module _ (laws : Laws) (bytes : List ℕ) where
   one_at_stage (TooDeep l) (TooDeep j) e h k =
       let same = one_tokens h.0 k.0 h.2 k.2 in
       ap TooDeep (one_line h.0 k.0 h.1 k.1 l j same (laws.deep h.1 k.1 k.0 (subst (λ ts. IsTooDeepPlace ts h.1) same h.3) k.3) h.4 k.4)
+  one_at_stage (NotFlat r) (NotFlat q) e h k =
+      ap NotFlat (laws.one_flat_refusal (plain.program k.0) r q (subst (λ p. flattening.Refuses (plain.program p) r) (one_program h.0 k.0 h.1 k.1) h.2) k.2)
+  one_at_stage (BreaksRule r) (BreaksRule q) e h k = ap BreaksRule (laws.one_static_refusal k.0 r q (subst (λ m. Breaks m r) (one_flat h.0 k.0 h.1 k.1) h.2) k.2)
   one_at_stage NotBuilt NotBuilt e h k = refl
   one_at_stage r q e h k = absurd (omega (arith, e))
 

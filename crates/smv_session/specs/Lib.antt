@@ -4,8 +4,10 @@ pub mod Code
 pub mod Words
 pub mod Texts
 pub mod Source
+pub mod Reasons
 pub mod Refusals
 pub mod Told
+pub mod Small
 pub mod Report
 pub mod Found
 pub mod Verdicts

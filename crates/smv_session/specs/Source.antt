@@ -1,9 +1,14 @@
--- What a model's text is: its tokens and its program, each where no refusal stands in the way; and the texts that are accepted.
+-- What a model's text is: its tokens, its program and its flat model, each where no refusal stands in the way; and the texts that are accepted.
 use Rattle.std.specs.Prelude.{ℕ, ◌+◌, ◌≤◌, List, [], ◌∷◌, length, take, drop}
 use Rattle.smv_lexer.specs.Text.{Placed, Lexes, line_feeds, most_bytes}
 use Rattle.smv_parser.specs.Program.{Program, program_depth}
 use Rattle.smv_parser.specs.Programs.{DerivesProgram, greatest_depth}
-use Rattle.first_form.specs.FirstForm.{IsFirstForm}
+use Rattle.smv_instances.specs.Abstract as plain
+use Rattle.smv_instantiate.specs.Flattens.{Flattens}
+use Rattle.smv_instantiate.specs.Refuses as flattening
+use Rattle.kripke_model.specs.Refusing.{Silent}
+use Rattle.kripke_model.specs.Small.{IsSmall}
+use Rattle.kripke_model.specs.Static.{KeepsRules}
 use Rattle.kripke_model.specs.System.{System}
 
 -- ---- lines
@@ -35,8 +40,19 @@ pub record HasProgram (bytes : List ℕ) (p : Program) : Type 0 where
   pub derived : DerivesProgram tokens p
   pub within : program_depth p ≤ greatest_depth
 
--- The text is accepted, and m is its model. So far it must be of the first form.
-pub record IsAccepted (bytes : List ℕ) (m : System) : Type 0 where
+-- its program is not refused, and m is the program's flat model
+pub record HasFlat (bytes : List ℕ) (m : System) : Type 0 where
   pub program : Program
   pub has : HasProgram bytes program
-  pub form : IsFirstForm bytes m
+  pub kept : Silent (flattening.Refuses (plain.program program))
+  pub flattens : Flattens (plain.program program) m
+
+-- its flat model m breaks no static rule
+pub record HasRuled (bytes : List ℕ) (m : System) : Type 0 where
+  pub flat : HasFlat bytes m
+  pub rules : KeepsRules m
+
+-- The text is accepted, and m is its model. So far the model must be small.
+pub record IsAccepted (bytes : List ℕ) (m : System) : Type 0 where
+  pub ruled : HasRuled bytes m
+  pub small : IsSmall m

@@ -5,8 +5,6 @@ ghost use Rattle.kripke_model.specs.System.{System};
 ghost use Rattle.smv_session.specs.Refusals.{Refusal, Refuses};
 ghost use Rattle.smv_session.specs.Source.{IsAccepted};
 
-use first_form::one_model;
-
 /// A text has one model at most, or is refused for one reason.
 pub fn one_answer()
     ensures model { (bytes : List ℕ) (m n : System) → IsAccepted bytes m → IsAccepted bytes n → m ≡ n }
@@ -15,5 +13,6 @@ pub fn one_answer()
 {
     smv_lexer::laws::one_answer();
     smv_parser::laws::one_answer();
-    one_model();
+    smv_instantiate::one_answer();
+    smv_static::laws::one_refusal();
 }

@@ -1,11 +1,14 @@
 // Why a model's text is refused, and the line that tells it.
 ghost use Rattle.std.specs.Prelude.{◌≡◌, ◌++◌, IfOk, IsSomeAnd, OnOk};
-ghost use Rattle.smv_session.specs.Refusals.{on_line, reason};
+ghost use Rattle.smv_session.specs.Refusals.{reason};
 ghost use Rattle.smv_session.specs.Told.{TellsRefusal, told};
 
 use crate::Status;
 use crate::answer::Answer;
+use crate::reasons::{push_flat_reason, push_on_line, push_static_reason};
 use crate::text::Text;
+use kripke_model::refusals::StaticRefusal;
+use smv_instances::FlatRefusal;
 use std::alloc::{AllocError, Global};
 
 /// Why a model's text is refused, or that memory ran out.
@@ -18,7 +21,11 @@ pub(crate) enum Refusal {
     NoProgram { line: u32 },
     /// No program within the depth does.
     TooDeep { line: u32 },
-    /// It is a program, but not of the first form.
+    /// Its program has no flat model.
+    NotFlat(FlatRefusal),
+    /// Its flat model breaks a static rule.
+    BreaksRule(StaticRefusal),
+    /// Its model is not small.
     NotBuilt,
     Memory,
 }
@@ -46,16 +53,9 @@ fn push_reason(text: &mut Text, refusal: &Refusal) -> Result<(), AllocError>
         Refusal::NumberTooLarge { line } => push_on_line(text, b"E2", *line),
         Refusal::NoProgram { line } => push_on_line(text, b"E4", *line),
         Refusal::TooDeep { line } => push_on_line(text, b"E5", *line),
+        Refusal::NotFlat(refusal) => push_flat_reason(text, *refusal),
+        Refusal::BreaksRule(refusal) => push_static_reason(text, *refusal),
         Refusal::NotBuilt => text.push(b"E0"),
         Refusal::Memory => Err(AllocError),
     }
-}
-
-// The number of a refusal, and the line that it tells.
-fn push_on_line(text: &mut Text, number: &[u8], line: u32) -> Result<(), AllocError>
-    ensures { OnOk result (text.new ≡ text.old ++ on_line number.now line) }
-{
-    text.push(number)?;
-    text.push(b" line ")?;
-    text.push_number(line)
 }

@@ -1,18 +1,21 @@
 // From a model's text to its model.
-ghost use Rattle.std.specs.Prelude.{◌≡◌, ◌≤◌, IfErr, IfOk, length};
+ghost use Rattle.std.specs.Prelude.{◌≡◌, ◌≤◌, IfErr, IfOk, List, length, ℕ};
+ghost use Rattle.kripke_model.specs.Flat.{IsFlat};
 ghost use Rattle.kripke_model.specs.Small.{IsSmall};
 ghost use Rattle.smv_lexer.specs.Text as bytes_and_tokens;
 ghost use Rattle.smv_lexer.specs.Text.{most_bytes};
 ghost use Rattle.smv_lexer.specs.View.{views};
 ghost use Rattle.smv_parser.specs.ProgramView as programs;
-ghost use Rattle.smv_session.specs.Source.{HasProgram, HasTokens, IsAccepted, line_at as line_at_byte, token_line as line_of_token};
+ghost use Rattle.smv_session.specs.Source.{HasFlat, HasProgram, HasRuled, HasTokens, IsAccepted, line_at as line_at_byte, token_line as line_of_token};
 ghost use Rattle.smv_session.specs.Told.{Applies};
 
 use crate::refusal::Refusal;
-use first_form::{FirstRefusal, read_first};
-use kripke_model::models::Ruled;
+use crate::small::is_small;
+use kripke_model::models::{FlatModel, Ruled};
+use smv_instantiate::flatten;
 use smv_lexer::{LexRefusal, Token, lex};
 use smv_parser::{ParseRefusal, Program, parse};
+use smv_static::accept;
 use std::alloc::Global;
 
 fn line_feeds(bytes: &[u8]) -> usize
@@ -78,17 +81,44 @@ fn program_of(alloc: Global, text: &[u8], tokens: &[Token]) -> Result<Program, R
     }
 }
 
-/// The model of the text, which is of the first form.
+/// The flat model of a text with this program.
+fn flat_of(alloc: Global, program: &Program) -> Result<FlatModel, Refusal>
+    requires { (bytes : List ℕ) × HasProgram bytes (programs.program program.now) }
+    ensures flat { (bytes : List ℕ) → HasProgram bytes (programs.program program.now) → IfOk result (HasFlat bytes) }
+    ensures shape { IfOk result (λ m. IsFlat m) }
+    ensures refused { (bytes : List ℕ) → HasProgram bytes (programs.program program.now) → IfErr result (Applies bytes) }
+{
+    match flatten(alloc, program) {
+        Ok(flat) => Ok(flat),
+        Err(refusal) => Err(Refusal::NotFlat(refusal)),
+    }
+}
+
+/// The model of a text with this flat model.
+fn ruled_of(alloc: Global, flat: FlatModel) -> Result<Ruled, Refusal>
+    requires { IsFlat flat }
+    ensures ruled { (bytes : List ℕ) → HasFlat bytes flat → IfOk result (HasRuled bytes) }
+    ensures refused { (bytes : List ℕ) → HasFlat bytes flat → IfErr result (Applies bytes) }
+{
+    match accept(alloc, flat) {
+        Ok(model) => Ok(model),
+        Err(refusal) => Err(Refusal::BreaksRule(refusal)),
+    }
+}
+
+/// The model of the text, which is small.
 pub(crate) fn read_model(alloc: Global, text: &[u8]) -> Result<Ruled, Refusal>
     ensures accepted { IfOk result (IsAccepted text.now) }
     ensures small { IfOk result (λ m. IsSmall m) }
     ensures refused { IfErr result (Applies text.now) }
 {
     let tokens = tokens_of(alloc, text)?;
-    let _ = program_of(alloc, text, &tokens)?;
-    match read_first(alloc, text) {
-        Ok(model) => Ok(model),
-        Err(FirstRefusal::NotBuilt) => Err(Refusal::NotBuilt),
-        Err(FirstRefusal::Memory) => Err(Refusal::Memory),
+    let program = program_of(alloc, text, &tokens)?;
+    let flat = flat_of(alloc, &program)?;
+    let model = ruled_of(alloc, flat)?;
+    if is_small(&model) {
+        Ok(model)
+    } else {
+        Err(Refusal::NotBuilt)
     }
 }

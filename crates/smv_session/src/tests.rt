@@ -1,5 +1,5 @@
 use super::*;
-use first_form::read_first;
+use crate::source::read_model;
 use kripke_model::Name;
 use kripke_model::expressions::{Expr, Value};
 use kripke_model::states::State;
@@ -256,7 +256,7 @@ fn models_have_their_verdicts(rt: HostRuntime) -> Result<(), Fail> {
         Model {
             text: b"MODULE main VAR a : boolean; b : boolean; ASSIGN init(a) := b; init(b) := a; next(a) := a; next(b) := b; SPEC AG (a <-> b)\n",
             code: 3,
-            put: b"refused E0\n",
+            put: b"refused E19 line 1\n",
         },
         // Deep negation.
         Model {
@@ -298,12 +298,18 @@ fn models_have_their_verdicts(rt: HostRuntime) -> Result<(), Fail> {
             code: 0,
             put: b"spec 1 line 5 true\ntotal 1 true 1 false 0 unknown 0\n",
         },
-        // Forms that are not built.
+        // Operators need no parentheses of their own, but `AG` reaches no further than one operand.
         Model {
-            text: b"",
+            text: b"MODULE main VAR a : boolean; b : boolean; ASSIGN init(a) := 1; next(a) := a; SPEC AG a | b\n",
             code: 3,
             put: b"refused E0\n",
         },
+        Model {
+            text: b"MODULE main VAR a : boolean; b : boolean; c : boolean; ASSIGN init(a) := 1; next(a) := a; SPEC AG (a | b & c)\n",
+            code: 0,
+            put: b"spec 1 line 1 true\ntotal 1 true 1 false 0 unknown 0\n",
+        },
+        // Forms that are not built.
         Model {
             text: b"MODULE main\nVAR\n  a : boolean;\n  b : boolean;\nASSIGN\n  init(a) := 0;\n  init(b) := 1;\n  next(a) := b;\n  next(b) := a;\nSPEC AF a\n",
             code: 3,
@@ -312,7 +318,7 @@ fn models_have_their_verdicts(rt: HostRuntime) -> Result<(), Fail> {
         Model {
             text: b"MODULE main\nVAR\n  a : boolean;\n  b : boolean;\nASSIGN\n  init(a) := 0;\n  init(b) := 1;\n  next(a) := b;\n  next(b) := a;\nSPEC AG (a | c)\n",
             code: 3,
-            put: b"refused E0\n",
+            put: b"refused E8 line 10\n",
         },
     ];
     for model in &models {
@@ -339,7 +345,7 @@ fn state(alloc: Global, a: i32, b: i32) -> Result<State, AllocError> {
 #[test]
 fn preimages_are_what_steps_into_a_set(rt: HostRuntime) -> Result<(), Fail> {
     let alloc = rt.alloc();
-    let Ok(model) = read_first(alloc, SWAP) else {
+    let Ok(model) = read_model(alloc, SWAP) else {
         panic!(rt; "not read")
     };
     let before = pre(alloc, &model, &leaf(alloc, &Expr::Var(0))?)?;

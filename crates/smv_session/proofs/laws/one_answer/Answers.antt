@@ -10,12 +10,15 @@ returns c =
       bad = c.one_answer.ensures.bad;
       large = c.one_answer.ensures.large;
       bad_or_large = c.one_answer.ensures.bad_or_large;
+      one_tree = c.one_answer-2.ensures.tree;
       syntax_or_tree = c.one_answer-2.ensures.syntax_or_tree;
       deep_or_tree = c.one_answer-2.ensures.deep_or_tree;
       syntax_place = c.one_answer-2.ensures.syntax;
       deep = c.one_answer-2.ensures.deep;
       syntax_or_deep = c.one_answer-2.ensures.syntax_or_deep;
-      one_form = c.one_model.ensures;
+      one_flat = c.one_answer-3.ensures.flat;
+      one_flat_refusal = c.one_answer-3.ensures.refused;
+      one_static_refusal = c.one_refusal.ensures;
     } in
     record {
       model = one_model laws;
