@@ -1,5 +1,5 @@
 -- The rows of cells.
-use Rattle.std.proofs.Common.{◌≡◌, ◌≢◌, ℕ, ◌+◌, ◌<◌, Bool, true, false, ◌&&◌, ◌||◌, ◌==◌, List, [], ◌∷◌, ◌++◌, length, map, get_or, take, Ok, Err, refl, sym, subst, ap, ◌∙◌, append_assoc, append-nil}
+use Rattle.std.proofs.Common.{◌≡◌, ◌≢◌, ℕ, ◌+◌, ◌*◌, ◌^◌, ◌<◌, ◌≤◌, Bool, true, false, ◌&&◌, ◌||◌, ◌==◌, List, [], ◌∷◌, ◌++◌, length, map, get_or, take, Ok, Err, refl, sym, subst, ap, ◌∙◌, append_assoc, append-nil, length-append, arith}
 use Rattle.std.specs.Prelude.{All}
 use Rattle.std.specs.List.{list_any}
 use Rattle.std.proofs.lemmas.Bool.{or_parts, or_from}
@@ -167,3 +167,22 @@ pub faults_more : (cells : List Cell) (i : ℕ) (cell : Cell) → i < length cel
 faults_more cells i cell lt is =
     ap faults_in (take_more cells i cell lt) ∙ faults_append (take i cells) (get_or cells i cell ∷ [])
     ∙ ap (λ fs. faults_in (take i cells) ++ fs) (append-nil (faults_of (get_or cells i cell).reading (get_or cells i cell).region) ∙ ap (λ (c : Cell). faults_of c.reading c.region) (sym is))
+
+-- each cell makes one row
+pub as_many : (cells : List Cell) → length (rows_in cells) + length (faults_in cells) ≡ length cells
+as_many [] = omega arith
+as_many (c ∷ cells) = by c.reading (length-append (rows_of c.reading c.region) (rows_in cells)) (length-append (faults_of c.reading c.region) (faults_in cells)) (as_many cells)
+  where
+    by : (k : Checked Value) → length (rows_of k c.region ++ rows_in cells) ≡ length (rows_of k c.region) + length (rows_in cells) → length (faults_of k c.region ++ faults_in cells) ≡ length (faults_of k c.region) + length (faults_in cells)
+        → length (rows_in cells) + length (faults_in cells) ≡ length cells → length (rows_of k c.region ++ rows_in cells) + length (faults_of k c.region ++ faults_in cells) ≡ length (c ∷ cells)
+    by (Ok v) r f h = omega (arith, r, f, h)
+    by (Err kind) r f h = omega (arith, r, f, h)
+
+-- the rows and the fault rows together are at most as many as the cells
+pub rows_few : (cells : List Cell) (rows : List Row) (faults : List FaultRow) (n k l : ℕ) → rows ≡ rows_in cells → faults ≡ faults_in cells → l ≡ k → length cells ≤ n * 2 ^ l → length rows + length faults ≤ n * 2 ^ k
+rows_few cells rows faults n k l r f e h =
+    let a : length rows ≡ length (rows_in cells) = ap length r in
+    let b : length faults ≡ length (faults_in cells) = ap length f in
+    let m = as_many cells in
+    let w : n * 2 ^ l ≡ n * 2 ^ k = ap (λ i. n * 2 ^ i) e in
+    omega (arith, a, b, m, w, h)

@@ -88,6 +88,7 @@ pub fn table<L: Ledger>(
     requires layout { layout.now.types ≡ types_of model.now }
     requires levels { levels_of (store_of engine.old) ≡ 2 * bit_count layout.now.types }
     ensures regions { IfOk result (λ t. AreRegions (store_of engine.new) layout.now model.now (term_of expr.now) t.rows.items t.faults.items) }
+    ensures few { IfOk result (λ t. length t.rows.items + length t.faults.items ≤ node_count (term_of expr.now) * 2 ^ levels_of (store_of engine.old)) }
     ensures held { IfErr result (IsRefusalOf (store_of engine.new)) }
     ensures grows { Grows (store_of engine.old) (store_of engine.new) }
     // at each list of the levels' bits an expression of n nodes has at most n readings

@@ -1,10 +1,14 @@
-use Rattle.std.proofs.Common.{◌∙◌, List, ap}
+use Rattle.std.proofs.Common.{◌∙◌, List, Bool, true, false, ap}
 use Rattle.kripke_model.specs.Reading.{term_of}
 use Rattle.value_tables.specs.declared.cells.Cell.{Cell}
 use Rattle.value_tables.specs.Regions.{rows_in, faults_in}
 use Rattle.kripke_model.specs.Size.{node_count}
+use Rattle.kripke_model.specs.Evaluation.{eval}
+use Rattle.value_tables.specs.States.{state_shown, meaning_of}
+use Rattle.bdd_nodes.specs.Store.{levels_of}
 use Rattle.value_tables.proofs.GrowthLemmas.{growth}
-use Rattle.value_tables.proofs.RowLemmas.{regions_as, regions_are}
+use Rattle.value_tables.proofs.ReadingCounts.{table-few, eval_amount}
+use Rattle.value_tables.proofs.RowLemmas.{regions_as, regions_are, rows_few}
 use Rattle.value_tables.proofs.value_regions.table.Goals as goal
 
 pub returns-clause-regions : goal.returns-clause-regions
@@ -23,3 +27,13 @@ returns-in_err-table-clause-growth g c = growth c.args.engine.now.store c.build.
 
 pub returns-in_default-clause-growth : goal.returns-in_default-clause-growth
 returns-in_default-clause-growth g c = growth c.args.engine.now.store c.build.new.engine.store (node_count (term_of c.args.expr.now)) c.build.ensures.spends
+
+pub returns-clause-few : goal.returns-clause-few
+returns-clause-few g c =
+    let s = c.build.new.engine.store in
+    let lay = c.args.layout.now in
+    let m = c.args.model.now in
+    let e = term_of c.args.expr.now in
+    let cells : List Cell = c.in_ok-table.table.cells.items in
+    rows_few cells _ _ (node_count e) (levels_of c.args.engine.now.store) (levels_of s) (c.in-Ok.ensures.rows ∙ ap rows_in c.deref.ensures.value) (c.in-Ok.ensures.faults ∙ ap faults_in c.deref.ensures.value) c.build.ensures.keeps.grows.levels
+    (table-few s cells c.in_ok-table.table.single (meaning_of lay m false e) (node_count e) c.in_ok-table.ensures.table (λ bits. eval_amount m e (state_shown lay false bits) (state_shown lay true bits)))
