@@ -1,4 +1,0 @@
-pub mod Words
-pub mod Written
-pub mod FirstForm
-pub mod Reading
