@@ -6,8 +6,6 @@ mod domains;
 pub mod laws;
 pub mod layout;
 mod orders;
-#[cfg(test)]
-mod tests;
 
 /// The most bits that the states of a model may have.
 pub const MAX_STATE_BITS: u32 = 64;

@@ -12,6 +12,8 @@ mod name_tests;
 #[cfg(test)]
 mod parameter_tests;
 #[cfg(test)]
+mod path_tests;
+#[cfg(test)]
 mod process_tests;
 #[cfg(test)]
 mod reading;

@@ -23,6 +23,3 @@ pub use paths::Paths;
 pub use resolving::Targets;
 pub use tables::End;
 pub use targets::{Bracket, Target};
-
-#[cfg(test)]
-mod tests;

@@ -13,8 +13,6 @@ mod pick;
 mod regions;
 mod sets;
 mod spread;
-#[cfg(test)]
-mod tests;
 mod value_regions;
 mod variables;
 

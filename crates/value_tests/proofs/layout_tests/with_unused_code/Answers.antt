@@ -2,7 +2,7 @@ use Rattle.std.proofs.Common.{◌≡◌, rules, subst, sym}
 use Rattle.kripke_model.specs.Flat.{IsFlat}
 use Rattle.bit_encode.specs.Rows.{model_with, unused_model}
 use Rattle.bit_encode.proofs.RowLemmas.{flat_unused}
-use Rattle.value_tables.proofs.tests.with_unused_code.Goals as goal
+use Rattle.value_tests.proofs.layout_tests.with_unused_code.Goals as goal
 
 pub model_of-requires : goal.model_of-requires
 model_of-requires c =

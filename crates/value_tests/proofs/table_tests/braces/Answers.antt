@@ -4,7 +4,7 @@ use Rattle.kripke_model.specs.Evaluable.{IsEvaluable}
 use Rattle.kripke_model.specs.Reading.{terms_in}
 use Rattle.kripke_model.proofs.ReadingLemmas.{braces_term}
 use Rattle.bit_encode.specs.Rows.{mixed_model}
-use Rattle.value_tables.proofs.tests.braces.Goals as goal
+use Rattle.value_tests.proofs.table_tests.braces.Goals as goal
 
 pub returns : goal.returns
 returns c =

@@ -2,7 +2,7 @@ use Rattle.std.proofs.Common.{◌≡◌, rules, subst, sym}
 use Rattle.kripke_model.specs.Flat.{IsFlat}
 use Rattle.bit_encode.specs.Rows.{model_with, mixed_model}
 use Rattle.bit_encode.proofs.RowLemmas.{flat_mixed}
-use Rattle.bit_encode.proofs.tests.with_range.Goals as goal
+use Rattle.value_tests.proofs.table_tests.with_range.Goals as goal
 
 pub model_of-requires : goal.model_of-requires
 model_of-requires c =

@@ -3,7 +3,7 @@ use Rattle.kripke_model.specs.Flat.{IsFlat}
 use Rattle.bit_encode.specs.Rows.{model_with}
 use Rattle.value_tables.specs.Rows.{counter_model}
 use Rattle.value_tables.proofs.SampleLemmas.{flat_counter}
-use Rattle.value_tables.proofs.tests.two_bits.Goals as goal
+use Rattle.value_tests.proofs.table_tests.two_bits.Goals as goal
 
 pub model_of-requires : goal.model_of-requires
 model_of-requires c =

@@ -1,12 +1,12 @@
 //! What paths of `main` denote, worked out by hand. Instances are numbered in instantiation order.
 
-use crate::resolving::Targets;
-use crate::tables::{ends_of, numbers_of, sizes_of};
-use crate::targets::Target;
-use crate::uses::order_of_uses;
 use smv_instances::Instances;
 use smv_lexer::lex;
 use smv_parser::{Condition, Expr, ExprKind, Path, Program, SectionKind, parse};
+use smv_paths::resolving::Targets;
+use smv_paths::tables::{ends_of, numbers_of, sizes_of};
+use smv_paths::targets::Target;
+use smv_paths::uses::order_of_uses;
 use std::alloc::Global;
 use std::test::Fail;
 

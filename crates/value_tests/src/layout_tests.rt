@@ -12,8 +12,8 @@ ghost use Rattle.kripke_model.specs.Flat.{IsFlat};
 ghost use Rattle.bit_encode.specs.Code.{IsStateOf, types_of};
 ghost use Rattle.bit_encode.specs.Rows.{variable, model_with, unused_model, mixed_model};
 
-use crate::laws::{states_law, width_law};
-use crate::layout::{Layout, LayoutRefusal};
+use bit_encode::laws::{states_law, width_law};
+use bit_encode::layout::{Layout, LayoutRefusal};
 use kripke_model::Name;
 use kripke_model::expressions::Value;
 use kripke_model::models::{FlatModel, FlatVar, Ruled};
