@@ -1,21 +1,24 @@
 -- The promises of a call, from what was foreseen and what was put.
-use Rattle.std.proofs.Common.{◌≡◌, ◌≢◌, ◌∙◌, ◌<◌, ◌≤◌, ◌⊎◌, inl, inr, ℕ, List, take, length, Option, Some, None, IfSome, sym, ap, subst, arith, length-append}
+use Rattle.std.proofs.Common.{◌≡◌, ◌≢◌, ◌∙◌, ◌<◌, ◌≤◌, inl, inr, ℕ, List, take, length, Option, Some, None, IfSome, refl, sym, ap, subst, arith, length-append}
 use Rattle.std.proofs.lemmas.List.{take_all}
 use Rattle.std.specs.Io.KnownBytes.{Appends}
 use Rattle.smv_outside.specs.Contents.{Contents, bytes_under}
+use Rattle.smv_outside.specs.declared.faults.FileFaults.{FileFaults}
 use Rattle.smv_outside.specs.Faults.{Rises, last_count}
 use Rattle.smv_outside.specs.Written.{AppendsPrefix}
 use Rattle.smv_session.specs.declared.status.Status.{Status}
-use Rattle.smv_session.specs.declared.status.Status.TheVariants.{Clear, Failed, Memory}
+use Rattle.smv_session.specs.declared.status.Status.TheVariants.{ModelRefused, OutsideFault, Usage, Memory}
 use Rattle.smv_session.specs.Texts.{Fault, LoadFailed, LoadMissing, fault_line}
-use Rattle.smv_session.specs.Words.{Command, command_of}
+use Rattle.command_words.specs.Words.{Command, command_of}
 use Rattle.kripke_model.specs.System.{System}
-use Rattle.smv_session.specs.Report.{Finding, report}
+use Rattle.smv_session.specs.Report.{report}
+use Rattle.smv_session.specs.Source.{HasModel}
 use Rattle.smv_session.specs.Verdicts.{AreVerdicts, ShowStates}
-use Rattle.smv_session.specs.Answers.{Answers, Loads, status_of}
+use Rattle.smv_session.specs.Endings.{EndsWith}
+use Rattle.smv_session.specs.Answers.{Answers, Loads, IsModelAnswer, IsReported}
 use Rattle.smv_session.specs.Foreseen.{Foresees, Came}
-use Rattle.smv_session.specs.Session.{Session, FilesRose, FilesGrew, FilesWereAtLast, Puts, PutsPrefix, TellsText, AnswersUsage, RefusesModels, FaultHasCause, FaultLinesHaveCause, CutsOffAnswer, MemoryChangesNothing, IsUndisturbed, Checks, ReportsVerdicts, ShowsStates, ReportHasStatus}
-use Rattle.smv_session.proofs.Answered.{OneAnswer, no_fault, no_memory, usage_only, usage_always, refused_only, refused_always, no_line, reported, report_only}
+use Rattle.smv_session.specs.Session.{Session, FilesRose, FilesGrew, FilesWereAtLast, SinkRose, Puts, PutsPrefix, PutsFaultLine, TellsText, AnswersUsage, RefusesModels, FaultHasCause, FaultLinesHaveCause, CutsOffAnswer, MemoryChangesNothing, IsUndisturbed, Checks, MayCheck, PutsReport, ReportsVerdicts, ShowsStates, HasEvidence, ReportHasStatus}
+use Rattle.smv_session.proofs.Answered.{OneAnswer, no_fault, no_memory, usage_only, usage_always, refused_only, refused_always, faulty, never, no_line, answer_to, reported, report_only}
 use Rattle.smv_session.proofs.PutText.{told_text, same_line}
 
 -- the whole of a text is a prefix of it
@@ -85,6 +88,22 @@ module _ (s : Session) (text : List ℕ) (status : Status) (foreseen : Foresees 
     ];
   }
 
+  no_growth : s.file_faults_after ≡ s.file_faults → FilesGrew s → ⊥
+  no_growth same grew =
+      let failed = ap (λ (f : FileFaults). f.failed) same in
+      let missing = ap (λ (f : FileFaults). f.missing) same in
+      elim grew [
+        | inl less ↦ omega (arith, less, failed)
+        | inr less ↦ omega (arith, less, missing)
+      ]
+
+  -- where the sink failed, what was foreseen may have been a fault line
+  pub prefix_of_line : SinkRose s → PutsPrefix s text → PutsFaultLine s
+  prefix_of_line rose puts = λ grew is. elim foreseen [
+    | inl answer ↦ absurd (no_growth answer.quiet grew)
+    | inr told ↦ (told.fault, inr (rose, subst (PutsPrefix s) told.text_is puts))
+  ]
+
   -- where the text was put and the status answered
   module _ (puts : Puts s text) (is : s.status ≡ status) where
     pub usage : AnswersUsage s
@@ -101,54 +120,79 @@ module _ (s : Session) (text : List ℕ) (status : Status) (foreseen : Foresees 
       ];
     }
 
+    -- the answer to the text that is checked
+    answer_here : IsUndisturbed s → (bytes : List ℕ) (limit : ℕ) → Checks s bytes limit → IsModelAnswer bytes limit text status
+    answer_here undisturbed bytes limit checks = elim foreseen [
+      | inl answer ↦
+          let answers = subst (λ contents. Answers (command_of s.words) contents text status) checks.told answer.answer in
+          answer_to text status (command_of s.words) checks.files checks.name bytes limit answers checks.asked checks.there
+      | inr told ↦ absurd (undisturbed.files (rose told.fault told.name told.came))
+    ]
+
+    -- a report that was put
+    put_report : (bytes : List ℕ) (limit : ℕ) (m : System) (r : IsReported bytes limit text status) → r.model ≡ m → PutsReport s m limit
+    put_report bytes limit m r same = record {
+      findings = r.reports.findings;
+      puts = subst (λ n. Puts s (report n r.reports.findings)) same (subst (Puts s) r.reports.text_is puts);
+      verdicts = subst (λ n. AreVerdicts n limit r.reports.findings) same r.reports.verdicts;
+      states = subst (λ n. ShowStates n r.reports.findings) same r.reports.states;
+      ends = subst (λ n. EndsWith n limit r.reports.findings s.status) same (subst (EndsWith r.model limit r.reports.findings) (sym is) r.reports.ends);
+    }
+
     pub refused : OneAnswer → RefusesModels s
+    unfolding put_report
     refused one = record {
       only = λ refused. elim foreseen [
         | inl answer ↦
             let found = refused_only s.contents text status (command_of s.words) answer.answer (sym is ∙ refused) in
-            (found.0, found.1, found.2, found.3, found.4, found.5, subst (Puts s) found.6 puts)
+            (found.1, found.2, found.3, record { name = found.0; asked = found.4; there = found.5 }, found.6, subst (Puts s) found.7 puts)
         | inr told ↦ let other = told.status_is in cc
       ];
-      always = λ undisturbed files model bytes refusal tells asked there applies. elim foreseen [
-        | inl answer ↦
-            let answers = subst (λ contents. Answers (command_of s.words) contents text status) tells answer.answer in
-            let found = refused_always one text status (command_of s.words) files model bytes refusal answers asked there applies in
-            (is ∙ found.0, subst (Puts s) found.1 puts)
-        | inr told ↦ absurd (undisturbed.files (rose told.fault told.name told.came))
+      always = λ undisturbed bytes limit refusal checks applies other.
+          let found = refused_always one bytes limit text status (answer_here undisturbed bytes limit checks) refusal applies other in
+          (is ∙ found.0, subst (Puts s) found.1 puts);
+      faulty = λ undisturbed bytes limit m refusal checks has applies. elim (faulty one bytes limit text status (answer_here undisturbed bytes limit checks) m refusal has applies) [
+        | inl found ↦ inl (is ∙ found.0, subst (Puts s) found.1 puts)
+        | inr left ↦
+            let put = put_report bytes limit m left.2 left.3 in
+            inr (record { held = left.0; status = is ∙ left.1; findings = left.2.reports.findings; puts = put.puts; verdicts = put.verdicts; undecided = left.4 })
       ];
+      never = λ undisturbed bytes limit m checks accepted refused. never one bytes limit text status (answer_here undisturbed bytes limit checks) m accepted (sym is ∙ refused);
     }
 
     -- the report of a model that is checked
-    report_of : OneAnswer → IsUndisturbed s → (m : System) → Checks s m
-        → (fs : List Finding) × Puts s (report m fs) × AreVerdicts m fs × ShowStates m fs × (s.status ≡ status_of fs)
-    report_of one undisturbed m checks = elim foreseen [
-      | inl answer ↦
-          let answers = subst (λ contents. Answers (command_of s.words) contents text status) checks.told answer.answer in
-          let r = reported one text status (command_of s.words) checks.files checks.name checks.bytes m answers checks.asked checks.there checks.accepted in (
-            r.0.reports.findings,
-            subst (λ n. Puts s (report n r.0.reports.findings)) r.1 (subst (Puts s) r.0.reports.text_is puts),
-            subst (λ n. AreVerdicts n r.0.reports.findings) r.1 r.0.reports.verdicts,
-            subst (λ n. ShowStates n r.0.reports.findings) r.1 r.0.reports.states,
-            is ∙ r.0.reports.status_is,
-          )
-      | inr told ↦ absurd (undisturbed.files (rose told.fault told.name told.came))
-    ]
+    report_of : OneAnswer → IsUndisturbed s → (bytes : List ℕ) (limit : ℕ) (m : System) → Checks s bytes limit → HasModel bytes m → s.status ≢ ModelRefused → PutsReport s m limit
+    report_of one undisturbed bytes limit m checks has other =
+        let r = reported one bytes limit text status (answer_here undisturbed bytes limit checks) m has (λ refused. other (is ∙ refused)) in
+        put_report bytes limit m r.0 r.1
 
     pub verdicts : OneAnswer → ReportsVerdicts s
-    verdicts one = record { reports = λ undisturbed m checks. let r = report_of one undisturbed m checks in (r.0, r.1, r.2) }
+    verdicts one = record { reports = λ undisturbed bytes limit m checks has other. let r = report_of one undisturbed bytes limit m checks has other in (r.findings, r.puts, r.verdicts) }
 
     pub states : OneAnswer → ShowsStates s
-    states one = record { shows = λ undisturbed m checks. let r = report_of one undisturbed m checks in (r.0, r.1, r.2, r.3) }
+    states one = record { shows = λ undisturbed bytes limit m checks has other. let r = report_of one undisturbed bytes limit m checks has other in (r.findings, r.puts, r.verdicts, r.states) }
+
+    -- what is neither refused, nor usage, nor a fault of the outside is a report
+    report_here : status ≢ Usage → status ≢ ModelRefused → status ≢ OutsideFault
+        → (bytes : List ℕ) × (limit : ℕ) × (m : System) × MayCheck s bytes limit × HasModel bytes m × PutsReport s m limit
+    report_here used refused fault = elim foreseen [
+      | inl answer ↦
+          let r = report_only s.contents text status (command_of s.words) answer.answer used refused in
+          (r.1, r.2, r.5.model, record { name = r.0; asked = r.3; there = r.4 }, r.5.has, put_report r.1 r.2 r.5.model r.5 refl)
+      | inr told ↦ absurd (fault told.status_is)
+    ]
+
+    pub evidence : HasEvidence s
+    evidence = record {
+      unknown = λ held at. let here = sym is ∙ at in report_here (λ o. let e = sym here ∙ o in cc) (λ o. let e = sym here ∙ o in cc) (λ o. let e = sym here ∙ o in cc);
+    }
 
     pub report_status : OneAnswer → ReportHasStatus s
     report_status one = record {
-      reports = λ undisturbed m checks. let r = report_of one undisturbed m checks in (r.0, r.1, r.2, r.4);
-      only = λ ends. elim foreseen [
-        | inl answer ↦
-            let r = report_only s.contents text status (command_of s.words) answer.answer (subst (λ t. (t ≡ Clear) ⊎ (t ≡ Failed)) is ends) in
-            let found = r.4 in
-            (found.model, found.reports.findings, subst (Puts s) found.reports.text_is puts, found.reports.verdicts, is ∙ found.reports.status_is, r.0, r.1, r.2, r.3, found.accepted)
-        | inr told ↦ elim ends [ inl e ↦ let other = told.status_is in cc | inr e ↦ let other = told.status_is in cc ]
+      reports = report_of one;
+      only = λ ends. elim ends [
+        | inl at ↦ let here = sym is ∙ at in report_here (λ o. let e = sym here ∙ o in cc) (λ o. let e = sym here ∙ o in cc) (λ o. let e = sym here ∙ o in cc)
+        | inr at ↦ let here = sym is ∙ at in report_here (λ o. let e = sym here ∙ o in cc) (λ o. let e = sym here ∙ o in cc) (λ o. let e = sym here ∙ o in cc)
       ];
     }
 

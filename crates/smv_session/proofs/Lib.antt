@@ -3,10 +3,13 @@ pub mod Answered
 pub mod PutText
 pub mod Kept
 pub mod ReportLemmas
-pub mod Statuses
 pub mod ModelAnswers
-pub mod Decided
+pub mod LeastFailing
+pub mod BitCounts
+pub mod Orders
+pub mod FoundLemmas
+pub mod NotBuilt
+pub mod FaultLemmas
 pub mod OneAnswer
 pub mod SourceLemmas
-pub mod SmallLemmas
 pub mod RefusedLemmas

@@ -1,21 +1,23 @@
 -- A text has one model at most, or is refused for one reason.
-use Rattle.std.proofs.Common.{◌≡◌, ◌<◌, ◌≤◌, inl, inr, ℕ, zero, suc, List, length, refl, sym, ◌∙◌, ap, subst, arith}
+use Rattle.std.proofs.Common.{◌≡◌, ◌<◌, ◌≤◌, inl, inr, ℕ, zero, suc, true, List, Option, length, refl, sym, ◌∙◌, ap, subst, arith}
 use Rattle.std.proofs.lemmas.Bool.{cases_lt}
 use Rattle.smv_lexer.specs.Text.{Placed, Lexes, IsBadByteAt, IsTooLargeAt, most_bytes}
 use Rattle.smv_parser.specs.Program.{Program, program_depth}
 use Rattle.smv_parser.specs.Programs.{DerivesProgram, IsSyntaxPlace, IsTooDeepPlace, greatest_depth}
-use Rattle.kripke_model.specs.Refusing.{Silent}
-use Rattle.kripke_model.specs.Small.{IsSmall}
+use Rattle.kripke_model.specs.Faults.{IsFaultless}
 use Rattle.kripke_model.specs.Static.{Breaks}
-use Rattle.kripke_model.specs.System.{System}
+use Rattle.kripke_model.specs.System.{System, State}
+use Rattle.kripke_model.specs.declared.expressions.FaultKind.{FaultKind}
 use Rattle.kripke_model.specs.declared.refusals.StaticRefusal.{StaticRefusal}
 use Rattle.smv_instances.specs.Abstract as plain
 use Rattle.smv_instances.specs.Program as flat_program
 use Rattle.smv_instances.specs.declared.refusals.FlatRefusal.{FlatRefusal}
 use Rattle.smv_instantiate.specs.Flattens.{Flattens}
 use Rattle.smv_instantiate.specs.Refuses as flattening
-use Rattle.smv_session.specs.Source.{line_at, token_line, HasTokens, HasProgram, HasFlat, HasRuled, IsAccepted}
-use Rattle.smv_session.specs.Refusals.{Refusal, Refuses, TooLong, BadByte, NumberTooLarge, NoProgram, TooDeep, NotFlat, BreaksRule, NotBuilt}
+use Rattle.trans_parts.specs.FirstFault.{IsFirstFault}
+use Rattle.smv_session.specs.Source.{line_at, token_line, HasTokens, HasProgram, HasFlat, HasRuled, HasModel, IsAccepted, state_bits}
+use Rattle.smv_session.specs.Refusals.{Refusal, Refuses, TooLong, BadByte, NumberTooLarge, NoProgram, TooDeep, NotFlat, BreaksRule, TooManyBits, Faults, is_fault}
+use Rattle.smv_session.proofs.FaultLemmas.{one_fault, faultless_or_fault}
 
 -- what the layers say of their answers
 pub record Laws : Type 0 where
@@ -42,7 +44,8 @@ Passes bytes (suc zero) = (ts : List Placed) × HasTokens bytes ts
 Passes bytes (suc (suc zero)) = (p : Program) × HasProgram bytes p
 Passes bytes (suc (suc (suc zero))) = (m : System) × HasFlat bytes m
 Passes bytes (suc (suc (suc (suc zero)))) = (m : System) × HasRuled bytes m
-Passes bytes (suc (suc (suc (suc (suc k))))) = (m : System) × IsAccepted bytes m
+Passes bytes (suc (suc (suc (suc (suc zero))))) = (m : System) × HasModel bytes m
+Passes bytes (suc (suc (suc (suc (suc (suc k)))))) = (m : System) × IsAccepted bytes m
 
 -- the step at which it is refused
 abbrev stage : Refusal → ℕ
@@ -53,7 +56,8 @@ stage (NoProgram l) = 2
 stage (TooDeep l) = 2
 stage (NotFlat r) = 3
 stage (BreaksRule r) = 4
-stage NotBuilt = 5
+stage (TooManyBits bits) = 5
+stage (Faults m kind l here after) = 6
 
 module _ (bytes : List ℕ) where
   down : (k : ℕ) → Passes bytes (suc k) → Passes bytes k
@@ -62,7 +66,8 @@ module _ (bytes : List ℕ) where
   down (suc (suc zero)) h = (h.1.program, h.1.has)
   down (suc (suc (suc zero))) h = (h.0, h.1.flat)
   down (suc (suc (suc (suc zero)))) h = (h.0, h.1.ruled)
-  down (suc (suc (suc (suc (suc k))))) h = h
+  down (suc (suc (suc (suc (suc zero))))) h = (h.0, h.1.has)
+  down (suc (suc (suc (suc (suc (suc k)))))) h = h
 
   passes_down : (n k : ℕ) → k ≤ n → Passes bytes n → Passes bytes k
   passes_down zero k below h = let e : zero ≡ k = omega (arith, below) in subst (Passes bytes) e h
@@ -79,7 +84,8 @@ module _ (bytes : List ℕ) where
   passed (TooDeep l) k below h = passes_down 1 k (omega (arith, below)) (h.0, h.2)
   passed (NotFlat r) k below h = passes_down 2 k (omega (arith, below)) (h.0, h.1)
   passed (BreaksRule r) k below h = passes_down 3 k (omega (arith, below)) (h.0, h.1)
-  passed NotBuilt k below h = passes_down 4 k (omega (arith, below)) (h.0, h.1)
+  passed (TooManyBits bits) k below h = passes_down 4 k (omega (arith, below)) (h.0, h.1)
+  passed (Faults m kind l here after) k below h = passes_down 5 k (omega (arith, below)) (m, h.0)
 
 module _ (laws : Laws) (bytes : List ℕ) where
   one_tokens : (ts us : List Placed) → HasTokens bytes ts → HasTokens bytes us → ts ≡ us
@@ -94,7 +100,7 @@ module _ (laws : Laws) (bytes : List ℕ) where
   one_ruled : (m n : System) → HasRuled bytes m → HasRuled bytes n → m ≡ n
   one_ruled m n h k = one_flat m n h.flat k.flat
 
-  pub one_model : (m n : System) → IsAccepted bytes m → IsAccepted bytes n → m ≡ n
+  pub one_model : (m n : System) → HasModel bytes m → HasModel bytes n → m ≡ n
   one_model m n h k = one_ruled m n h.ruled k.ruled
 
   -- what is refused at a step doesn't pass it
@@ -108,12 +114,14 @@ module _ (laws : Laws) (bytes : List ℕ) where
       laws.deep_or_tree h.1 has.1.tokens has.0 (subst (λ ts. IsTooDeepPlace ts h.1) (one_tokens h.0 has.1.tokens h.2 has.1.has) h.3) has.1.derived has.1.within
   stopped (NotFlat r) h has = has.1.kept r (subst (λ p. flattening.Refuses (plain.program p) r) (one_program h.0 has.1.program h.1 has.1.has) h.2)
   stopped (BreaksRule r) h has = has.1.rules r (subst (λ m. Breaks m r) (one_flat h.0 has.0 h.1 has.1.flat) h.2)
-  stopped NotBuilt h has = h.2 (subst IsSmall (one_ruled has.0 h.0 has.1.ruled h.1) has.1.small)
+  stopped (TooManyBits bits) h has = let few = subst (λ m. state_bits m ≤ 64) (one_ruled has.0 h.0 has.1.ruled h.1) has.1.few in omega (arith, few, h.2)
+  stopped (Faults m kind l here after) h has = faultless_or_fault m kind l here after h.1 (subst IsFaultless (one_model has.0 m has.1.has h.0) has.1.faultless)
 
-  pub model_or_refusal : (m : System) (r : Refusal) → IsAccepted bytes m → Refuses bytes r → ⊥
-  model_or_refusal m r accepted h = stopped r h (passes_down bytes 5 (stage r) (at_most r) (m, accepted))
+  -- what is accepted is not refused
+  pub accepted_or_refusal : (m : System) (r : Refusal) → IsAccepted bytes m → Refuses bytes r → ⊥
+  accepted_or_refusal m r accepted h = stopped r h (passes_down bytes 6 (stage r) (at_most r) (m, accepted))
     where
-      at_most : (r : Refusal) → stage r ≤ 5
+      at_most : (r : Refusal) → stage r ≤ 6
       at_most TooLong = omega arith
       at_most (BadByte l) = omega arith
       at_most (NumberTooLarge l) = omega arith
@@ -121,7 +129,23 @@ module _ (laws : Laws) (bytes : List ℕ) where
       at_most (TooDeep l) = omega arith
       at_most (NotFlat r) = omega arith
       at_most (BreaksRule r) = omega arith
-      at_most NotBuilt = omega arith
+      at_most (TooManyBits bits) = omega arith
+      at_most (Faults m kind l here after) = omega arith
+
+  -- what has a model is refused for a fault alone
+  pub model_or_refusal : (m : System) (r : Refusal) → HasModel bytes m → Refuses bytes r → is_fault r ≡ true
+  model_or_refusal m r has h = by_fault r h (λ at_most. stopped r h (passes_down bytes 5 (stage r) at_most (m, has)))
+    where
+      by_fault : (r : Refusal) → Refuses bytes r → (stage r ≤ 5 → ⊥) → is_fault r ≡ true
+      by_fault (Faults m kind l here after) h stops = refl
+      by_fault TooLong h stops = absurd (stops (omega arith))
+      by_fault (BadByte l) h stops = absurd (stops (omega arith))
+      by_fault (NumberTooLarge l) h stops = absurd (stops (omega arith))
+      by_fault (NoProgram l) h stops = absurd (stops (omega arith))
+      by_fault (TooDeep l) h stops = absurd (stops (omega arith))
+      by_fault (NotFlat r) h stops = absurd (stops (omega arith))
+      by_fault (BreaksRule r) h stops = absurd (stops (omega arith))
+      by_fault (TooManyBits bits) h stops = absurd (stops (omega arith))
 
   same_stage : (r q : Refusal) → Refuses bytes r → Refuses bytes q → stage r ≡ stage q
   same_stage r q h k = elim (cases_lt (stage r) (stage q)) [
@@ -135,6 +159,13 @@ module _ (laws : Laws) (bytes : List ℕ) where
   one_line : (ts us : List Placed) (at other l k : ℕ) → ts ≡ us → at ≡ other → l ≡ token_line bytes ts at → k ≡ token_line bytes us other → l ≡ k
   one_line ts us at other l k same place h j =
       h ∙ ap (λ (xs : List Placed). token_line bytes xs at) same ∙ ap (λ (i : ℕ). token_line bytes us i) place ∙ sym j
+
+  same_fault : (m n : System) (kind other : FaultKind) (l j : ℕ) (here there : State) (after next : Option State) → m ≡ n → IsFirstFault m kind l here after → IsFirstFault n other j there next
+      → Faults m kind l here after ≡ Faults n other j there next
+  same_fault m n kind other l j here there after next same h k =
+      let f = one_fault m kind other l j here there after next h (subst (λ x. IsFirstFault x other j there next) (sym same) k) in
+      ap (λ x. Faults x kind l here after) same ∙ ap (λ x. Faults n x l here after) f.0 ∙ ap (λ x. Faults n other x here after) f.1
+      ∙ ap (λ x. Faults n other j x after) f.2 ∙ ap (λ x. Faults n other j there x) f.3
 
   one_at_stage : (r q : Refusal) → stage r ≡ stage q → Refuses bytes r → Refuses bytes q → r ≡ q
   one_at_stage TooLong TooLong e h k = refl
@@ -155,7 +186,8 @@ module _ (laws : Laws) (bytes : List ℕ) where
   one_at_stage (NotFlat r) (NotFlat q) e h k =
       ap NotFlat (laws.one_flat_refusal (plain.program k.0) r q (subst (λ p. flattening.Refuses (plain.program p) r) (one_program h.0 k.0 h.1 k.1) h.2) k.2)
   one_at_stage (BreaksRule r) (BreaksRule q) e h k = ap BreaksRule (laws.one_static_refusal k.0 r q (subst (λ m. Breaks m r) (one_flat h.0 k.0 h.1 k.1) h.2) k.2)
-  one_at_stage NotBuilt NotBuilt e h k = refl
+  one_at_stage (TooManyBits bits) (TooManyBits other) e h k = ap TooManyBits (h.3 ∙ ap state_bits (one_ruled h.0 k.0 h.1 k.1) ∙ sym k.3)
+  one_at_stage (Faults m kind l here after) (Faults n other j there next) e h k = same_fault m n kind other l j here there after next (one_model m n h.0 k.0) h.1 k.1
   one_at_stage r q e h k = absurd (omega (arith, e))
 
   pub one_refusal : (r q : Refusal) → Refuses bytes r → Refuses bytes q → r ≡ q

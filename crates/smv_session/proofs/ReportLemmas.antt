@@ -1,29 +1,20 @@
 -- The last line of a report.
-use Rattle.std.proofs.Common.{◌≡◌, ◌∙◌, ℕ, List, [], ◌∷◌, ◌++◌, map, length, refl, ap, sym, count_by, append_assoc, codes, decimal}
+use Rattle.std.proofs.Common.{◌≡◌, ◌∙◌, ℕ, List, [], ◌∷◌, ◌++◌, map, length, ap, sym, count_by, append_assoc, codes, decimal}
 use Rattle.std.proofs.lemmas.List.{length-map}
 use Rattle.smv_session.specs.Report.{is_true, is_false, is_unknown, total_line}
 use Rattle.smv_session.specs.Texts.{line}
 use Rattle.smv_session.specs.Found.{finding_of}
 use Rattle.smv_session.specs.declared.outcome.Outcome.{Outcome}
-use Rattle.smv_session.specs.declared.outcome.Outcome.TheVariants.{True, False}
-
--- each specification is decided
-none_unknown : (os : List Outcome) → count_by is_unknown (map finding_of os) ≡ 0
-none_unknown [] = refl
-none_unknown (True ∷ os) = none_unknown os
-none_unknown (False s ∷ os) = none_unknown os
 
 -- four words, each with a number, and the line feed
 joined : (t a b c d e f g h : List ℕ) → (((t ++ a ++ b) ++ c ++ d) ++ e ++ f) ++ g ++ h ++ 10 ∷ [] ≡ t ++ line (a ++ b ++ c ++ d ++ e ++ f ++ g ++ h)
 joined t a b c d e f g h = simp append_assoc
 
-counted : (os : List Outcome) (t : List ℕ) (n : ℕ) → n ≡ count_by is_unknown (map finding_of os)
+counted : (os : List Outcome) (t : List ℕ)
     → (((t ++ codes "total " ++ decimal (length os)) ++ codes " true " ++ decimal (count_by is_true (map finding_of os))) ++ codes " false " ++ decimal (count_by is_false (map finding_of os)))
-    ++ codes " unknown " ++ decimal n ++ 10 ∷ [] ≡ t ++ total_line (map finding_of os)
-counted os t n e =
-    ap (λ (k : ℕ). (((t ++ codes "total " ++ decimal (length os)) ++ codes " true " ++ decimal (count_by is_true (map finding_of os))) ++ codes " false " ++ decimal (count_by is_false (map finding_of os)))
-    ++ codes " unknown " ++ decimal k ++ 10 ∷ []) e
-    ∙ joined t (codes "total ") (decimal (length os)) (codes " true ") (decimal (count_by is_true (map finding_of os))) (codes " false ") (decimal (count_by is_false (map finding_of os)))
+    ++ codes " unknown " ++ decimal (count_by is_unknown (map finding_of os)) ++ 10 ∷ [] ≡ t ++ total_line (map finding_of os)
+counted os t =
+    joined t (codes "total ") (decimal (length os)) (codes " true ") (decimal (count_by is_true (map finding_of os))) (codes " false ") (decimal (count_by is_false (map finding_of os)))
     (codes " unknown ") (decimal (count_by is_unknown (map finding_of os)))
     ∙ ap (λ (k : ℕ). t ++ line (codes "total " ++ decimal k ++ codes " true " ++ decimal (count_by is_true (map finding_of os))
     ++ codes " false " ++ decimal (count_by is_false (map finding_of os)) ++ codes " unknown " ++ decimal (count_by is_unknown (map finding_of os)))) (sym (length-map os finding_of))
@@ -32,11 +23,11 @@ pub total : (os : List Outcome) (t t1 t2 t3 t4 t5 : List ℕ)
     → t1 ≡ t ++ codes "total " ++ decimal (length os)
     → t2 ≡ t1 ++ codes " true " ++ decimal (count_by is_true (map finding_of os))
     → t3 ≡ t2 ++ codes " false " ++ decimal (count_by is_false (map finding_of os))
-    → t4 ≡ t3 ++ codes " unknown " ++ decimal 0
+    → t4 ≡ t3 ++ codes " unknown " ++ decimal (count_by is_unknown (map finding_of os))
     → t5 ≡ t4 ++ 10 ∷ []
     → t5 ≡ t ++ total_line (map finding_of os)
 total os t t1 t2 t3 t4 t5 p q r s e =
-    e ∙ ap (λ (x : List ℕ). x ++ 10 ∷ []) (s ∙ ap (λ (x : List ℕ). x ++ codes " unknown " ++ decimal 0) (r
+    e ∙ ap (λ (x : List ℕ). x ++ 10 ∷ []) (s ∙ ap (λ (x : List ℕ). x ++ codes " unknown " ++ decimal (count_by is_unknown (map finding_of os))) (r
     ∙ ap (λ (x : List ℕ). x ++ codes " false " ++ decimal (count_by is_false (map finding_of os))) (q
     ∙ ap (λ (x : List ℕ). x ++ codes " true " ++ decimal (count_by is_true (map finding_of os))) p)))
-    ∙ counted os t 0 (sym (none_unknown os))
+    ∙ counted os t

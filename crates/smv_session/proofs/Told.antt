@@ -10,7 +10,7 @@ use Rattle.smv_outside.specs.Faults.{CountsLoad}
 use Rattle.smv_session.specs.declared.status.Status.{Status}
 use Rattle.smv_session.specs.Texts.{LoadFailed, LoadMissing}
 use Rattle.smv_session.specs.Refusals as refusals
-use Rattle.smv_session.specs.Words.{Check}
+use Rattle.command_words.specs.Words.{Check}
 use Rattle.smv_session.specs.Foreseen.{IsToldAs, Foresees}
 
 abbrev most_model_bytes : ℕ
@@ -30,17 +30,17 @@ too_long model None taken more there = (replicate taken 0, omega (arith, length-
 too_long model (Some files) taken more there = there_is (bytes_under files model) taken more there
 
 -- a load that failed is told
-pub told_fault : (model : List ℕ) (contents : Option Contents) (before after : FileFaults) (text : List ℕ) (status : Status) (fault : LoadFault)
+pub told_fault : (model : List ℕ) (limit : ℕ) (contents : Option Contents) (before after : FileFaults) (text : List ℕ) (status : Status) (fault : LoadFault)
     → CountsLoad {T = Vec ℕ} before after (Err fault)
     → ((taken : ℕ) → fault ≡ TooLong taken → most_model_bytes < taken)
     → ((taken : ℕ) → fault ≡ TooLong taken → IfSome contents (λ files. IsSomeAnd (bytes_under files model) (λ bytes. taken ≤ length bytes)))
     → (fault ≡ NotThere → IfSome contents (λ files. bytes_under files model ≡ None))
-    → IsToldAs fault text status → Foresees (Check model) contents before after text status
-told_fault model contents before after text status Failed counts more there lacks told =
+    → IsToldAs fault text status → Foresees (Check model limit) contents before after text status
+told_fault model limit contents before after text status Failed counts more there lacks told =
     inr (record { fault = LoadFailed; name = model; loads = refl; came = counts; text_is = told.0; status_is = told.1 })
-told_fault model contents before after text status NotThere counts more there lacks told =
+told_fault model limit contents before after text status NotThere counts more there lacks told =
     inr (record { fault = LoadMissing; name = model; loads = refl; came = (counts.0, counts.1, lacks refl); text_is = told.0; status_is = told.1 })
-told_fault model contents before after text status (TooLong taken) counts more there lacks told =
+told_fault model limit contents before after text status (TooLong taken) counts more there lacks told =
     let found = too_long model contents taken (more taken refl) (there taken refl) in
     inl (record {
       quiet = counts;
@@ -50,4 +50,4 @@ told_fault model contents before after text status (TooLong taken) counts more t
         inl (record { refusal = refusals.TooLong; applies = found.1; text_is = told.0; status_is = told.1 }),
       );
     })
-told_fault model contents before after text status Memory counts more there lacks told = absurd told
+told_fault model limit contents before after text status Memory counts more there lacks told = absurd told

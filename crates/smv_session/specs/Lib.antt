@@ -1,15 +1,13 @@
 pub mod Foreseen
-pub mod Asked
 pub mod Code
-pub mod Words
 pub mod Texts
 pub mod Source
 pub mod Reasons
 pub mod Refusals
 pub mod Told
-pub mod Small
 pub mod Report
 pub mod Found
 pub mod Verdicts
+pub mod Endings
 pub mod Answers
 pub mod Session

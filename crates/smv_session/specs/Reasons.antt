@@ -1,8 +1,11 @@
 -- The numbers of refusals, and what stands behind them.
-use Rattle.std.specs.Prelude.{ℕ, List, [], ◌++◌, codes, decimal}
+use Rattle.std.specs.Prelude.{ℕ, List, [], ◌++◌, Option, Some, None, codes, decimal}
 use Rattle.smv_instances.specs.declared.refusals.FlatRefusal.{FlatRefusal}
 use Rattle.smv_instances.specs.declared.refusals.Which.{Which}
+use Rattle.kripke_model.specs.declared.expressions.FaultKind.{FaultKind}
 use Rattle.kripke_model.specs.declared.refusals.StaticRefusal.{StaticRefusal}
+use Rattle.kripke_model.specs.System.{System, State, Variable, value_in}
+use Rattle.smv_session.specs.Report.{numbered, value_text}
 
 -- a number of a refusal, and the line that it tells
 abbrev pub on_line : List ℕ → ℕ → List ℕ
@@ -42,3 +45,33 @@ static_reason (StaticRefusal.CircularAssignment l) = on_line (codes "E19") l
 static_reason (StaticRefusal.NextNotAllowed l) = on_line (codes "E20") l
 static_reason (StaticRefusal.FormulaNotAllowed l) = on_line (codes "E21") l
 static_reason StaticRefusal.Memory = []
+
+-- how many bits a state has
+abbrev pub bits_reason : ℕ → List ℕ
+bits_reason bits = codes "E22 bits " ++ decimal bits
+
+-- ---- faults
+
+abbrev pub kind_word : FaultKind → List ℕ
+kind_word FaultKind.ManyValues = codes "ManyValues"
+kind_word FaultKind.NotNumber = codes "NotNumber"
+kind_word FaultKind.NotBoolean = codes "NotBoolean"
+kind_word FaultKind.ZeroDivisor = codes "ZeroDivisor"
+kind_word FaultKind.Overflow = codes "Overflow"
+kind_word FaultKind.OutOfType = codes "OutOfType"
+
+-- a value of variable x between these bytes
+abbrev pub given_text : List ℕ → List ℕ → System → State → ℕ → Variable → List ℕ
+given_text front behind m s x v = front ++ v.name ++ behind ++ value_text m x (value_in s x)
+
+abbrev pub here_text : System → State → List ℕ
+here_text m s = numbered (given_text (codes " ") (codes "=") m s) 0 m.vars
+
+-- the values of a next state, if one is told
+abbrev pub after_text : System → Option State → List ℕ
+after_text m None = []
+after_text m (Some t) = numbered (given_text (codes " next(") (codes ")=") m t) 0 m.vars
+
+-- the fault of an item, its line, and the values at which it comes
+abbrev pub fault_reason : System → FaultKind → ℕ → State → Option State → List ℕ
+fault_reason m kind l here after = on_line (codes "E23") l ++ codes " " ++ kind_word kind ++ here_text m here ++ after_text m after

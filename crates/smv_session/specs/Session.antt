@@ -1,22 +1,25 @@
 -- One call of the program: what it was given, what it left, and what is promised of these.
-use Rattle.std.specs.Prelude.{◌≡◌, ◌≢◌, ◌⊎◌, ◌<◌, ℕ, List, [], ◌++◌, map, Option, Some, None, IfSome, string_bytes, String}
+use Rattle.std.specs.Prelude.{◌≡◌, ◌≢◌, ◌⊎◌, ◌<◌, ℕ, false, List, [], ◌++◌, map, Option, Some, None, IfSome, string_bytes, String}
+use Rattle.std.specs.Global.{Vec}
 use Rattle.std.specs.declared.alloc.Global.{Global}
 use Rattle.std.specs.Io.KnownBytes.{Appends}
 use Rattle.smv_outside.specs.declared.faults.FileFaults.{FileFaults}
 use Rattle.smv_outside.specs.Contents.{Contents, bytes_under}
 use Rattle.smv_outside.specs.Faults.{Rose, last_count}
 use Rattle.smv_outside.specs.Written.{AppendsPrefix}
-use Rattle.smv_session.specs.Words as words
-use Rattle.smv_session.specs.Words.{Command, Check, command_of}
+use Rattle.bdd_nodes.specs.declared.refusal.Held.{Held}
+use Rattle.command_words.specs.Words as words
+use Rattle.command_words.specs.Words.{Command, Check, command_of}
 use Rattle.smv_session.specs.Texts.{usage_text, Fault, LoadFailed, LoadMissing, fault_line}
 use Rattle.kripke_model.specs.System.{System}
 use Rattle.smv_session.specs.Report.{Finding, report}
 use Rattle.smv_session.specs.Verdicts.{AreVerdicts, ShowStates}
-use Rattle.smv_session.specs.Source.{IsAccepted}
-use Rattle.smv_session.specs.Refusals.{Refusal, Refuses, refusal_line}
-use Rattle.smv_session.specs.Answers.{Answers, Loads, status_of}
+use Rattle.smv_session.specs.Endings.{EndsWith, IsModelUndecided}
+use Rattle.smv_session.specs.Source.{HasModel, IsAccepted}
+use Rattle.smv_session.specs.Refusals.{Refusal, Refuses, is_fault, refusal_line}
+use Rattle.smv_session.specs.Answers.{Answers, Loads}
 use Rattle.smv_session.specs.declared.status.Status.{Status}
-use Rattle.smv_session.specs.declared.status.Status.TheVariants.{Clear, Failed, ModelRefused, OutsideFault, Usage, Memory}
+use Rattle.smv_session.specs.declared.status.Status.TheVariants.{Clear, Failed, Undecided, ModelRefused, OutsideFault, Usage, Memory}
 
 pub record Session : Type 0 where
   pub words : List (List ℕ)
@@ -99,36 +102,68 @@ pub record AnswersUsage (s : Session) : Type 0 where
   pub only : s.status ≡ Usage → (command_of s.words ≡ words.Usage) × Puts s usage_text
   pub always : IsUndisturbed s → command_of s.words ≡ words.Usage → s.status ≡ Usage
 
--- A model to which a refusal applies is answered by its line, and no other is.
-pub record RefusesModels (s : Session) : Type 0 where
-  pub only : s.status ≡ ModelRefused → (model bytes : List ℕ) × (refusal : Refusal) × (command_of s.words ≡ Check model)
-      × IfSome s.contents (λ files. bytes_under files model ≡ Some bytes) × Refuses bytes refusal × Puts s (refusal_line refusal)
-  pub always : IsUndisturbed s → (files : Contents) (model bytes : List ℕ) (refusal : Refusal) → s.contents ≡ Some files → command_of s.words ≡ Check model
-      → bytes_under files model ≡ Some bytes → Refuses bytes refusal → (s.status ≡ ModelRefused) × Puts s (refusal_line refusal)
-
--- The call checks a model that is accepted, and its contents are told.
-pub record Checks (s : Session) (m : System) : Type 0 where
+-- The call checks a text within a node limit, and its contents are told.
+pub record Checks (s : Session) (bytes : List ℕ) (limit : ℕ) : Type 0 where
   pub files : Contents
   pub told : s.contents ≡ Some files
   pub name : List ℕ
-  pub asked : command_of s.words ≡ Check name
-  pub bytes : List ℕ
+  pub asked : command_of s.words ≡ Check name limit
   pub there : bytes_under files name ≡ Some bytes
-  pub accepted : IsAccepted bytes m
 
--- An accepted model is answered by the report of one outcome for each specification: true comes only where
--- the specification holds at every initial state, and false only where it doesn't.
+-- The same where the contents may not be told: then some bytes are meant.
+pub record MayCheck (s : Session) (bytes : List ℕ) (limit : ℕ) : Type 0 where
+  pub name : List ℕ
+  pub asked : command_of s.words ≡ Check name limit
+  pub there : IfSome s.contents (λ files. bytes_under files name ≡ Some bytes)
+
+-- The report of the model says of each specification that it is unknown, and one full store is the evidence.
+pub record LeavesUndecided (s : Session) (m : System) (limit : ℕ) : Type 0 where
+  pub held : Vec Held
+  pub status : s.status ≡ Undecided held
+  pub findings : List Finding
+  pub puts : Puts s (report m findings)
+  pub verdicts : AreVerdicts m limit findings
+  pub undecided : IsModelUndecided findings held.items
+
+-- A refusal is told only where it applies. One that is read off the text is told wherever it applies. A fault of an item is
+-- told too, unless the node limit leaves the model undecided. An accepted model is not refused.
+pub record RefusesModels (s : Session) : Type 0 where
+  pub only : s.status ≡ ModelRefused → (bytes : List ℕ) × (limit : ℕ) × (refusal : Refusal) × MayCheck s bytes limit × Refuses bytes refusal × Puts s (refusal_line refusal)
+  pub always : IsUndisturbed s → (bytes : List ℕ) (limit : ℕ) (refusal : Refusal) → Checks s bytes limit → Refuses bytes refusal → is_fault refusal ≡ false
+      → (s.status ≡ ModelRefused) × Puts s (refusal_line refusal)
+  pub faulty : IsUndisturbed s → (bytes : List ℕ) (limit : ℕ) (m : System) (refusal : Refusal) → Checks s bytes limit → HasModel bytes m → Refuses bytes refusal
+      → ((s.status ≡ ModelRefused) × Puts s (refusal_line refusal)) ⊎ LeavesUndecided s m limit
+  pub never : IsUndisturbed s → (bytes : List ℕ) (limit : ℕ) (m : System) → Checks s bytes limit → IsAccepted bytes m → s.status ≢ ModelRefused
+
+-- The report of one outcome for each specification is put.
+pub record PutsReport (s : Session) (m : System) (limit : ℕ) : Type 0 where
+  pub findings : List Finding
+  pub puts : Puts s (report m findings)
+  pub verdicts : AreVerdicts m limit findings
+  pub states : ShowStates m findings
+  pub ends : EndsWith m limit findings s.status
+
+-- A model of which no fault is told is answered by the report of one outcome for each specification: true comes only
+-- where the model is accepted and the specification holds at every initial state, and false only where the model is accepted and it doesn't.
 pub record ReportsVerdicts (s : Session) : Type 0 where
-  pub reports : IsUndisturbed s → (m : System) → Checks s m → (findings : List Finding) × Puts s (report m findings) × AreVerdicts m findings
+  pub reports : IsUndisturbed s → (bytes : List ℕ) (limit : ℕ) (m : System) → Checks s bytes limit → HasModel bytes m → s.status ≢ ModelRefused
+      → (findings : List Finding) × Puts s (report m findings) × AreVerdicts m limit findings
 
 -- With a false verdict state 0 is the least initial state at which the specification is false.
 pub record ShowsStates (s : Session) : Type 0 where
-  pub shows : IsUndisturbed s → (m : System) → Checks s m → (findings : List Finding) × Puts s (report m findings) × AreVerdicts m findings × ShowStates m findings
+  pub shows : IsUndisturbed s → (bytes : List ℕ) (limit : ℕ) (m : System) → Checks s bytes limit → HasModel bytes m → s.status ≢ ModelRefused
+      → (findings : List Finding) × Puts s (report m findings) × AreVerdicts m limit findings × ShowStates m findings
+
+-- Something is unknown only with the full stores that show it: one for each unknown specification, or one for an undecided model.
+-- Each has a level for each bit of the current and of the next state, and the limit that was asked for.
+pub record HasEvidence (s : Session) : Type 0 where
+  pub unknown : (held : Vec Held) → s.status ≡ Undecided held
+      → (bytes : List ℕ) × (limit : ℕ) × (m : System) × MayCheck s bytes limit × HasModel bytes m × PutsReport s m limit
 
 -- the contents that each command leaves
 abbrev pub Leaves : Command → Option Contents → Option Contents → Type 0
 Leaves words.Usage before after = after ≡ before
-Leaves (Check model) before after = after ≡ before
+Leaves (Check model limit) before after = after ≡ before
 
 abbrev pub KeepsContents : Session → Type 0
 KeepsContents s = Leaves (command_of s.words) s.contents s.contents_after
@@ -164,6 +199,6 @@ pub record MemoryChangesNothing (s : Session) : Type 0 where
 
 -- A report has the greatest status that applies, and no other answer has one of these.
 pub record ReportHasStatus (s : Session) : Type 0 where
-  pub reports : IsUndisturbed s → (m : System) → Checks s m → (findings : List Finding) × Puts s (report m findings) × AreVerdicts m findings × (s.status ≡ status_of findings)
-  pub only : (s.status ≡ Clear) ⊎ (s.status ≡ Failed) → (m : System) × (findings : List Finding) × Puts s (report m findings) × AreVerdicts m findings × (s.status ≡ status_of findings)
-      × (name bytes : List ℕ) × (command_of s.words ≡ Check name) × IfSome s.contents (λ files. bytes_under files name ≡ Some bytes) × IsAccepted bytes m
+  pub reports : IsUndisturbed s → (bytes : List ℕ) (limit : ℕ) (m : System) → Checks s bytes limit → HasModel bytes m → s.status ≢ ModelRefused → PutsReport s m limit
+  pub only : (s.status ≡ Clear) ⊎ (s.status ≡ Failed)
+      → (bytes : List ℕ) × (limit : ℕ) × (m : System) × MayCheck s bytes limit × HasModel bytes m × PutsReport s m limit

@@ -6,10 +6,11 @@ use Rattle.smv_parser.specs.Programs.{DerivesProgram, greatest_depth}
 use Rattle.smv_instances.specs.Abstract as plain
 use Rattle.smv_instantiate.specs.Flattens.{Flattens}
 use Rattle.smv_instantiate.specs.Refuses as flattening
+use Rattle.kripke_model.specs.Faults.{IsFaultless}
 use Rattle.kripke_model.specs.Refusing.{Silent}
-use Rattle.kripke_model.specs.Small.{IsSmall}
 use Rattle.kripke_model.specs.Static.{KeepsRules}
 use Rattle.kripke_model.specs.System.{System}
+use Rattle.bit_encode.specs.Code.{types_of, bit_count}
 
 -- ---- lines
 
@@ -52,7 +53,19 @@ pub record HasRuled (bytes : List ℕ) (m : System) : Type 0 where
   pub flat : HasFlat bytes m
   pub rules : KeepsRules m
 
--- The text is accepted, and m is its model. So far the model must be small.
-pub record IsAccepted (bytes : List ℕ) (m : System) : Type 0 where
+-- how many bits a state of the model has
+abbrev pub state_bits : System → ℕ
+state_bits m = bit_count (types_of m)
+
+abbrev pub most_state_bits : ℕ
+most_state_bits = 64
+
+-- the states of its flat model m have few enough bits: nothing that can be read off the text stands in the way
+pub record HasModel (bytes : List ℕ) (m : System) : Type 0 where
   pub ruled : HasRuled bytes m
-  pub small : IsSmall m
+  pub few : state_bits m ≤ most_state_bits
+
+-- The text is accepted, and m is its model: no item of m faults at any pair of states, reachable or not.
+pub record IsAccepted (bytes : List ℕ) (m : System) : Type 0 where
+  pub has : HasModel bytes m
+  pub faultless : IsFaultless m

@@ -5,7 +5,7 @@ use Rattle.smv_session.specs.Refusals.{Refuses, refusal_line}
 use Rattle.smv_session.specs.declared.status.Status.{Status}
 use Rattle.smv_session.specs.declared.status.Status.TheVariants.{ModelRefused}
 use Rattle.smv_session.specs.declared.refusal.Refusal.{Refusal}
-use Rattle.smv_session.specs.declared.refusal.Refusal.TheVariants.{TooLong, BadByte, NumberTooLarge, NoProgram, TooDeep, NotFlat, BreaksRule, NotBuilt, Memory}
+use Rattle.smv_session.specs.declared.refusal.Refusal.TheVariants.{TooLong, BadByte, NumberTooLarge, NoProgram, TooDeep, NotFlat, BreaksRule, TooManyBits, Memory}
 use Rattle.smv_instances.specs.declared.refusals.FlatRefusal.{FlatRefusal}
 use Rattle.kripke_model.specs.declared.refusals.StaticRefusal.{StaticRefusal}
 
@@ -26,7 +26,7 @@ told (NoProgram l) = Some (refusals.NoProgram l)
 told (TooDeep l) = Some (refusals.TooDeep l)
 told (NotFlat r) = told_flat r
 told (BreaksRule r) = told_static r
-told NotBuilt = Some refusals.NotBuilt
+told (TooManyBits bits) = Some (refusals.TooManyBits bits)
 told Memory = None
 
 -- it applies to the text, or memory ran out

@@ -1,28 +1,33 @@
 -- What is found of each specification: its truth, and what is shown where it is false.
-use Rattle.std.specs.Prelude.{◌≡◌, List, [], ◌∷◌, Some, None}
+use Rattle.std.specs.Prelude.{◌≡◌, ℕ, List, [], ◌∷◌, Option, Some, None}
 use Rattle.kripke_model.specs.Ctl.{Ctl, formula_of}
+use Rattle.kripke_model.specs.Faults.{IsFaultless}
 use Rattle.kripke_model.specs.System.{System, State, Condition}
 use Rattle.kripke_model.specs.Step.{IsState, Initial}
 use Rattle.kripke_model.specs.Truth.{Sat, Initials}
 use Rattle.kripke_model.specs.Order.{IsLeast}
 use Rattle.smv_session.specs.Report.{Outcome, True, False, Unknown, Finding}
 
--- the verdict is the truth of the specification
-abbrev pub IsVerdict : System → Ctl → Outcome → Type 0
-IsVerdict m f True = Initials m f
-IsVerdict m f (False s path) = Initials m f → ⊥
--- no node limit is met
-IsVerdict m f (Unknown limit) = ⊥
+-- the verdict is the truth of the specification of a model without faults; where there is none the node limit is told
+abbrev pub IsVerdict : System → ℕ → Ctl → Outcome → Type 0
+IsVerdict m limit f True = IsFaultless m × Initials m f
+IsVerdict m limit f (False s path) = IsFaultless m × (Initials m f → ⊥)
+IsVerdict m limit f (Unknown met) = met ≡ limit
 
 -- an initial state of the model at which the formula is false
 abbrev pub Fails : System → Ctl → State → Type 0
 Fails m f s = IsState m s × Initial m s × (Sat m f s → ⊥)
 
+-- the least initial state at which the formula is false, or none where it is true at all of them
+abbrev pub IsLeastFailing : System → Ctl → Option State → Type 0
+IsLeastFailing m f None = Initials m f
+IsLeastFailing m f (Some s) = IsLeast m (Fails m f) (Some s)
+
 -- with a false verdict the least failing initial state is shown, and no path
 abbrev pub ShowsState : System → Ctl → Outcome → Type 0
 ShowsState m f True = Unit {0}
-ShowsState m f (False s path) = IsLeast m (Fails m f) (Some s) × (path ≡ None)
-ShowsState m f (Unknown limit) = Unit {0}
+ShowsState m f (False s path) = IsLeastFailing m f (Some s) × (path ≡ None)
+ShowsState m f (Unknown met) = Unit {0}
 
 -- one finding for each specification, in order, each as R says
 abbrev pub EachFinding : (Ctl → Finding → Type 0) → List Condition → List Finding → Type 0
@@ -30,8 +35,8 @@ EachFinding R [] [] = Unit {0}
 EachFinding R (c ∷ cs) (f ∷ fs) = R (formula_of c.expr) f × EachFinding R cs fs
 EachFinding R cs fs = ⊥
 
-abbrev pub AreVerdicts : System → List Finding → Type 0
-AreVerdicts m fs = EachFinding (λ f finding. IsVerdict m f finding.outcome) m.specs fs
+abbrev pub AreVerdicts : System → ℕ → List Finding → Type 0
+AreVerdicts m limit fs = EachFinding (λ f finding. IsVerdict m limit f finding.outcome) m.specs fs
 
 abbrev pub ShowStates : System → List Finding → Type 0
 ShowStates m fs = EachFinding (λ f finding. ShowsState m f finding.outcome) m.specs fs

@@ -2,23 +2,19 @@
 #![tactic(auto)]
 
 mod answer;
-mod command;
 mod decision;
+mod failing;
+mod findings;
+mod item_fault;
 pub mod laws;
 mod outcome;
 mod reasons;
 mod refusal;
 mod report;
 mod session;
-mod small;
 mod source;
 mod status;
 mod text;
 
 pub use session::run;
 pub use status::Status;
-
-#[cfg(test)]
-mod refusal_tests;
-#[cfg(test)]
-mod tests;

@@ -1,11 +1,8 @@
 // What is found of a specification.
-ghost use Rattle.std.specs.Prelude.{◌≡◌, map};
-ghost use Rattle.std.specs.List.{list_any};
-ghost use Rattle.smv_session.specs.Found.{finding_of, outcome_of};
+ghost use Rattle.std.specs.Prelude.{◌≡◌, count_by, map};
+ghost use Rattle.smv_session.specs.Found.{finding_of};
 ghost use Rattle.smv_session.specs.Report as lines;
-ghost use Rattle.smv_session.specs.Answers as answers;
 
-use crate::Status;
 use kripke_model::states::State;
 
 /// What is found of a specification.
@@ -14,6 +11,8 @@ pub(crate) enum Outcome {
     True,
     /// The least initial state at which it is false.
     False(State),
+    /// The node limit that was met.
+    Unknown(u32),
 }
 
 impl Outcome {
@@ -29,29 +28,33 @@ impl Outcome {
         matches!(self, Outcome::False(_))
     }
 
-    pub(crate) fn verdict(&self) -> &'static [u8]
-        ensures { result.now ≡ lines.verdict_text (outcome_of self.now) }
+    pub(crate) fn is_unknown(&self) -> bool
+        ensures { result ≡ lines.is_unknown (finding_of self.now) }
     {
-        match self {
-            Outcome::True => b"true",
-            Outcome::False(_) => b"false",
-        }
+        matches!(self, Outcome::Unknown(_))
     }
 }
 
-fn is_some_false(outcomes: &[Outcome]) -> bool
-    ensures { result ≡ list_any (λ o. lines.is_false (finding_of o)) outcomes.now }
+/// How many are true.
+pub(crate) fn true_count(outcomes: &[Outcome]) -> usize
+    ensures { result ≡ count_by lines.is_true (map finding_of outcomes.now) }
 {
-    outcomes.iter().any(|outcome| outcome.is_false())
+    outcomes.iter().filter(|outcome| outcome.is_true()).count()
 }
 
-/// The greatest status that applies.
-pub(crate) fn status_of(outcomes: &[Outcome]) -> Status
-    ensures { result ≡ answers.status_of (map finding_of outcomes.now) }
+/// How many are false.
+pub(crate) fn false_count(outcomes: &[Outcome]) -> usize
+    ensures { result ≡ count_by lines.is_false (map finding_of outcomes.now) }
 {
-    if is_some_false(outcomes) {
-        Status::Failed
-    } else {
-        Status::Clear
-    }
+    outcomes.iter().filter(|outcome| outcome.is_false()).count()
+}
+
+/// How many are unknown.
+pub(crate) fn unknown_count(outcomes: &[Outcome]) -> usize
+    ensures { result ≡ count_by lines.is_unknown (map finding_of outcomes.now) }
+{
+    outcomes
+        .iter()
+        .filter(|outcome| outcome.is_unknown())
+        .count()
 }

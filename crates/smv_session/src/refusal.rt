@@ -25,8 +25,8 @@ pub(crate) enum Refusal {
     NotFlat(FlatRefusal),
     /// Its flat model breaks a static rule.
     BreaksRule(StaticRefusal),
-    /// Its model is not small.
-    NotBuilt,
+    /// The states of its model have so many bits, which are too many.
+    TooManyBits { bits: u32 },
     Memory,
 }
 
@@ -55,7 +55,10 @@ fn push_reason(text: &mut Text, refusal: &Refusal) -> Result<(), AllocError>
         Refusal::TooDeep { line } => push_on_line(text, b"E5", *line),
         Refusal::NotFlat(refusal) => push_flat_reason(text, *refusal),
         Refusal::BreaksRule(refusal) => push_static_reason(text, *refusal),
-        Refusal::NotBuilt => text.push(b"E0"),
+        Refusal::TooManyBits { bits } => {
+            text.push(b"E22 bits ")?;
+            text.push_number(*bits)
+        }
         Refusal::Memory => Err(AllocError),
     }
 }

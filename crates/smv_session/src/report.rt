@@ -1,10 +1,10 @@
 // The report of a check, line by line.
-ghost use Rattle.std.specs.Prelude.{◌≡◌, ◌<◌, ◌≤◌, ◌++◌, [], count_by, decimal, length, map, slice_index_or, IfOk, OnOk};
+ghost use Rattle.std.specs.Prelude.{◌≡◌, ◌<◌, ◌≤◌, ◌++◌, [], decimal, length, map, slice_index_or, IfOk, OnOk};
 ghost use Rattle.kripke_model.specs.System.{value_in};
 ghost use Rattle.smv_session.specs.Found.{finding_of, outcome_of};
 ghost use Rattle.smv_session.specs.Report as lines;
 
-use crate::outcome::Outcome;
+use crate::outcome::{Outcome, false_count, true_count, unknown_count};
 use crate::text::Text;
 use kripke_model::Name;
 use kripke_model::expressions::Value;
@@ -48,7 +48,7 @@ fn push_finding(
     ensures { OnOk result (text.new ≡ text.old ++ lines.finding_lines model.now place (finding_of outcome.now)) }
 {
     push_spec(text, model, place)?;
-    text.push(outcome.verdict())?;
+    push_verdict(text, outcome)?;
     text.push(b"\n")?;
     push_witness(text, model, outcome)
 }
@@ -66,12 +66,25 @@ fn push_spec(text: &mut Text, model: &Ruled, place: usize) -> Result<(), AllocEr
     text.push(b" ")
 }
 
+fn push_verdict(text: &mut Text, outcome: &Outcome) -> Result<(), AllocError>
+    ensures { OnOk result (text.new ≡ text.old ++ lines.verdict_text (outcome_of outcome.now)) }
+{
+    match outcome {
+        Outcome::True => text.push(b"true"),
+        Outcome::False(_) => text.push(b"false"),
+        Outcome::Unknown(limit) => {
+            text.push(b"unknown: node limit ")?;
+            text.push_number(*limit)
+        }
+    }
+}
+
 // What stands below a false verdict.
 fn push_witness(text: &mut Text, model: &Ruled, outcome: &Outcome) -> Result<(), AllocError>
     ensures { OnOk result (text.new ≡ text.old ++ lines.witness_lines model.now (outcome_of outcome.now)) }
 {
     match outcome {
-        Outcome::True => Ok(()),
+        Outcome::True | Outcome::Unknown(_) => Ok(()),
         Outcome::False(state) => push_state(text, model, 0, state),
     }
 }
@@ -117,7 +130,7 @@ fn push_variable(
     text.push(b"\n")
 }
 
-fn value_at(state: &State, x: usize) -> Value
+pub(crate) fn value_at(state: &State, x: usize) -> Value
     ensures { result ≡ value_in state.now x }
 {
     match state.values().get(x) {
@@ -127,7 +140,12 @@ fn value_at(state: &State, x: usize) -> Value
 }
 
 // A value of variable x. A value of the selector prints as its process.
-fn push_value(text: &mut Text, model: &Ruled, x: usize, value: Value) -> Result<(), AllocError>
+pub(crate) fn push_value(
+    text: &mut Text,
+    model: &Ruled,
+    x: usize,
+    value: Value,
+) -> Result<(), AllocError>
     ensures { OnOk result (text.new ≡ text.old ++ lines.value_text model.now x value) }
 {
     match value {
@@ -161,18 +179,6 @@ fn name_at(names: &[Name], place: usize) -> &[u8]
     }
 }
 
-fn true_count(outcomes: &[Outcome]) -> usize
-    ensures { result ≡ count_by lines.is_true (map finding_of outcomes.now) }
-{
-    outcomes.iter().filter(|outcome| outcome.is_true()).count()
-}
-
-fn false_count(outcomes: &[Outcome]) -> usize
-    ensures { result ≡ count_by lines.is_false (map finding_of outcomes.now) }
-{
-    outcomes.iter().filter(|outcome| outcome.is_false()).count()
-}
-
 fn push_count(text: &mut Text, word: &[u8], n: usize) -> Result<(), AllocError>
     ensures { OnOk result (text.new ≡ text.old ++ word.now ++ decimal n) }
 {
@@ -187,6 +193,6 @@ fn push_total(text: &mut Text, outcomes: &[Outcome]) -> Result<(), AllocError>
     push_count(text, b"total ", outcomes.len())?;
     push_count(text, b" true ", true_count(outcomes))?;
     push_count(text, b" false ", false_count(outcomes))?;
-    push_count(text, b" unknown ", 0)?;
+    push_count(text, b" unknown ", unknown_count(outcomes))?;
     text.push(b"\n")
 }

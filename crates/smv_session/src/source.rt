@@ -1,16 +1,14 @@
 // From a model's text to its model.
 ghost use Rattle.std.specs.Prelude.{◌≡◌, ◌≤◌, IfErr, IfOk, List, length, ℕ};
 ghost use Rattle.kripke_model.specs.Flat.{IsFlat};
-ghost use Rattle.kripke_model.specs.Small.{IsSmall};
 ghost use Rattle.smv_lexer.specs.Text as bytes_and_tokens;
 ghost use Rattle.smv_lexer.specs.Text.{most_bytes};
 ghost use Rattle.smv_lexer.specs.View.{views};
 ghost use Rattle.smv_parser.specs.ProgramView as programs;
-ghost use Rattle.smv_session.specs.Source.{HasFlat, HasProgram, HasRuled, HasTokens, IsAccepted, line_at as line_at_byte, token_line as line_of_token};
+ghost use Rattle.smv_session.specs.Source.{HasFlat, HasProgram, HasRuled, HasTokens, line_at as line_at_byte, token_line as line_of_token};
 ghost use Rattle.smv_session.specs.Told.{Applies};
 
 use crate::refusal::Refusal;
-use crate::small::is_small;
 use kripke_model::models::{FlatModel, Ruled};
 use smv_instantiate::flatten;
 use smv_lexer::{LexRefusal, Token, lex};
@@ -106,19 +104,13 @@ fn ruled_of(alloc: Global, flat: FlatModel) -> Result<Ruled, Refusal>
     }
 }
 
-/// The model of the text, which is small.
+/// The model of the text, if no refusal that comes before the count of its bits applies.
 pub(crate) fn read_model(alloc: Global, text: &[u8]) -> Result<Ruled, Refusal>
-    ensures accepted { IfOk result (IsAccepted text.now) }
-    ensures small { IfOk result (λ m. IsSmall m) }
+    ensures ruled { IfOk result (HasRuled text.now) }
     ensures refused { IfErr result (Applies text.now) }
 {
     let tokens = tokens_of(alloc, text)?;
     let program = program_of(alloc, text, &tokens)?;
     let flat = flat_of(alloc, &program)?;
-    let model = ruled_of(alloc, flat)?;
-    if is_small(&model) {
-        Ok(model)
-    } else {
-        Err(Refusal::NotBuilt)
-    }
+    ruled_of(alloc, flat)
 }

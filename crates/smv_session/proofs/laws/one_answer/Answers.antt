@@ -1,4 +1,4 @@
-use Rattle.smv_session.proofs.OneAnswer.{Laws, one_model, one_refusal, model_or_refusal}
+use Rattle.smv_session.proofs.OneAnswer.{Laws, one_model, one_refusal, model_or_refusal, accepted_or_refusal}
 use Rattle.smv_session.proofs.laws.one_answer.Goals as goal
 
 pub returns : goal.returns
@@ -24,4 +24,5 @@ returns c =
       model = one_model laws;
       refusal = one_refusal laws;
       model_or_refusal = model_or_refusal laws;
+      accepted_or_refusal = accepted_or_refusal laws;
     }
