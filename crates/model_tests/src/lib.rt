@@ -8,12 +8,8 @@ mod meanings;
 #[cfg(test)]
 mod reading;
 #[cfg(test)]
-mod set_tests;
-#[cfg(test)]
 mod states;
 #[cfg(test)]
 mod step_tests;
-#[cfg(test)]
-mod truth_tests;
 #[cfg(test)]
 mod value_tests;

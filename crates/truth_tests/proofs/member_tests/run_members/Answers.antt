@@ -1,8 +1,8 @@
 use Rattle.std.proofs.Common.{sym, subst, arith}
 use Rattle.region_sets.specs.declared.pins.Pin.{Pin}
 use Rattle.region_sets.specs.Sets.{IsLive}
-use Rattle.model_tests.proofs.RunPins.{any_node, fair_live, first_live}
-use Rattle.model_tests.proofs.truth_tests.run_members.Goals as goal
+use Rattle.truth_tests.proofs.RunPins.{any_node, fair_live, first_live}
+use Rattle.truth_tests.proofs.member_tests.run_members.Goals as goal
 
 pub members-plus-requires-clause-live : goal.members-plus-requires-clause-live
 members-plus-requires-clause-live g c =

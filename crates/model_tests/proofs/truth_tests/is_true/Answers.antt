@@ -1,7 +1,0 @@
-use Rattle.std.proofs.Common.{arith}
-use Rattle.kripke_model.specs.WellFormed.{ctl_of}
-use Rattle.fair_fixpoint.proofs.Walked.{some_nodes}
-use Rattle.model_tests.proofs.truth_tests.is_true.Goals as goal
-
-pub holds_initially-answer-requires-clause-some : goal.holds_initially-answer-requires-clause-some
-holds_initially-answer-requires-clause-some g c = omega (arith, c.in_ok-run.ensures.run.over.nodes.count, some_nodes (ctl_of c.args.formula.now))
