@@ -29,10 +29,10 @@ fn chain(alloc: Global, head: &str, count: u32, end: &str) -> Result<String, Fai
 #[test]
 fn a_chain_of_definitions(rt: HostRuntime) -> Result<(), Fail> {
     let head = "MODULE main VAR x : boolean; SPEC d0 DEFINE ";
-    let text = chain(rt.alloc(), head, 4_000, "x")?;
+    let text = chain(rt.alloc(), head, 40_000, "x")?;
     let seen = variables_of(rt.alloc(), text.as_str())?;
     assert_eq!(rt; seen.as_str(), "x");
-    let circle = chain(rt.alloc(), head, 4_000, "d1")?;
+    let circle = chain(rt.alloc(), head, 40_000, "d1")?;
     assert_eq!(rt;
         refusal_of(rt.alloc(), circle.as_str())?,
         Some(FlatRefusal::CircularDefine { line: 2 })
@@ -40,11 +40,11 @@ fn a_chain_of_definitions(rt: HostRuntime) -> Result<(), Fail> {
     Ok(())
 }
 
-/// 1,023 instances of a module with 20 definitions. Definitions and instances are no variables.
+/// 1,023 instances of a module with 500 definitions. Definitions and instances are no variables.
 #[test]
 fn many_definitions_in_many_instances(rt: HostRuntime) -> Result<(), Fail> {
-    let mut text = chain(rt.alloc(), "MODULE cell DEFINE ", 19, "1")?;
-    text.push_str("MODULE main SPEC p0.d0 & p1022.d19 VAR\n")?;
+    let mut text = chain(rt.alloc(), "MODULE cell DEFINE ", 499, "1")?;
+    text.push_str("MODULE main SPEC p0.d0 & p1022.d499 VAR\n")?;
     for k in 0..1023 {
         text.push_str(format!(in rt.alloc(); "p{k} : cell;\n")?.as_str())?;
     }
