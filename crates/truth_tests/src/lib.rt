@@ -8,6 +8,8 @@ mod call_tests;
 #[cfg(test)]
 mod dead_cases;
 #[cfg(test)]
+mod export_tests;
+#[cfg(test)]
 mod fair_cases;
 #[cfg(test)]
 mod item_cases;
