@@ -87,8 +87,8 @@ some_unit s = omega (arith, pow_pos (levels_of s))
 pub variable_spends : (s z : Store) (n : ℕ) → Spends (2 * 2 ^ levels_of s) s z → Spends (allowance n (2 ^ levels_of s)) s z
 variable_spends s z n h = Spends-more s z (2 * 2 ^ levels_of s) (allowance n (2 ^ levels_of s)) (omega (arith, allowance-least n (2 ^ levels_of s))) h
 
-pub running_spends : (s z : Store) (n : ℕ) → Spends (4 * 2 ^ levels_of s) s z → Spends (allowance n (2 ^ levels_of s)) s z
-running_spends s z n h = Spends-more s z (4 * 2 ^ levels_of s) (allowance n (2 ^ levels_of s)) (omega (arith, allowance-least n (2 ^ levels_of s))) h
+pub running_spends : (s z : Store) (n : ℕ) → Spends 4 s z → Spends (allowance n (2 ^ levels_of s)) s z
+running_spends s z n h = Spends-more s z 4 (allowance n (2 ^ levels_of s)) (omega (arith, allowance-least n (2 ^ levels_of s), some_unit s)) h
 
 pub next_spends : (s z : Store) (n t : ℕ) → t ≡ 1 + n → Spends (allowance n (2 ^ levels_of s)) s z → Spends (allowance t (2 ^ levels_of s)) s z
 next_spends s z n t e h = subst (λ m. Spends (allowance m (2 ^ levels_of s)) s z) (sym e) (Spends-more s z _ _ (allowance-next n (2 ^ levels_of s)) h)

@@ -10,6 +10,7 @@ pub mod ResultLemmas
 pub mod OperatorLemmas
 pub mod BinaryLemmas
 pub mod ShownLemmas
+pub mod SelectorLemmas
 pub mod EvalLemmas
 pub mod BuildLemmas
 pub mod PairLemmas

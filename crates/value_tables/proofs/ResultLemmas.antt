@@ -1,5 +1,5 @@
 -- What the cells of an operator's table show, from what its operands' cells show.
-use Rattle.std.proofs.Common.{◌≡◌, ◌≢◌, ℕ, Bool, true, false, not, ◌&&◌, ◌||◌, ltb, List, [], ◌∷◌, length, map, Ok, Err, pos, refl, sym, subst, ap, ◌∙◌, arith}
+use Rattle.std.proofs.Common.{◌≡◌, ◌≢◌, ℕ, Bool, true, false, not, ◌&&◌, ◌||◌, ltb, List, [], ◌∷◌, length, map, Ok, Err, refl, sym, subst, ap, ◌∙◌, arith}
 use Rattle.std.specs.List.{list_any}
 use Rattle.std.proofs.lemmas.Bool.{lt-ltb}
 use Rattle.std.proofs.lemmas.List.Elements.{All-cons, All-nil}
@@ -7,10 +7,9 @@ use Rattle.bdd_nodes.specs.declared.store.Store.{Store}
 use Rattle.bdd_nodes.specs.Store.{Has}
 use Rattle.bdd_nodes.proofs.Tables.{value_of-true}
 use Rattle.kripke_model.specs.declared.expressions.Value.{Value}
-use Rattle.kripke_model.specs.declared.expressions.Value.TheVariants.{Number}
 use Rattle.kripke_model.specs.declared.expressions.BinOp.{BinOp}
 use Rattle.kripke_model.specs.declared.expressions.FaultKind.{FaultKind}
-use Rattle.kripke_model.specs.Evaluation.{Checked, among, single, truth, same}
+use Rattle.kripke_model.specs.Evaluation.{Checked, among, single, truth}
 use Rattle.value_tables.specs.declared.cells.Cell.{Cell}
 use Rattle.value_tables.specs.declared.pick.Pick.{Pick}
 use Rattle.value_tables.specs.declared.pick.Test.{Test}
@@ -247,11 +246,3 @@ single_table s reading = record {
 
 pub everywhere_table : (s : Store) (reading : Checked Value) (cells : List Cell) → cells ≡ record { reading = reading; region = 1 } ∷ [] → IsTable s cells true (λ bits. alone reading)
 everywhere_table s reading cells e = subst (λ xs. IsTable s xs true (λ bits. alone reading)) (sym e) (single_table s reading)
-
--- the selector names a process
-pub selected : (v : ℕ → Bool) (cells : List Cell) (x : Value) (p : ℕ) (k : Checked Value) → Reads v cells (Ok (x ∷ [])) → any_cell v (becomes (Pick.Selects p) k) cells ≡ any_of (same_reading k) (Ok (truth (same x (Number (pos p)))))
-selected v cells x p k h = reads-any v cells (Ok (x ∷ [])) h (becomes (Pick.Selects p) k) ∙ by (same x (Number (pos p)))
-  where
-    by : (b : Bool) → (same_reading k (Ok (truth_of b)) || false) ≡ any_of (same_reading k) (Ok (truth b))
-    by true = refl
-    by false = refl

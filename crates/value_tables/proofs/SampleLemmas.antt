@@ -1,6 +1,6 @@
 -- The model of the tests is one that a program can have.
-use Rattle.std.proofs.Common.{ℕ, ◌<◌, ◌≤◌, List, [], ◌∷◌, length, map, refl, lit<, lit≤}
-use Rattle.std.specs.Prelude.{All, pos}
+use Rattle.std.proofs.Common.{ℕ, ◌≤◌, List, [], ◌∷◌, length, map, refl, lit<, lit≤}
+use Rattle.std.specs.Prelude.{pos}
 use Rattle.std.specs.Str.{bytes_eq}
 use Rattle.std.proofs.lemmas.List.Elements.{All-from_recursion}
 use Rattle.kripke_model.specs.declared.expressions.Value.{Value}
@@ -9,7 +9,7 @@ use Rattle.kripke_model.specs.Evaluation.{same}
 use Rattle.kripke_model.specs.Evaluable.{IsKnown}
 use Rattle.kripke_model.specs.Names.{IsAtom, IsVariableName}
 use Rattle.kripke_model.specs.System.{Variable}
-use Rattle.kripke_model.specs.Flat.{IsFlat, AreDistinct, IsWellTyped}
+use Rattle.kripke_model.specs.Flat.{IsFlat, IsWellTyped}
 use Rattle.kripke_model.proofs.ValueLemmas.{same_self}
 use Rattle.bit_encode.specs.Rows.{variable}
 use Rattle.bit_encode.proofs.RowLemmas.{flat_with, distinct_by, name_of, bytes_self}

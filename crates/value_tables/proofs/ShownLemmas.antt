@@ -133,7 +133,7 @@ variable_unknown c next bits x le = get_or_past (state_shown c next bits) x (Num
 -- ---- the table of a variable
 
 -- the region of a value's code, and with the last value's that of the codes past it
-code_is : (i last n : ℕ) → i ≤ last → is_code (eqb i last) i n ≡ eqb (min n last) i
+pub code_is : (i last n : ℕ) → i ≤ last → is_code (eqb i last) i n ≡ eqb (min n last) i
 code_is i last n le = by (cases_eq i last) (cases_order i n)
   where
     by : (i ≡ last) ⊎ (i ≡ last → ⊥) → (i ≡ n) ⊎ ((i < n) ⊎ (n < i)) → is_code (eqb i last) i n ≡ eqb (min n last) i

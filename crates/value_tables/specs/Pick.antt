@@ -6,7 +6,7 @@ use Rattle.kripke_model.specs.declared.expressions.Value.{Value}
 use Rattle.kripke_model.specs.declared.expressions.Value.TheVariants.{Number}
 use Rattle.kripke_model.specs.declared.expressions.BinOp.{BinOp}
 use Rattle.kripke_model.specs.declared.expressions.FaultKind.{FaultKind}
-use Rattle.kripke_model.specs.Evaluation.{Checked, ◌>>=◌, as_number, as_boolean, same}
+use Rattle.kripke_model.specs.Evaluation.{Checked, ◌>>=◌, as_number, as_boolean}
 use Rattle.value_tables.specs.declared.pick.Test.{Test}
 use Rattle.value_tables.specs.declared.pick.Pick.{Pick}
 use Rattle.value_tables.specs.Cells.{same_reading}
@@ -56,8 +56,6 @@ picked Pick.Values (Err kind) = None
 picked Pick.Faults (Ok v) = None
 picked Pick.Faults (Err kind) = Some (Err kind)
 picked (Pick.Tested test) r = Some (r >>= tested_value test)
-picked (Pick.Selects p) (Ok v) = Some (Ok (truth_of (same v (Number (pos p)))))
-picked (Pick.Selects p) (Err kind) = Some (Err kind)
 picked Pick.Negated r = Some (r >>= negated_value)
 picked (Pick.With op v) (Ok w) = Some (outcome op v w)
 picked (Pick.With op v) (Err kind) = None

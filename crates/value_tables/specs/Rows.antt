@@ -1,6 +1,5 @@
 -- A small model, of which the tests speak.
-use Rattle.std.specs.Prelude.{List, [], ◌∷◌, pos}
-use Rattle.kripke_model.specs.declared.expressions.Value.{Value}
+use Rattle.std.specs.Prelude.{[], ◌∷◌, pos}
 use Rattle.kripke_model.specs.declared.expressions.Value.TheVariants.{Number}
 use Rattle.kripke_model.specs.System.{System}
 use Rattle.bit_encode.specs.Rows.{variable, model_with}

@@ -1,8 +1,7 @@
 //! What becomes of the readings of an operand.
 
-ghost use Rattle.std.specs.Prelude.{◌≡◌, pos};
-ghost use Rattle.kripke_model.specs.Evaluation.{as_boolean, same};
-ghost use Rattle.kripke_model.specs.declared.expressions.Value.TheVariants.{Number};
+ghost use Rattle.std.specs.Prelude.{◌≡◌};
+ghost use Rattle.kripke_model.specs.Evaluation.{as_boolean};
 ghost use Rattle.value_tables.specs.Pick.{truth_of, tested_value, negated_value, in_bounds, arithmetic, outcome, picked};
 
 use kripke_model::expressions::{BinOp, FaultKind, Value};
@@ -47,8 +46,6 @@ pub(crate) enum Pick {
     Faults,
     /// A value that fails the test becomes a fault.
     Tested(Test),
-    /// A value becomes 1 where it is this number, and else 0.
-    Selects(u32),
     /// 0 and 1 change places, and any other value becomes a fault.
     Negated,
     /// A right operand becomes the outcome of arithmetic or of an order comparison with this left operand, and a fault
@@ -74,7 +71,6 @@ impl Pick {
             Pick::All | Pick::Values => Some(Ok(value)),
             Pick::Faults => None,
             Pick::Tested(test) => Some(test.apply(value)),
-            Pick::Selects(p) => Some(Ok(truth(is_number(value, p)))),
             Pick::Negated => Some(negated(value)),
             Pick::With(op, left) => Some(outcome(op, left, value)),
         }
@@ -84,9 +80,7 @@ impl Pick {
         ensures { result ≡ picked self (Err kind) }
     {
         match self {
-            Pick::All | Pick::Faults | Pick::Tested(_) | Pick::Selects(_) | Pick::Negated => Some(
-                Err(kind),
-            ),
+            Pick::All | Pick::Faults | Pick::Tested(_) | Pick::Negated => Some(Err(kind)),
             Pick::Values | Pick::With(_, _) => None,
         }
     }
@@ -109,15 +103,6 @@ pub(crate) fn truth(holds: bool) -> Value
         Value::Number(1)
     } else {
         Value::Number(0)
-    }
-}
-
-fn is_number(value: Value, p: u32) -> bool
-    ensures { result ≡ same value (Number (pos p)) }
-{
-    match value {
-        Value::Number(i) => i64::from(i) == i64::from(p),
-        Value::Symbol(_) => false,
     }
 }
 

@@ -1,9 +1,8 @@
-use Rattle.std.proofs.Common.{◌∙◌, List, Bool, true, false, ap}
+use Rattle.std.proofs.Common.{◌∙◌, List, true, false, ap}
 use Rattle.kripke_model.specs.Reading.{term_of}
 use Rattle.value_tables.specs.declared.cells.Cell.{Cell}
 use Rattle.value_tables.specs.Regions.{rows_in, faults_in}
 use Rattle.kripke_model.specs.Size.{node_count}
-use Rattle.kripke_model.specs.Evaluation.{eval}
 use Rattle.value_tables.specs.States.{state_shown, meaning_of}
 use Rattle.bdd_nodes.specs.Store.{levels_of}
 use Rattle.value_tables.proofs.GrowthLemmas.{growth}

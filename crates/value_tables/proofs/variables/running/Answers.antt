@@ -1,72 +1,48 @@
-use Rattle.std.proofs.Common.{◌≡◌, ◌*◌, ◌^◌, ◌≤◌, ◌&&◌, ◌||◌, List, length, subst, arith, Bool, not, true, false, Ok, pos, refl, sym, ap, ◌∙◌, rules}
-use Rattle.bdd_nodes.specs.Store.{levels_of, value_of}
-use Rattle.bdd_nodes.proofs.Tables.{value_of-true}
+use Rattle.std.proofs.Common.{◌≡◌, ◌&&◌, ◌||◌, Bool, not, true, false, Ok, pos, sym, ap, ◌∙◌, rules}
+use Rattle.bdd_nodes.specs.Store.{value_of}
 use Rattle.kripke_model.specs.declared.expressions.Value.TheVariants.{Number}
 use Rattle.kripke_model.specs.System.{value_in}
 use Rattle.kripke_model.specs.Evaluation.{same, truth, runs}
-use Rattle.value_tables.specs.declared.pick.Pick.{Pick}
-use Rattle.value_tables.specs.Cells.{shows, any_cell, any_of, same_reading}
-use Rattle.value_tables.specs.Pick.{becomes}
-use Rattle.value_tables.specs.Tables.{alone}
+use Rattle.value_tables.specs.Cells.{shows, any_of, same_reading}
+use Rattle.value_tables.specs.Pick.{truth_of}
 use Rattle.value_tables.specs.States.{state_shown}
-use Rattle.value_tables.specs.declared.cells.Cell.{Cell}
-use Rattle.value_tables.proofs.RegionLemmas.{Spends-same, Spends-then}
-use Rattle.value_tables.proofs.WeightLemmas.{Spends-more}
-use Rattle.value_tables.proofs.ReadingCounts.{table-few}
-use Rattle.value_tables.proofs.ResultLemmas.{selected}
+use Rattle.value_tables.proofs.RegionLemmas.{keeps_join, keeps_quiet}
 use Rattle.value_tables.proofs.BinaryLemmas.{one_truth}
-use Rattle.value_tables.proofs.BuildLemmas.{table_as}
+use Rattle.value_tables.proofs.SelectorLemmas.{two_truths}
 use Rattle.value_tables.proofs.variables.running.Goals as goal
 
-pub returns-then-not-has_selector-clause-table : goal.returns-then-not-has_selector-clause-table
-returns-then-not-has_selector-clause-table g c =
-    let none : c.args.model.now.selector ≡ false = search rules in
-    table_as c.args.engine.now.store _ _
-    ((λ i bits. alone (Ok (c.truth.ensures i)))
-    ∙ (λ i bits. Ok (truth (not (sym none i) || same (value_in (state_shown c.args.layout.now c.args.next bits) 0) (Number (pos c.args.p))))))
-    c.everywhere.result c.everywhere.ensures.table
+pub returns-in_err-add-clause-keeps : goal.returns-in_err-add-clause-keeps
+returns-in_err-add-clause-keeps g c = keeps_join (keeps_join (keeps_quiet c.args.steps.now c.selected.ensures.keeps) c.outside.ensures.keeps) c.add.ensures.keeps
 
-all : (a : Bool) → (a && true) ≡ a
-all true = refl
-all false = refl
+pub returns-in_err-add-2-clause-keeps : goal.returns-in_err-add-2-clause-keeps
+returns-in_err-add-2-clause-keeps g c = keeps_join (keeps_join (keeps_join (keeps_quiet c.args.steps.now c.selected.ensures.keeps) c.outside.ensures.keeps) c.add.ensures.keeps) c.add-2.ensures.keeps
+
+pub returns-clause-keeps : goal.returns-clause-keeps
+returns-clause-keeps g c = keeps_join (keeps_join (keeps_join (keeps_quiet c.args.steps.now c.selected.ensures.keeps) c.outside.ensures.keeps) c.add.ensures.keeps) c.add-2.ensures.keeps
 
 pub returns-clause-table : goal.returns-clause-table
 returns-clause-table g c =
-    let a = c.variable.new.engine.store in
-    let there : c.args.model.now.selector ≡ true = search rules in
+    let a = c.selected.new.engine.store in
+    let b = c.outside.new.engine.store in
+    let d = c.add.new.engine.store in
     let lay = c.args.layout.now in
+    let here = c.in_ok-here.here in
+    let elsewhere = c.in_ok-elsewhere.elsewhere in
+    let there : c.args.model.now.selector ≡ true = search rules in
     record {
-      regions = c.in_ok-spread.ensures.cells;
-      reads = λ bits. record {
-        each = λ k. c.in_ok-spread.ensures.shows bits k
-            ∙ (λ i. shows (λ n. value_of a n bits) (c.new-cells.ensures.items i) k || (any_cell (λ n. value_of a n bits) (becomes (Pick.Selects c.args.p) k) (c.deref.ensures.value i) && value_of-true a.nodes.keys bits i))
-            ∙ all _
-            ∙ selected (λ n. value_of a n bits) _ (value_in (state_shown lay c.args.next bits) 0) c.args.p k (c.in_ok-selector.ensures.table.reads bits)
-            ∙ (λ i. any_of (same_reading k) (Ok (truth (not (sym there i) || same (value_in (state_shown lay c.args.next bits) 0) (Number (pos c.args.p))))));
-      };
+      regions = c.in_ok-add-2.ensures.cells;
+      reads = λ bits.
+          let named : Bool = same (value_in (state_shown lay c.args.next bits) 0) (Number (pos c.args.p)) in
+          let at : value_of a here bits ≡ named = c.in_ok-here.ensures.region.value bits in
+          let still : value_of b here bits ≡ named = c.outside.ensures.keeps.grows.value here c.in_ok-here.ensures.region.has bits ∙ at in
+          let rest : value_of d elsewhere bits ≡ not named = c.add.ensures.keeps.grows.value elsewhere c.in_ok-elsewhere.ensures.region.has bits ∙ c.in_ok-elsewhere.ensures.region.value bits ∙ ap not at in
+          record {
+            each = λ k.
+                c.in_ok-add-2.ensures.shows bits k
+                ∙ (λ j. c.in_ok-add.ensures.shows bits k j || (same_reading k (Ok (c.truth-3.ensures j)) && rest j))
+                ∙ (λ j. (shows (λ r. value_of b r bits) (c.new-cells.ensures.items j) k || (same_reading k (Ok (c.truth-2.ensures j)) && still j)) || (same_reading k (Ok (truth_of false)) && not named))
+                ∙ two_truths k named
+                ∙ (λ j. any_of (same_reading k) (Ok (truth (not (sym there j) || named))));
+          };
       at_most_one = λ e bits. one_truth (runs c.args.model.now (state_shown lay c.args.next bits) c.args.p);
     }
-
-pub returns-then-not-has_selector-clause-spends : goal.returns-then-not-has_selector-clause-spends
-returns-then-not-has_selector-clause-spends g c = Spends-same c.args.engine.now.store _
-
-pub returns-clause-spends : goal.returns-clause-spends
-returns-clause-spends g c =
-    let s = c.args.engine.now.store in
-    let a = c.variable.new.engine.store in
-    let cells = c.in_ok-selector.selector.cells.items in
-    let few = subst (λ (xs : List Cell). length xs ≤ 1 * 2 ^ levels_of a) (sym c.deref.ensures.value) (table-few a cells _ _ 1 c.in_ok-selector.ensures.table (λ bits. omega arith)) in
-    Spends-then s a c.spread.new.engine.store (2 * 2 ^ levels_of s) (2 * length c.deref.result.now) (4 * 2 ^ levels_of s) c.variable.ensures.keeps.grows.levels
-    (omega (arith, few, ap (λ n. 2 ^ n) c.variable.ensures.keeps.grows.levels)) c.variable.ensures.spends c.spread.ensures.spends
-
-pub returns-in_err-spread-clause-spends : goal.returns-in_err-spread-clause-spends
-returns-in_err-spread-clause-spends g c =
-    let s = c.args.engine.now.store in
-    let a = c.variable.new.engine.store in
-    let cells = c.in_ok-selector.selector.cells.items in
-    let few = subst (λ (xs : List Cell). length xs ≤ 1 * 2 ^ levels_of a) (sym c.deref.ensures.value) (table-few a cells _ _ 1 c.in_ok-selector.ensures.table (λ bits. omega arith)) in
-    Spends-then s a c.spread.new.engine.store (2 * 2 ^ levels_of s) (2 * length c.deref.result.now) (4 * 2 ^ levels_of s) c.variable.ensures.keeps.grows.levels
-    (omega (arith, few, ap (λ n. 2 ^ n) c.variable.ensures.keeps.grows.levels)) c.variable.ensures.spends c.spread.ensures.spends
-
-pub returns-in_err-selector-clause-spends : goal.returns-in_err-selector-clause-spends
-returns-in_err-selector-clause-spends g c = Spends-more c.args.engine.now.store c.variable.new.engine.store (2 * 2 ^ levels_of c.args.engine.now.store) _ (omega arith) c.variable.ensures.spends
