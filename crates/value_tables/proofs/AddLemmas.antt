@@ -40,7 +40,7 @@ any_reading : (k : Checked Value) (cells : List Cell) → list_any (same_reading
 any_reading k [] = refl
 any_reading k (c ∷ cells) = ap (λ b. same_reading k c.reading || b) (any_reading k cells)
 
-absent : (cells : List Cell) (reading : Checked Value) → position (λ c. same_reading reading c.reading) cells ≡ None → list_any (same_reading reading) (readings_in cells) ≡ false
+pub absent : (cells : List Cell) (reading : Checked Value) → position (λ c. same_reading reading c.reading) cells ≡ None → list_any (same_reading reading) (readings_in cells) ≡ false
 absent cells reading e =
     let p : Cell → Bool = λ c. same_reading reading c.reading in
     let d : Cell = record { reading = reading; region = 0 } in

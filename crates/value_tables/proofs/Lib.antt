@@ -2,7 +2,7 @@ pub mod ReadingLists
 pub mod BoolLemmas
 pub mod RegionLemmas
 pub mod AddLemmas
-pub mod CellLemmas
+pub mod CellListLemmas
 pub mod SpreadLemmas
 pub mod CountLemmas
 pub mod OnceLemmas

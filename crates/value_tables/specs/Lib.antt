@@ -1,5 +1,6 @@
 pub mod Work
 pub mod Cells
+pub mod CellLists
 pub mod Pick
 pub mod Tables
 pub mod States

@@ -11,7 +11,7 @@ ghost use Rattle.value_tables.specs.Weights.{AreOperands};
 ghost use Rattle.value_tables.specs.Cells.{Reads, AreCells};
 ghost use Rattle.value_tables.specs.Tables.{IsOperand, IsSingle, one_tested, IsUnion, IsMember, IsEquality, IsConnective, IsArithmetic};
 
-use crate::cells::Cell;
+use crate::cell_lists::CellList;
 use crate::operands::{Table, tested};
 use crate::operators::{combined, compared};
 use crate::pairs::calculated;
@@ -26,8 +26,8 @@ use std::sync::ledger::Ledger;
 /// Two tested operands.
 #[derive(Drop)]
 struct Pair {
-    left: Vec<Cell>,
-    right: Vec<Cell>,
+    left: CellList,
+    right: CellList,
 }
 
 /// Both operands tested, the left one first.

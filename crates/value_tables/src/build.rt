@@ -13,7 +13,8 @@ ghost use Rattle.value_tables.specs.States.{meaning_of, elements_meaning, arms_m
 ghost use Rattle.value_tables.specs.Tables.{IsTable, IsSetTable};
 
 use crate::binary::binary_of;
-use crate::cells::{Cell, add};
+use crate::cell_lists::CellList;
+use crate::cells::add;
 use crate::operands::{Table, tested};
 use crate::operators::everywhere;
 use crate::pick::{Test, truth};
@@ -84,7 +85,7 @@ fn build_elements<L: Ledger>(
     elements: &[Expr],
     next: bool,
     steps: &mut Steps<L>,
-) -> Result<Vec<Cell>, StoreRefusal>
+) -> Result<CellList, StoreRefusal>
     requires evaluable { AreEvaluable model.now (terms_in elements.now) }
     requires types { layout.now.types ≡ types_of model.now }
     requires levels { levels_of (store_of engine.old) ≡ 2 * bit_count layout.now.types }
@@ -93,7 +94,7 @@ fn build_elements<L: Ledger>(
     ensures keeps { Keeps engine.old engine.new steps.old steps.new }
     ensures spends { Spends (list_allowance (element_nodes (terms_in elements.now)) (2 ^ levels_of (store_of engine.old))) (store_of engine.old) (store_of engine.new) }
 {
-    let mut cells = Vec::new(alloc);
+    let mut cells = CellList::new(alloc);
     for element in elements {
         let table = build(alloc, engine, layout, model, element, next, steps)?;
         cells = united(alloc, engine, &cells, &table.cells, steps)?;
@@ -120,7 +121,7 @@ fn build_arms<L: Ledger>(
     ensures keeps { Keeps engine.old engine.new steps.old steps.new }
     ensures spends { Spends (allowance (1 + arm_nodes (arms_in arms.now)) (2 ^ levels_of (store_of engine.old))) (store_of engine.old) (store_of engine.new) }
 {
-    let mut cells = Vec::new(alloc);
+    let mut cells = CellList::new(alloc);
     let mut left = Ref::TRUE;
     for arm in arms {
         let guard = build(alloc, engine, layout, model, &arm.guard, next, steps)?;

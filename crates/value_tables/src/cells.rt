@@ -1,14 +1,15 @@
 //! Cells: a reading, which is one value or a fault, with the region where an expression comes to it.
 
-ghost use Rattle.std.specs.Prelude.{◌≡◌, ◌↔◌, ◌≤◌, ◌+◌, ◌&&◌, ◌||◌, ℕ, Bool, List, IsTrue, IfErr, OnOk, length, position, true};
+ghost use Rattle.std.specs.Prelude.{◌≡◌, ◌≤◌, ◌+◌, ◌&&◌, ◌||◌, Bool, List, IfErr, OnOk, length};
 ghost use Rattle.bdd_nodes.specs.Store.{Has, value_of};
 ghost use Rattle.bdd_nodes.specs.Refusal.{IsRefusalOf};
 ghost use Rattle.bdd_ops.specs.Engine.{store_of};
 ghost use Rattle.kripke_model.specs.Evaluation.{Checked};
 ghost use Rattle.kripke_model.specs.declared.expressions.Value.{Value as Values};
 ghost use Rattle.value_tables.specs.Work.{Keeps, Spends};
-ghost use Rattle.value_tables.specs.Cells.{fault_number, same_reading, shows, AreCells, region_at};
+ghost use Rattle.value_tables.specs.Cells.{same_reading, shows, AreCells};
 
+use crate::cell_lists::CellList;
 use crate::regions::join;
 use bdd_nodes::{Ref, Steps, StoreRefusal};
 use bdd_ops::Engine;
@@ -24,53 +25,10 @@ pub(crate) struct Cell {
     pub(crate) region: Ref,
 }
 
-fn number_of(kind: FaultKind) -> u8
-    ensures { result ≡ fault_number kind }
-{
-    match kind {
-        FaultKind::ManyValues => 0,
-        FaultKind::NotNumber => 1,
-        FaultKind::NotBoolean => 2,
-        FaultKind::ZeroDivisor => 3,
-        FaultKind::Overflow => 4,
-        FaultKind::OutOfType => 5,
-    }
-}
-
-pub(crate) fn same_reading(a: Result<Value, FaultKind>, b: Result<Value, FaultKind>) -> bool
-    ensures { result ≡ same_reading a b }
-{
-    match (a, b) {
-        (Ok(Value::Number(i)), Ok(Value::Number(j))) => i == j,
-        (Ok(Value::Symbol(c)), Ok(Value::Symbol(d))) => c == d,
-        (Err(j), Err(k)) => number_of(j) == number_of(k),
-        _ => false,
-    }
-}
-
-/// The place of the first cell of this reading.
-fn place_of(cells: &[Cell], reading: Result<Value, FaultKind>) -> Option<usize>
-    ensures { result ≡ position (λ c. same_reading reading c.reading) cells.now }
-{
-    cells.iter().position(|c| same_reading(reading, c.reading))
-}
-
-/// The region of the reading: the empty one where no cell has it.
-pub(crate) fn region_of(cells: &[Cell], reading: Result<Value, FaultKind>) -> Ref
-    ensures { result ≡ region_at cells.now reading }
-{
-    for cell in cells {
-        if same_reading(reading, cell.reading) {
-            return cell.region;
-        }
-    }
-    Ref::FALSE
-}
-
 /// Adds a region to that of a reading. An empty one changes nothing.
 pub(crate) fn add<L: Ledger>(
     engine: &mut Engine,
-    cells: &mut Vec<Cell>,
+    cells: &mut CellList,
     reading: Result<Value, FaultKind>,
     region: Ref,
     steps: &mut Steps<L>,
@@ -89,10 +47,10 @@ pub(crate) fn add<L: Ledger>(
     if region == Ref::FALSE {
         return Ok(());
     }
-    match place_of(cells, reading) {
+    match cells.place_of(reading) {
         Some(place) => {
-            let cell = &mut cells[place];
-            cell.region = join(engine, cell.region, region, steps)?;
+            let joined = join(engine, cells[place].region, region, steps)?;
+            cells.set_region(place, joined);
         }
         None => {
             let Ok(()) = cells.push(Cell { reading, region }) else {

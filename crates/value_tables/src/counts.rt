@@ -9,7 +9,8 @@ ghost use Rattle.value_tables.specs.Work.{Keeps, Spends, IsRegion};
 ghost use Rattle.value_tables.specs.Cells.{any_cell};
 ghost use Rattle.value_tables.specs.Tables.{is_fault, count_on, at_region};
 
-use crate::cells::{Cell, region_of};
+use crate::cell_lists::CellList;
+use crate::cells::Cell;
 use crate::regions::{join, meet};
 use bdd_nodes::{Ref, Steps, StoreRefusal};
 use bdd_ops::Engine;
@@ -129,19 +130,19 @@ fn with_match<L: Ledger>(
 pub(crate) fn matched<L: Ledger>(
     engine: &mut Engine,
     left: &[Cell],
-    right: &[Cell],
+    right: &CellList,
     steps: &mut Steps<L>,
 ) -> Result<Ref, StoreRefusal>
     requires left { All (λ (c : Cells). Has (store_of engine.old) c.region) left.now }
-    requires right { All (λ (c : Cells). Has (store_of engine.old) c.region) right.now }
-    ensures region { IfOk result (λ r. IsRegion (store_of engine.new) r (λ bits. any_cell (λ q. value_of (store_of engine.old) q bits) (at_region (λ q. value_of (store_of engine.old) q bits) right.now) left.now)) }
+    requires right { All (λ (c : Cells). Has (store_of engine.old) c.region) right.now.items }
+    ensures region { IfOk result (λ r. IsRegion (store_of engine.new) r (λ bits. any_cell (λ q. value_of (store_of engine.old) q bits) (at_region (λ q. value_of (store_of engine.old) q bits) right.now.items) left.now)) }
     ensures held { IfErr result (IsRefusalOf (store_of engine.new)) }
     ensures keeps { Keeps engine.old engine.new steps.old steps.new }
     ensures spends { Spends (2 * length left.now) (store_of engine.old) (store_of engine.new) }
 {
     let mut hit = Ref::FALSE;
     for cell in left {
-        hit = with_match(engine, hit, *cell, region_of(right, cell.reading), steps)?;
+        hit = with_match(engine, hit, *cell, right.region_of(cell.reading), steps)?;
     }
     Ok(hit)
 }

@@ -4,6 +4,7 @@
 
 mod binary;
 mod build;
+mod cell_lists;
 mod cells;
 mod counts;
 mod operands;

@@ -10,6 +10,7 @@ ghost use Rattle.value_tables.specs.Work.{Keeps, Spends, IsRegion};
 ghost use Rattle.value_tables.specs.Cells.{shows, any_cell, Reads, AreCells};
 ghost use Rattle.value_tables.specs.Tables.{is_failure, is_fault_of, one_tested, both, IsProper, IsSingle, count_on};
 
+use crate::cell_lists::CellList;
 use crate::cells::{Cell, add};
 use crate::counts::{faulty_of, many_of};
 use crate::pick::{Pick, Test};
@@ -24,7 +25,7 @@ use std::sync::ledger::Ledger;
 /// What an expression comes to at each list of bits: the readings of the cells whose regions have value 1 there.
 #[derive(Drop)]
 pub(crate) struct Table {
-    pub(crate) cells: Vec<Cell>,
+    pub(crate) cells: CellList,
     /// Whether it is known that the expression nowhere has more than one value.
     pub(crate) single: bool,
 }
@@ -54,7 +55,7 @@ pub(crate) fn tested<L: Ledger>(
     table: &Table,
     test: Test,
     steps: &mut Steps<L>,
-) -> Result<Vec<Cell>, StoreRefusal>
+) -> Result<CellList, StoreRefusal>
     requires { AreCells (store_of engine.old) table.now.cells.items }
     ensures cells { IfOk result (λ out. AreCells (store_of engine.new) out.items) }
     ensures reads { IfOk result (λ out. (bits : List Bool) (c : Checked (List Values)) → Reads (λ r. value_of (store_of engine.old) r bits) table.now.cells.items c → IsProper c → (table.now.single ≡ true → IsSingle c)
@@ -66,7 +67,7 @@ pub(crate) fn tested<L: Ledger>(
 {
     let many = many_in(engine, table, steps)?;
     let one = outside(engine, many, steps)?;
-    let mut out = Vec::new(alloc);
+    let mut out = CellList::new(alloc);
     spread(
         engine,
         &table.cells,
@@ -82,7 +83,7 @@ pub(crate) fn tested<L: Ledger>(
 /// The cells of faults, and the region of all of them.
 #[derive(Drop)]
 pub(crate) struct Faults {
-    pub(crate) cells: Vec<Cell>,
+    pub(crate) cells: CellList,
     pub(crate) region: Ref,
 }
 
@@ -107,7 +108,7 @@ pub(crate) fn faults_of<L: Ledger>(
     ensures keeps { Keeps engine.old engine.new steps.old steps.new }
     ensures spends { Spends (3 * length left.now + 3 * length right.now + 2) (store_of engine.old) (store_of engine.new) }
 {
-    let mut cells = Vec::new(alloc);
+    let mut cells = CellList::new(alloc);
     spread(engine, left, Pick::Faults, Ref::TRUE, &mut cells, steps)?;
     let first = faulty_of(engine, left, steps)?;
     let sound = outside(engine, first, steps)?;

@@ -12,7 +12,8 @@ ghost use Rattle.value_tables.specs.Cells.{same_reading, shows, Reads, AreCells}
 ghost use Rattle.value_tables.specs.Pick.{truth_of};
 ghost use Rattle.value_tables.specs.Tables.{logic, alone, IsTable, membership, truths, connective};
 
-use crate::cells::{Cell, add, region_of};
+use crate::cell_lists::CellList;
+use crate::cells::{Cell, add};
 use crate::counts::matched;
 use crate::operands::{Faults, Table, faults_of, tested};
 use crate::pick::{Pick, Test, truth};
@@ -34,7 +35,7 @@ pub(crate) fn everywhere(
     ensures few { IfOk result (λ t. length t.cells.items ≤ 1) }
     ensures held { IfErr result (IsRefusalOf (store_of engine.now)) }
 {
-    let mut cells = Vec::new(alloc);
+    let mut cells = CellList::new(alloc);
     let region = Ref::TRUE;
     let Ok(()) = cells.push(Cell { reading, region }) else {
         return Err(StoreRefusal::Memory);
@@ -84,18 +85,18 @@ pub(crate) fn compared<L: Ledger>(
     alloc: Global,
     engine: &mut Engine,
     left: &[Cell],
-    right: &[Cell],
+    right: &CellList,
     steps: &mut Steps<L>,
 ) -> Result<Table, StoreRefusal>
     requires left { AreCells (store_of engine.old) left.now }
-    requires right { AreCells (store_of engine.old) right.now }
+    requires right { AreCells (store_of engine.old) right.now.items }
     ensures cells { IfOk result (λ t. AreCells (store_of engine.new) t.cells.items) }
     ensures single { IfOk result (λ t. t.single ≡ true) }
-    ensures reads { IfOk result (λ t. (bits : List Bool) (a : Checked Values) (d : Checked (List Values)) → Reads (λ r. value_of (store_of engine.old) r bits) left.now (alone a) → Reads (λ r. value_of (store_of engine.old) r bits) right.now d
+    ensures reads { IfOk result (λ t. (bits : List Bool) (a : Checked Values) (d : Checked (List Values)) → Reads (λ r. value_of (store_of engine.old) r bits) left.now (alone a) → Reads (λ r. value_of (store_of engine.old) r bits) right.now.items d
         → Reads (λ r. value_of (store_of engine.new) r bits) t.cells.items (membership a d)) }
     ensures held { IfErr result (IsRefusalOf (store_of engine.new)) }
     ensures keeps { Keeps engine.old engine.new steps.old steps.new }
-    ensures spends { Spends (5 * length left.now + 3 * length right.now + 8) (store_of engine.old) (store_of engine.new) }
+    ensures spends { Spends (5 * length left.now + 3 * length right.now.items + 8) (store_of engine.old) (store_of engine.new) }
 {
     let faults = faults_of(alloc, engine, left, right, steps)?;
     let hit = matched(engine, left, right, steps)?;
@@ -133,23 +134,23 @@ pub(crate) fn combined<L: Ledger>(
     alloc: Global,
     engine: &mut Engine,
     op: BinOp,
-    left: &[Cell],
-    right: &[Cell],
+    left: &CellList,
+    right: &CellList,
     steps: &mut Steps<L>,
 ) -> Result<Table, StoreRefusal>
-    requires left { AreCells (store_of engine.old) left.now }
-    requires right { AreCells (store_of engine.old) right.now }
+    requires left { AreCells (store_of engine.old) left.now.items }
+    requires right { AreCells (store_of engine.old) right.now.items }
     ensures cells { IfOk result (λ t. AreCells (store_of engine.new) t.cells.items) }
     ensures single { IfOk result (λ t. t.single ≡ true) }
-    ensures reads { IfOk result (λ t. (bits : List Bool) (a b : Checked Bool) → Reads (λ r. value_of (store_of engine.old) r bits) left.now (truths a) → Reads (λ r. value_of (store_of engine.old) r bits) right.now (truths b)
+    ensures reads { IfOk result (λ t. (bits : List Bool) (a b : Checked Bool) → Reads (λ r. value_of (store_of engine.old) r bits) left.now.items (truths a) → Reads (λ r. value_of (store_of engine.old) r bits) right.now.items (truths b)
         → Reads (λ r. value_of (store_of engine.new) r bits) t.cells.items (connective op a b)) }
     ensures held { IfErr result (IsRefusalOf (store_of engine.new)) }
     ensures keeps { Keeps engine.old engine.new steps.old steps.new }
-    ensures spends { Spends (3 * length left.now + 3 * length right.now + 10) (store_of engine.old) (store_of engine.new) }
+    ensures spends { Spends (3 * length left.now.items + 3 * length right.now.items + 10) (store_of engine.old) (store_of engine.new) }
 {
     let faults = faults_of(alloc, engine, left, right, steps)?;
-    let a = region_of(left, Ok(truth(true)));
-    let b = region_of(right, Ok(truth(true)));
+    let a = left.region_of(Ok(truth(true)));
+    let b = right.region_of(Ok(truth(true)));
     let hit = connected(engine, op, a, b, steps)?;
     decided(engine, faults, hit, steps)
 }

@@ -12,6 +12,7 @@ ghost use Rattle.value_tables.specs.Cells.{shows, any_cell, Reads, AreCells};
 ghost use Rattle.value_tables.specs.Tables.{alone, pairs_to, paired};
 ghost use Rattle.value_tables.specs.Weights.{weight, weights, AreApart};
 
+use crate::cell_lists::CellList;
 use crate::cells::Cell;
 use crate::operands::{Table, faults_of};
 use crate::pick::Pick;
@@ -28,7 +29,7 @@ fn pair_with<L: Ledger>(
     op: BinOp,
     cell: Cell,
     right: &[Cell],
-    out: &mut Vec<Cell>,
+    out: &mut CellList,
     steps: &mut Steps<L>,
 ) -> Result<(), StoreRefusal>
     requires cell { Has (store_of engine.old) cell.region }
@@ -62,7 +63,7 @@ fn pair_up<L: Ledger>(
     op: BinOp,
     left: &[Cell],
     right: &[Cell],
-    out: &mut Vec<Cell>,
+    out: &mut CellList,
     steps: &mut Steps<L>,
 ) -> Result<(), StoreRefusal>
     requires left { All (λ (c : Cells). Has (store_of engine.old) c.region) left.now }

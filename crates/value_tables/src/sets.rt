@@ -10,7 +10,8 @@ ghost use Rattle.value_tables.specs.Work.{Keeps, Spends};
 ghost use Rattle.value_tables.specs.Cells.{shows, Reads, AreCells};
 ghost use Rattle.value_tables.specs.Tables.{IsProper, IsSingle, all_values, negation, truths, arm_shows, goes_on};
 
-use crate::cells::{Cell, region_of};
+use crate::cell_lists::CellList;
+use crate::cells::Cell;
 use crate::operands::{Table, faults_of, tested};
 use crate::pick::{Pick, Test, truth};
 use crate::regions::{meet, outside};
@@ -27,7 +28,7 @@ pub(crate) fn united<L: Ledger>(
     left: &[Cell],
     right: &[Cell],
     steps: &mut Steps<L>,
-) -> Result<Vec<Cell>, StoreRefusal>
+) -> Result<CellList, StoreRefusal>
     requires left { AreCells (store_of engine.old) left.now }
     requires right { AreCells (store_of engine.old) right.now }
     ensures cells { IfOk result (λ out. AreCells (store_of engine.new) out.items) }
@@ -62,7 +63,7 @@ pub(crate) fn negated<L: Ledger>(
     ensures spends { Spends (7 * length operand.now.cells.items + 4) (store_of engine.old) (store_of engine.new) }
 {
     let boolean = tested(alloc, engine, operand, Test::Boolean, steps)?;
-    let mut cells = Vec::new(alloc);
+    let mut cells = CellList::new(alloc);
     spread(
         engine,
         &boolean,
@@ -81,28 +82,28 @@ pub(crate) fn negated<L: Ledger>(
 /// that it leaves: that where its guard is 0.
 pub(crate) fn choose<L: Ledger>(
     engine: &mut Engine,
-    guard: &[Cell],
+    guard: &CellList,
     right: &[Cell],
     left: Ref,
-    out: &mut Vec<Cell>,
+    out: &mut CellList,
     steps: &mut Steps<L>,
 ) -> Result<Ref, StoreRefusal>
-    requires guard { AreCells (store_of engine.old) guard.now }
+    requires guard { AreCells (store_of engine.old) guard.now.items }
     requires right { AreCells (store_of engine.old) right.now }
     requires left { Has (store_of engine.old) left }
     requires out { AreCells (store_of engine.old) out.old.items }
     ensures cells { OnOk result (AreCells (store_of engine.new) out.new.items) }
     ensures has { IfOk result (Has (store_of engine.new)) }
-    ensures shows { OnOk result ((bits : List Bool) (b : Checked Bool) (d : Checked (List Values)) → Reads (λ r. value_of (store_of engine.old) r bits) guard.now (truths b) → Reads (λ r. value_of (store_of engine.old) r bits) right.now d
+    ensures shows { OnOk result ((bits : List Bool) (b : Checked Bool) (d : Checked (List Values)) → Reads (λ r. value_of (store_of engine.old) r bits) guard.now.items (truths b) → Reads (λ r. value_of (store_of engine.old) r bits) right.now d
         → (k : Checked Values) → shows (λ r. value_of (store_of engine.new) r bits) out.new.items k ≡ (shows (λ r. value_of (store_of engine.old) r bits) out.old.items k || (value_of (store_of engine.old) left bits && arm_shows b d k))) }
-    ensures rest { IfOk result (λ r. (bits : List Bool) (b : Checked Bool) → Reads (λ q. value_of (store_of engine.old) q bits) guard.now (truths b)
+    ensures rest { IfOk result (λ r. (bits : List Bool) (b : Checked Bool) → Reads (λ q. value_of (store_of engine.old) q bits) guard.now.items (truths b)
         → value_of (store_of engine.new) r bits ≡ (value_of (store_of engine.old) left bits && goes_on b)) }
     ensures held { IfErr result (IsRefusalOf (store_of engine.new)) }
     ensures keeps { Keeps engine.old engine.new steps.old steps.new }
-    ensures spends { Spends (2 * length guard.now + 2 * length right.now + 2) (store_of engine.old) (store_of engine.new) }
+    ensures spends { Spends (2 * length guard.now.items + 2 * length right.now + 2) (store_of engine.old) (store_of engine.new) }
 {
     spread(engine, guard, Pick::Faults, left, out, steps)?;
-    let yes = meet(engine, region_of(guard, Ok(truth(true))), left, steps)?;
+    let yes = meet(engine, guard.region_of(Ok(truth(true))), left, steps)?;
     spread(engine, right, Pick::All, yes, out, steps)?;
-    meet(engine, region_of(guard, Ok(truth(false))), left, steps)
+    meet(engine, guard.region_of(Ok(truth(false))), left, steps)
 }

@@ -12,6 +12,7 @@ ghost use Rattle.value_tables.specs.Cells.{shows, any_cell, AreCells};
 ghost use Rattle.value_tables.specs.Pick.{becomes};
 ghost use Rattle.value_tables.specs.Weights.{overlap, overlaps};
 
+use crate::cell_lists::CellList;
 use crate::cells::{Cell, add};
 use crate::pick::Pick;
 use crate::regions::meet;
@@ -25,7 +26,7 @@ fn put<L: Ledger>(
     cell: Cell,
     pick: Pick,
     within: Ref,
-    out: &mut Vec<Cell>,
+    out: &mut CellList,
     steps: &mut Steps<L>,
 ) -> Result<(), StoreRefusal>
     requires cell { Has (store_of engine.old) cell.region }
@@ -57,7 +58,7 @@ pub(crate) fn spread<L: Ledger>(
     cells: &[Cell],
     pick: Pick,
     within: Ref,
-    out: &mut Vec<Cell>,
+    out: &mut CellList,
     steps: &mut Steps<L>,
 ) -> Result<(), StoreRefusal>
     requires cells { All (λ (c : Cells). Has (store_of engine.old) c.region) cells.now }

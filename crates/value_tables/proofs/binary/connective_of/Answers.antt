@@ -1,10 +1,8 @@
-use Rattle.std.proofs.Common.{sym, subst, ◌+◌, ◌*◌, length, ap, arith}
-use Rattle.bdd_nodes.specs.Store.{value_of}
+use Rattle.std.proofs.Common.{◌+◌, ◌*◌, length, arith}
 use Rattle.value_tables.specs.declared.pick.Test.{Test}
-use Rattle.value_tables.specs.Cells.{Reads}
 use Rattle.value_tables.specs.Tables.{one_tested, truths, connective, guard_of}
 use Rattle.kripke_model.specs.Evaluation.{binary}
-use Rattle.value_tables.proofs.RegionLemmas.{Spends-then}
+use Rattle.value_tables.proofs.RegionLemmas.{keeps_join, Spends-then}
 use Rattle.value_tables.proofs.StepLemmas.{if_ok}
 use Rattle.value_tables.proofs.OperatorLemmas.{boolean_tested}
 use Rattle.value_tables.proofs.BinaryLemmas.{reads_as, connective_is, connective_single}
@@ -16,15 +14,16 @@ returns-clause-reads g c =
     if_ok c.combined.result c.combined.ensures.reads (λ w h bits r q x y.
     reads_as _ _ (connective c.args.op (guard_of r) (guard_of q)) (binary c.args.op r q) (connective_is c.args.op r q c.requires.op)
     (h bits (guard_of r) (guard_of q)
-    (subst (λ xs. Reads (λ n. value_of t n bits) xs (truths (guard_of r))) (sym c.deref.ensures.value) (reads_as _ _ (one_tested Test.Boolean r) (truths (guard_of r)) (boolean_tested r) (c.in_ok-pair.ensures.reads_left bits r x)))
-    (subst (λ xs. Reads (λ n. value_of t n bits) xs (truths (guard_of q))) (sym c.deref-2.ensures.value) (reads_as _ _ (one_tested Test.Boolean q) (truths (guard_of q)) (boolean_tested q) (c.in_ok-pair.ensures.reads_right bits q y)))))
+    (reads_as _ _ (one_tested Test.Boolean r) (truths (guard_of r)) (boolean_tested r) (c.in_ok-pair.ensures.reads_left bits r x))
+    (reads_as _ _ (one_tested Test.Boolean q) (truths (guard_of q)) (boolean_tested q) (c.in_ok-pair.ensures.reads_right bits q y))))
 
 pub returns-clause-single : goal.returns-clause-single
 returns-clause-single g c = if_ok c.combined.result c.combined.ensures.single (λ t h e. connective_single c.args.op c.requires.op)
 
 pub returns-clause-spends : goal.returns-clause-spends
 returns-clause-spends g c =
-    let l = ap length c.deref.ensures.value in
-    let r = ap length c.deref-2.ensures.value in
-    Spends-then c.args.engine.now.store c.tested_pair.new.engine.store c.combined.new.engine.store (5 * length c.args.left.now.cells.items + 5 * length c.args.right.now.cells.items + 4) (3 * length c.deref.result.now + 3 * length c.deref-2.result.now + 10) _ c.tested_pair.ensures.keeps.grows.levels
-    (omega (arith, l, r, c.in_ok-pair.ensures.few_left, c.in_ok-pair.ensures.few_right)) c.tested_pair.ensures.spends c.combined.ensures.spends
+    Spends-then c.args.engine.now.store c.tested_pair.new.engine.store c.combined.new.engine.store (5 * length c.args.left.now.cells.items + 5 * length c.args.right.now.cells.items + 4) (3 * length c.in_ok-pair.pair.left.items + 3 * length c.in_ok-pair.pair.right.items + 10) _ c.tested_pair.ensures.keeps.grows.levels
+    (omega (arith, c.in_ok-pair.ensures.few_left, c.in_ok-pair.ensures.few_right)) c.tested_pair.ensures.spends c.combined.ensures.spends
+
+pub returns-clause-keeps : goal.returns-clause-keeps
+returns-clause-keeps g c = keeps_join c.tested_pair.ensures.keeps c.combined.ensures.keeps

@@ -4,7 +4,7 @@ use Rattle.value_tables.specs.declared.pick.Test.{Test}
 use Rattle.value_tables.specs.Cells.{Reads}
 use Rattle.value_tables.specs.Tables.{alone, value_tested, one_tested, membership}
 use Rattle.kripke_model.specs.Evaluation.{binary}
-use Rattle.value_tables.proofs.RegionLemmas.{Spends-then}
+use Rattle.value_tables.proofs.RegionLemmas.{keeps_join, Spends-then}
 use Rattle.value_tables.proofs.StepLemmas.{if_ok}
 use Rattle.value_tables.proofs.BinaryLemmas.{reads_as, equality_is, equality_single}
 use Rattle.value_tables.proofs.binary.equality_of.Goals as goal
@@ -16,7 +16,7 @@ returns-clause-reads g c =
     reads_as _ _ (membership (value_tested Test.Any r) (alone (value_tested Test.Any q))) (binary c.args.op r q) (equality_is c.args.op r q c.requires.op)
     (h bits (value_tested Test.Any r) (one_tested Test.Any q)
     (subst (λ xs. Reads (λ n. value_of t n bits) xs (one_tested Test.Any r)) (sym c.deref.ensures.value) (c.in_ok-pair.ensures.reads_left bits r x))
-    (subst (λ xs. Reads (λ n. value_of t n bits) xs (one_tested Test.Any q)) (sym c.deref-2.ensures.value) (c.in_ok-pair.ensures.reads_right bits q y))))
+    (c.in_ok-pair.ensures.reads_right bits q y)))
 
 pub returns-clause-single : goal.returns-clause-single
 returns-clause-single g c = if_ok c.compared.result c.compared.ensures.single (λ t h e. equality_single c.args.op c.requires.op)
@@ -24,6 +24,8 @@ returns-clause-single g c = if_ok c.compared.result c.compared.ensures.single (�
 pub returns-clause-spends : goal.returns-clause-spends
 returns-clause-spends g c =
     let l = ap length c.deref.ensures.value in
-    let r = ap length c.deref-2.ensures.value in
-    Spends-then c.args.engine.now.store c.tested_pair.new.engine.store c.compared.new.engine.store (5 * length c.args.left.now.cells.items + 5 * length c.args.right.now.cells.items + 4) (5 * length c.deref.result.now + 3 * length c.deref-2.result.now + 8) _ c.tested_pair.ensures.keeps.grows.levels
-    (omega (arith, l, r, c.in_ok-pair.ensures.few_left, c.in_ok-pair.ensures.few_right)) c.tested_pair.ensures.spends c.compared.ensures.spends
+    Spends-then c.args.engine.now.store c.tested_pair.new.engine.store c.compared.new.engine.store (5 * length c.args.left.now.cells.items + 5 * length c.args.right.now.cells.items + 4) (5 * length c.deref.result.now + 3 * length c.in_ok-pair.pair.right.items + 8) _ c.tested_pair.ensures.keeps.grows.levels
+    (omega (arith, l, c.in_ok-pair.ensures.few_left, c.in_ok-pair.ensures.few_right)) c.tested_pair.ensures.spends c.compared.ensures.spends
+
+pub returns-clause-keeps : goal.returns-clause-keeps
+returns-clause-keeps g c = keeps_join c.tested_pair.ensures.keeps c.compared.ensures.keeps

@@ -6,7 +6,7 @@ use Rattle.value_tables.specs.Tables.{alone, value_tested, one_tested, paired}
 use Rattle.kripke_model.specs.Evaluation.{binary}
 use Rattle.value_tables.specs.declared.cells.Cell.{Cell}
 use Rattle.value_tables.specs.Weights.{AreApart}
-use Rattle.value_tables.proofs.RegionLemmas.{Spends-then}
+use Rattle.value_tables.proofs.RegionLemmas.{keeps_join, Spends-then}
 use Rattle.value_tables.proofs.ReadingCounts.{amount_single, reads-apart}
 use Rattle.value_tables.proofs.StepLemmas.{if_ok}
 use Rattle.value_tables.proofs.BinaryLemmas.{single_alone, reads_as, arithmetic_is, arithmetic_single}
@@ -37,3 +37,6 @@ returns-clause-spends g c =
     let same = ap (λ n. 2 ^ n) c.tested_pair.ensures.keeps.grows.levels in
     Spends-then s t c.calculated.new.engine.store (5 * length c.args.left.now.cells.items + 5 * length c.args.right.now.cells.items + 4) _ _ c.tested_pair.ensures.keeps.grows.levels
     (omega (arith, l, r, same)) c.tested_pair.ensures.spends (c.calculated.ensures.spends apart_left apart_right)
+
+pub returns-clause-keeps : goal.returns-clause-keeps
+returns-clause-keeps g c = keeps_join c.tested_pair.ensures.keeps c.calculated.ensures.keeps

@@ -1,4 +1,4 @@
-use Rattle.value_tables.proofs.RegionLemmas.{AreCells-grows}
+use Rattle.value_tables.proofs.RegionLemmas.{AreCells-grows, keeps_join}
 use Rattle.value_tables.proofs.BinaryLemmas.{reads_grows}
 use Rattle.value_tables.proofs.binary.tested_pair.Goals as goal
 
@@ -13,3 +13,6 @@ returns-clause-reads_left g c = λ bits r o. reads_grows c.tested.new.engine.sto
 
 pub returns-clause-reads_right : goal.returns-clause-reads_right
 returns-clause-reads_right g c = λ bits r o. c.in_ok-right.ensures.reads bits r (reads_grows c.args.engine.now.store c.tested.new.engine.store c.tested.ensures.keeps.grows c.args.right.now.cells.items c.requires.right.has bits r o.reads) o.proper o.few
+
+pub returns-clause-keeps : goal.returns-clause-keeps
+returns-clause-keeps g c = keeps_join c.tested.ensures.keeps c.tested-2.ensures.keeps

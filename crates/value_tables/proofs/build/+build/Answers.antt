@@ -24,6 +24,7 @@ use Rattle.value_tables.proofs.EvalLemmas.{eval_proper, elements_at, elements_pa
 use Rattle.value_tables.proofs.BuildLemmas.{operand, term_table, not_table, binary_table, braces_table, IsTable-grows, evaluable_at, arm_evaluable_at, elements_evaluable, nodes_at, arm_nodes_at, no_cells, no_values, no_arms, last_arm}
 use Rattle.value_tables.specs.declared.cells.Cell.{Cell}
 use Rattle.value_tables.specs.Work.{Spends, allowance, list_allowance}
+use Rattle.std.proofs.lemmas.Result.{err_from_is_err_and}
 use Rattle.value_tables.proofs.ReadingCounts.{few_more, none_few, eval_amount, node_count-some, reads-few, table-few}
 use Rattle.value_tables.proofs.GrowthLemmas.{nodes_of, nodes_of_arms, nodes_step, nodes_more_le, nodes_all, arms_step, arms_more_le, arms_all, variable_spends, running_spends, next_spends, not_spends, left_spends, both_spend, binary_spends, element_started, element_spends, list_spends, arm_guard, arm_tested, arm_right, arm_spends, arms_spend}
 use Rattle.value_tables.proofs.build.+build.Goals as goal
@@ -126,13 +127,12 @@ build_arms-loop-arm-preserved g t c =
     let d : List Bool → Checked (List Value) = meaning_of lay m c.args.next (term_of a.right) in
     let good = arm_evaluable_at m arms n a c.loop-arm-test.true c.requires.evaluable in
     let here : IsEvaluable m (term_of a.guard) = subst (λ (x : Arm). IsEvaluable m (term_of x.guard)) (sym c.arm-item.is) good.0 in
-    let guard : (bits : List Bool) → Reads (λ q. value_of s3 q bits) c.deref.result.now (truths (guard_of (f bits))) = λ bits.
-    subst (λ xs. Reads (λ q. value_of s3 q bits) xs (truths (guard_of (f bits)))) (sym c.deref.ensures.value)
-    (reads_grows s2 s3 c.build-in-loop-arm.ensures.keeps.grows _ c.in_ok-guard-2.ensures.cells.has bits (truths (guard_of (f bits)))
+    let guard : (bits : List Bool) → Reads (λ q. value_of s3 q bits) c.in_ok-guard-2.guard.items (truths (guard_of (f bits))) = λ bits.
+    reads_grows s2 s3 c.build-in-loop-arm.ensures.keeps.grows _ c.in_ok-guard-2.ensures.cells.has bits (truths (guard_of (f bits)))
     (reads_as _ _ (one_tested Test.Boolean (f bits)) (truths (guard_of (f bits))) (boolean_tested (f bits))
-    (c.in_ok-guard-2.ensures.reads bits (f bits) (c.in_ok-guard.ensures.table.reads bits) (eval_proper m (term_of a.guard) _ _ here) (λ e. c.in_ok-guard.ensures.table.at_most_one e bits)))) in
-    let right : (bits : List Bool) → Reads (λ q. value_of s3 q bits) c.deref-in-loop-arm.result.now (d bits) = λ bits.
-    subst (λ xs. Reads (λ q. value_of s3 q bits) xs (d bits)) (sym c.deref-in-loop-arm.ensures.value) (c.in_ok-right.ensures.table.reads bits) in
+    (c.in_ok-guard-2.ensures.reads bits (f bits) (c.in_ok-guard.ensures.table.reads bits) (eval_proper m (term_of a.guard) _ _ here) (λ e. c.in_ok-guard.ensures.table.at_most_one e bits))) in
+    let right : (bits : List Bool) → Reads (λ q. value_of s3 q bits) c.deref.result.now (d bits) = λ bits.
+    subst (λ xs. Reads (λ q. value_of s3 q bits) xs (d bits)) (sym c.deref.ensures.value) (c.in_ok-right.ensures.table.reads bits) in
     record {
       cells = c.in_ok-left.ensures.cells;
       left = c.in_ok-left.ensures.has;
@@ -149,9 +149,9 @@ build_arms-loop-arm-preserved g t c =
           (node_count-some (term_of a.guard)) (node_count-some (term_of a.right)) (arms_step arms n a c.loop-arm-test.true c.arm-item.is) i.spends c.build.ensures.spends
           s2 c.tested.ensures.keeps.grows (table-few s1 c.in_ok-guard.guard.cells.items _ f (node_count (term_of a.guard)) c.in_ok-guard.ensures.table (λ bits. eval_amount m (term_of a.guard) (state_shown lay c.args.next bits) (state_shown lay true bits))) c.tested.ensures.spends
           s3 c.build-in-loop-arm.ensures.keeps.grows c.build-in-loop-arm.ensures.spends
-          c.choose.new.engine.store (length c.deref.result.now) (length c.deref-in-loop-arm.result.now)
-          (subst (λ (xs : List Cell). length xs ≤ length c.in_ok-guard.guard.cells.items + 1) (sym c.deref.ensures.value) c.in_ok-guard-2.ensures.few)
-          (subst (λ (xs : List Cell). length xs ≤ node_count (term_of a.right) * 2 ^ levels_of s3) (sym c.deref-in-loop-arm.ensures.value) (table-few s3 c.in_ok-right.right.cells.items _ d (node_count (term_of a.right)) c.in_ok-right.ensures.table (λ bits. eval_amount m (term_of a.right) (state_shown lay c.args.next bits) (state_shown lay true bits))))
+          c.choose.new.engine.store (length c.in_ok-guard-2.guard.items) (length c.deref.result.now)
+          c.in_ok-guard-2.ensures.few
+          (subst (λ (xs : List Cell). length xs ≤ node_count (term_of a.right) * 2 ^ levels_of s3) (sym c.deref.ensures.value) (table-few s3 c.in_ok-right.right.cells.items _ d (node_count (term_of a.right)) c.in_ok-right.ensures.table (λ bits. eval_amount m (term_of a.right) (state_shown lay c.args.next bits) (state_shown lay true bits))))
           c.choose.ensures.spends;
       keeps = keeps_join (keeps_join (keeps_join (keeps_join i.keeps c.build.ensures.keeps) c.tested.ensures.keeps) c.build-in-loop-arm.ensures.keeps) c.choose.ensures.keeps;
     }
@@ -239,7 +239,7 @@ build_arms-build-requires-in-loop-arm g t c =
     search rules
 
 pub build_arms-choose-requires-clause-guard : goal.build_arms-choose-requires-clause-guard
-build_arms-choose-requires-clause-guard g t c = subst (AreCells c.build-in-loop-arm.new.engine.store) (sym c.deref.ensures.value) (AreCells-grows c.tested.new.engine.store c.build-in-loop-arm.new.engine.store c.build-in-loop-arm.ensures.keeps.grows _ c.in_ok-guard-2.ensures.cells)
+build_arms-choose-requires-clause-guard g t c = AreCells-grows c.tested.new.engine.store c.build-in-loop-arm.new.engine.store c.build-in-loop-arm.ensures.keeps.grows _ c.in_ok-guard-2.ensures.cells
 
 pub build_arms-choose-requires-clause-out : goal.build_arms-choose-requires-clause-out
 build_arms-choose-requires-clause-out g t c =
@@ -454,12 +454,45 @@ build_arms-returns-in_err-left-clause-spends g t c =
     (node_count-some (term_of a.guard)) (node_count-some (term_of a.right)) (arms_more_le arms n a c.loop-arm-test.true c.arm-item.is) i.spends c.build.ensures.spends
     c.tested.new.engine.store c.tested.ensures.keeps.grows (table-few s1 c.in_ok-guard.guard.cells.items _ f (node_count (term_of a.guard)) c.in_ok-guard.ensures.table (λ bits. eval_amount m (term_of a.guard) (state_shown lay c.args.next bits) (state_shown lay true bits))) c.tested.ensures.spends
     s3 c.build-in-loop-arm.ensures.keeps.grows c.build-in-loop-arm.ensures.spends
-    c.choose.new.engine.store (length c.deref.result.now) (length c.deref-in-loop-arm.result.now)
-    (subst (λ (xs : List Cell). length xs ≤ length c.in_ok-guard.guard.cells.items + 1) (sym c.deref.ensures.value) c.in_ok-guard-2.ensures.few)
-    (subst (λ (xs : List Cell). length xs ≤ node_count (term_of a.right) * 2 ^ levels_of s3) (sym c.deref-in-loop-arm.ensures.value) (table-few s3 c.in_ok-right.right.cells.items _ d (node_count (term_of a.right)) c.in_ok-right.ensures.table (λ bits. eval_amount m (term_of a.right) (state_shown lay c.args.next bits) (state_shown lay true bits))))
+    c.choose.new.engine.store (length c.in_ok-guard-2.guard.items) (length c.deref.result.now)
+    c.in_ok-guard-2.ensures.few
+    (subst (λ (xs : List Cell). length xs ≤ node_count (term_of a.right) * 2 ^ levels_of s3) (sym c.deref.ensures.value) (table-few s3 c.in_ok-right.right.cells.items _ d (node_count (term_of a.right)) c.in_ok-right.ensures.table (λ bits. eval_amount m (term_of a.right) (state_shown lay c.args.next bits) (state_shown lay true bits))))
     c.choose.ensures.spends)
 
 pub build_arms-returns-in_err-add-clause-spends : goal.build_arms-returns-in_err-add-clause-spends
 build_arms-returns-in_err-add-clause-spends g t c =
     arms_spend c.args.engine.now.store c.loop-arm.engine.store c.add.new.engine.store c.loop-arm.invariant.keeps.grows (nodes_of_arms (take c.loop-arm.arm-index c.args.arms.now)) (arm_nodes (arms_in c.args.arms.now))
     (sym (arms_all c.args.arms.now c.loop-arm.arm-index c.loop-arm-test.false)) c.loop-arm.invariant.spends c.add.ensures.spends
+
+pub build-returns-in_err-right-in-Binary-clause-keeps : goal.build-returns-in_err-right-in-Binary-clause-keeps
+build-returns-in_err-right-in-Binary-clause-keeps g t c = keeps_join c.build-in-Binary.ensures.keeps c.build-in-Binary-2.ensures.keeps
+
+pub build-returns-in_ok-operand-in-Not-clause-keeps : goal.build-returns-in_ok-operand-in-Not-clause-keeps
+build-returns-in_ok-operand-in-Not-clause-keeps g t c = keeps_join c.build-in-Not.ensures.keeps c.negated.ensures.keeps
+
+pub build_elements-returns-in_err-table-clause-keeps : goal.build_elements-returns-in_err-table-clause-keeps
+build_elements-returns-in_err-table-clause-keeps g t c = keeps_join c.loop-element.invariant.keeps c.build.ensures.keeps
+
+pub build_elements-united-requires-clause-left : goal.build_elements-united-requires-clause-left
+build_elements-united-requires-clause-left g t c =
+    let b = c.build.new.engine.store in
+    subst (AreCells b) (sym c.deref.ensures.value) (AreCells-grows c.loop-element.engine.store b c.build.ensures.keeps.grows c.loop-element.cells.items c.loop-element.invariant.cells)
+
+pub build_arms-returns-in_err-guard-clause-keeps : goal.build_arms-returns-in_err-guard-clause-keeps
+build_arms-returns-in_err-guard-clause-keeps g t c = keeps_join c.loop-arm.invariant.keeps c.build.ensures.keeps
+
+pub build_arms-returns-in_err-right-clause-held : goal.build_arms-returns-in_err-right-clause-held
+build_arms-returns-in_err-right-clause-held g t c =
+    let p = err_from_is_err_and c.from_residual-in_err-right.result c.from_residual-in_err-right.ensures.1 in
+    rw (p.1, p.2) c.in_err-right.ensures.held
+
+pub build_arms-returns-in_err-left-clause-held : goal.build_arms-returns-in_err-left-clause-held
+build_arms-returns-in_err-left-clause-held g t c =
+    let p = err_from_is_err_and c.from_residual-in_err-left.result c.from_residual-in_err-left.ensures.1 in
+    rw (p.1, p.2) c.in_err-left.ensures.held
+
+pub build_arms-returns-in_err-add-clause-keeps : goal.build_arms-returns-in_err-add-clause-keeps
+build_arms-returns-in_err-add-clause-keeps g t c = keeps_join c.loop-arm.invariant.keeps c.add.ensures.keeps
+
+pub build_arms-returns-clause-keeps : goal.build_arms-returns-clause-keeps
+build_arms-returns-clause-keeps g t c = keeps_join c.loop-arm.invariant.keeps c.add.ensures.keeps

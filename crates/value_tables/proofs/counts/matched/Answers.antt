@@ -13,11 +13,11 @@ with_match-requires-clause-cell g c =
 
 pub with_match-requires-clause-right : goal.with_match-requires-clause-right
 with_match-requires-clause-right g c =
-    has_region_at c.args.engine.now.store c.loop-cell.engine.store c.loop-cell.invariant.keeps.grows c.args.right.now c.requires.right c.cell-item.result.reading c.region_of.result c.region_of.ensures
+    has_region_at c.args.engine.now.store c.loop-cell.engine.store c.loop-cell.invariant.keeps.grows c.args.right.now.items c.requires.right c.cell-item.result.reading c.region_of.result c.region_of.ensures
 
 pub loop-cell-init : goal.loop-cell-init
 loop-cell-init g c = record {
-  region = IsRegion-none c.args.engine.now.store (λ bits. at_region (λ q. value_of c.args.engine.now.store q bits) c.args.right.now) (λ bits q. value_of c.args.engine.now.store q bits);
+  region = IsRegion-none c.args.engine.now.store (λ bits. at_region (λ q. value_of c.args.engine.now.store q bits) c.args.right.now.items) (λ bits q. value_of c.args.engine.now.store q bits);
   keeps = Keeps-same c.args.engine.now c.args.steps.now;
   spends = Spends-same c.args.engine.now.store 0;
 }
@@ -30,12 +30,12 @@ loop-cell-preserved g c =
     let i = c.loop-cell.invariant in
     let e = c.in_ok-hit.ensures in
     record {
-      region = IsRegion-more s a b i.keeps.grows c.args.left.now c.loop-cell.cell-index c.cell-item.result c.loop-cell-test.true c.cell-item.is c.requires.left (λ bits. at_region (λ q. value_of s q bits) c.args.right.now) c.loop-cell.hit c.in_ok-hit.hit i.region e.region.has
-          (λ bits. e.region.value bits ∙ (λ j. value_of a c.loop-cell.hit bits || (region_at-grows s a i.keeps.grows c.args.right.now c.requires.right c.cell-item.result.reading c.region_of.result c.region_of.ensures bits j && value_of a c.cell-item.result.region bits)));
+      region = IsRegion-more s a b i.keeps.grows c.args.left.now c.loop-cell.cell-index c.cell-item.result c.loop-cell-test.true c.cell-item.is c.requires.left (λ bits. at_region (λ q. value_of s q bits) c.args.right.now.items) c.loop-cell.hit c.in_ok-hit.hit i.region e.region.has
+          (λ bits. e.region.value bits ∙ (λ j. value_of a c.loop-cell.hit bits || (region_at-grows s a i.keeps.grows c.args.right.now.items c.requires.right c.cell-item.result.reading c.region_of.result c.region_of.ensures bits j && value_of a c.cell-item.result.region bits)));
       keeps = Keeps-then c.args.engine.now c.loop-cell.engine c.with_match.new.engine c.args.steps.now c.loop-cell.steps c.with_match.new.steps i.keeps c.with_match.ensures.keeps;
       spends = Spends-then s a b (2 * c.loop-cell.cell-index) 2 (2 * (c.loop-cell.cell-index + 1)) i.keeps.grows.levels (omega arith) i.spends c.with_match.ensures.spends;
     }
 
 pub returns-clause-region : goal.returns-clause-region
 returns-clause-region g c =
-    IsRegion-all c.args.engine.now.store c.loop-cell.engine.store c.args.left.now c.loop-cell.cell-index (λ bits. at_region (λ q. value_of c.args.engine.now.store q bits) c.args.right.now) c.loop-cell.hit c.loop-cell-test.false c.loop-cell.invariant.region
+    IsRegion-all c.args.engine.now.store c.loop-cell.engine.store c.args.left.now c.loop-cell.cell-index (λ bits. at_region (λ q. value_of c.args.engine.now.store q bits) c.args.right.now.items) c.loop-cell.hit c.loop-cell-test.false c.loop-cell.invariant.region

@@ -8,7 +8,7 @@ use Rattle.value_tables.proofs.counts.matched.Given as goal
 
 abbrev pub invariant-loop-cell : goal.invariant-loop-cell
 invariant-loop-cell g l = record {
-  region : IsRegion (store_of l.engine) l.hit (λ bits. any_cell (λ q. value_of (store_of l.initial.engine) q bits) (at_region (λ q. value_of (store_of l.initial.engine) q bits) l.right) (take l.cell-index l.left));
+  region : IsRegion (store_of l.engine) l.hit (λ bits. any_cell (λ q. value_of (store_of l.initial.engine) q bits) (at_region (λ q. value_of (store_of l.initial.engine) q bits) l.right.items) (take l.cell-index l.left));
   keeps : Keeps l.initial.engine l.engine l.initial.steps l.steps;
   spends : Spends (2 * l.cell-index) (store_of l.initial.engine) (store_of l.engine);
 }

@@ -76,3 +76,16 @@ returns-in_err-region-clause-keeps g c = keeps_join (keeps_join (keeps_join (kee
 
 pub returns-clause-keeps : goal.returns-clause-keeps
 returns-clause-keeps g c = keeps_join (keeps_join (keeps_join (keeps_join (keeps_join c.spread.ensures.keeps c.faulty_of.ensures.keeps) c.outside.ensures.keeps) c.spread-2.ensures.keeps) c.faulty_of-2.ensures.keeps) c.join.ensures.keeps
+
+pub returns-in_err-sound-clause-keeps : goal.returns-in_err-sound-clause-keeps
+returns-in_err-sound-clause-keeps g c = keeps_join (keeps_join c.spread.ensures.keeps c.faulty_of.ensures.keeps) c.outside.ensures.keeps
+
+pub spread-requires-2-clause-cells : goal.spread-requires-2-clause-cells
+spread-requires-2-clause-cells g c =
+    let k = keeps_join (keeps_join c.spread.ensures.keeps c.faulty_of.ensures.keeps) c.outside.ensures.keeps in
+    has-grows c.args.engine.now.store c.outside.new.engine.store k.grows c.args.right.now c.requires.right.has
+
+pub spread-requires-2-clause-out : goal.spread-requires-2-clause-out
+spread-requires-2-clause-out g c =
+    let k = keeps_join c.faulty_of.ensures.keeps c.outside.ensures.keeps in
+    AreCells-grows c.spread.new.engine.store c.outside.new.engine.store k.grows _ c.in_ok-spread.ensures.cells

@@ -2,7 +2,7 @@ use Rattle.std.proofs.Common.{◌∙◌, ◌&&◌, not, ap}
 use Rattle.bdd_nodes.specs.Store.{value_of}
 use Rattle.bdd_nodes.proofs.Tables.{Grows-then}
 use Rattle.value_tables.specs.Cells.{same_reading}
-use Rattle.value_tables.proofs.RegionLemmas.{any_cell-grows, keeps_join}
+use Rattle.value_tables.proofs.RegionLemmas.{any_cell-grows, AreCells-grows, keeps_join}
 use Rattle.value_tables.proofs.StepLemmas.{decided_each}
 use Rattle.value_tables.proofs.operators.decided.Goals as goal
 
@@ -37,3 +37,14 @@ returns-clause-shows g c =
     (b_e.value c.in_ok-no.no c.in_ok-no.ensures.region.has bits ∙ c.in_ok-no.ensures.region.value bits ∙ ap not (c.in_ok-covered.ensures.region.value bits))
     (c.add.ensures.keeps.grows.value c.in_ok-yes.yes c.in_ok-yes.ensures.region.has bits ∙ c.in_ok-yes.ensures.region.value bits
     ∙ (λ i. s_d.value c.args.hit c.requires.hit bits i && (c.in_ok-sound.ensures.region.value bits ∙ ap not (s_b.value c.args.faults.region c.requires.region bits)) i))
+
+pub returns-in_err-no-clause-keeps : goal.returns-in_err-no-clause-keeps
+returns-in_err-no-clause-keeps g c = keeps_join c.join.ensures.keeps c.outside.ensures.keeps
+
+pub returns-in_err-sound-clause-keeps : goal.returns-in_err-sound-clause-keeps
+returns-in_err-sound-clause-keeps g c = keeps_join (keeps_join c.join.ensures.keeps c.outside.ensures.keeps) c.outside-2.ensures.keeps
+
+pub add-requires-clause-cells : goal.add-requires-clause-cells
+add-requires-clause-cells g c =
+    let k = keeps_join (keeps_join (keeps_join c.join.ensures.keeps c.outside.ensures.keeps) c.outside-2.ensures.keeps) c.meet.ensures.keeps in
+    AreCells-grows c.args.engine.now.store c.meet.new.engine.store k.grows c.args.faults.cells.items c.requires.cells

@@ -1,7 +1,7 @@
 use Rattle.std.proofs.Common.{◌∙◌, ◌+◌, ◌*◌, ◌^◌, ◌||◌, length, arith}
 use Rattle.bdd_nodes.specs.Store.{levels_of, value_of}
 use Rattle.value_tables.specs.Tables.{alone}
-use Rattle.value_tables.proofs.RegionLemmas.{has-grows, pairs-grows}
+use Rattle.value_tables.proofs.RegionLemmas.{has-grows, pairs-grows, keeps_join}
 use Rattle.value_tables.proofs.WeightLemmas.{Spends-more}
 use Rattle.value_tables.proofs.GrowthLemmas.{pairs_spend}
 use Rattle.value_tables.proofs.OperatorLemmas.{paired_shows}
@@ -41,3 +41,9 @@ pub returns-in_err-faults-clause-spends : goal.returns-in_err-faults-clause-spen
 returns-in_err-faults-clause-spends g c =
     let s = c.args.engine.now.store in
     λ left right. Spends-more s c.faults_of.new.engine.store (3 * length c.args.left.now + 3 * length c.args.right.now + 2) (3 * length c.args.left.now + 3 * length c.args.right.now + 3 + 2 * 2 ^ levels_of s) (omega arith) c.faults_of.ensures.spends
+
+pub returns-in_err-pair_up-clause-keeps : goal.returns-in_err-pair_up-clause-keeps
+returns-in_err-pair_up-clause-keeps g c = keeps_join c.faults_of.ensures.keeps c.pair_up.ensures.keeps
+
+pub returns-clause-keeps : goal.returns-clause-keeps
+returns-clause-keeps g c = keeps_join c.faults_of.ensures.keeps c.pair_up.ensures.keeps
