@@ -1,5 +1,5 @@
-//! Builds the tables of `x + 1 mod N` and of `x = y` over two variables of the type `0..N-1`, and says how many rows
-//! they have and how many triples were made.
+//! Builds the tables of `x + 1 mod N`, `x = y`, `x < y` and `x * y` over two variables of the type `0..N-1`, and says
+//! how many rows they have and how many triples were made.
 //!
 //! Without arguments it builds them for a small N. With a word, a number N from 1 to 1,024, it says how much processor
 //! time each took.
@@ -121,6 +121,10 @@ enum Case {
     Next,
     /// `x = y`
     Same,
+    /// `x < y`
+    Less,
+    /// `x * y`
+    Product,
 }
 
 impl Case {
@@ -128,6 +132,8 @@ impl Case {
         match self {
             Case::Next => "x + 1 mod N",
             Case::Same => "x = y",
+            Case::Less => "x < y",
+            Case::Product => "x * y",
         }
     }
 
@@ -144,6 +150,8 @@ impl Case {
                 binary(alloc, BinOp::Mod, sum, modulus, count)
             }
             Case::Same => binary(alloc, BinOp::Eq, Expr::Var(0), Expr::Var(1), count),
+            Case::Less => binary(alloc, BinOp::Lt, Expr::Var(0), Expr::Var(1), count),
+            Case::Product => binary(alloc, BinOp::Mul, Expr::Var(0), Expr::Var(1), count),
         }
     }
 }
@@ -211,5 +219,7 @@ fn main(rt: HostRuntime) -> Result<()> {
         bail!("a number from 1 to 1024");
     }
     run(&rt, Case::Next, count, timed)?;
-    run(&rt, Case::Same, count, timed)
+    run(&rt, Case::Same, count, timed)?;
+    run(&rt, Case::Less, count, timed)?;
+    run(&rt, Case::Product, count, timed)
 }
