@@ -1,5 +1,5 @@
 -- What contracts see of a table's cells, and the keys by which their readings are found.
-use Rattle.std.specs.Prelude.{ℕ, zero, suc, List, [], ◌∷◌, map, Ok, Err}
+use Rattle.std.specs.Prelude.{ℕ, zero, suc, ◌+◌, ◌^◌, unsigned_abs, List, [], ◌∷◌, map, Ok, Err}
 use Rattle.kripke_model.specs.declared.expressions.Value.{Value}
 use Rattle.kripke_model.specs.declared.expressions.Value.TheVariants.{Number, Symbol}
 use Rattle.kripke_model.specs.Evaluation.{Checked}
@@ -15,6 +15,12 @@ abbrev pub key_of : Checked Value → Key
 key_of (Ok (Number i)) = Key.Number i
 key_of (Ok (Symbol c)) = Key.Symbol c
 key_of (Err kind) = Key.Fault (fault_number kind)
+
+-- a number by which a key is hashed
+abbrev pub key_number : Key → ℕ
+key_number (Key.Number i) = unsigned_abs i
+key_number (Key.Symbol c) = 2 ^ 32 + c
+key_number (Key.Fault k) = 2 ^ 33 + k
 
 abbrev pub keys_of : List Cell → List Key
 keys_of cells = map (λ (c : Cell). key_of c.reading) cells

@@ -2,22 +2,51 @@
 
 ghost use Rattle.std.specs.Prelude.{◌≡◌, ◌<◌, ◌++◌, ◌∷◌, [], None, OnOk, length, position};
 ghost use Rattle.value_tables.specs.Cells.{fault_number, same_reading, region_at};
-ghost use Rattle.value_tables.specs.CellLists.{key_of, with_region};
+ghost use Rattle.value_tables.specs.CellLists.{key_of, key_number, with_region};
 
 use crate::cells::Cell;
 use bdd_nodes::Ref;
 use indexmap::IndexSet;
 use kripke_model::expressions::{FaultKind, Value};
 use std::alloc::{AllocError, Global};
+use std::hash::{Hash, Hasher};
 use std::marker::Model;
 use std::ops::DerefSlice;
 
 /// A reading as a key of the index.
-#[derive(Clone, Copy, PartialEq, Eq, Hash)]
+#[derive(Clone, Copy, PartialEq, Eq)]
 pub(crate) enum Key {
     Number(i32),
     Symbol(u32),
     Fault(u8),
+}
+
+impl Key {
+    /// A number by which the key is hashed.
+    fn number(self) -> u64
+        ensures { result ≡ key_number self }
+    {
+        match self {
+            Key::Number(i) => u64::from(i.unsigned_abs()),
+            Key::Symbol(c) => 0x1_0000_0000 + u64::from(c),
+            Key::Fault(k) => 0x2_0000_0000 + u64::from(k),
+        }
+    }
+}
+
+// One number is hashed by one multiplication, where a derived `Hash` makes one for each field.
+impl Hash for Key {
+    ghost use Rattle.std.specs.Hash as fed;
+    ghost use Rattle.std.proofs.Common.{rules};
+    ghost use Rattle.std.specs.Cmp.Rules.{hashing};
+
+    ghost hash_input = { λ k. fed.u64 (key_number k) };
+
+    ghost respects_eq = { Prim.search (hashing, rules) };
+
+    fn hash<H: Hasher>(&self, state: &mut H) {
+        state.write_u64(self.number());
+    }
 }
 
 fn number_of(kind: FaultKind) -> u8
