@@ -1,6 +1,6 @@
 -- The operators of two operands, from their tested operands.
 use Rattle.std.proofs.Common.{◌≡◌, ℕ, ◌≤◌, Bool, true, false, not, ◌&&◌, ◌||◌, cond, List, [], ◌∷◌, ◌++◌, length, Ok, Err, ℤ, pos, negsuc, refl, sym, subst, ap, ◌∙◌, arith}
-use Rattle.std.specs.Prelude.{int_le, filter, ◌+ℤ◌, ◌-ℤ◌, ◌*ℤ◌, int_div, int_rem, int_lt, All}
+use Rattle.std.specs.Prelude.{int_le, filter, ◌+ℤ◌, ◌-ℤ◌, ◌*ℤ◌, int_div, int_rem, All}
 use Rattle.std.specs.Ordering.{int_eq}
 use Rattle.std.specs.List.{list_any}
 use Rattle.std.proofs.lemmas.Map.Views.{any-filter_same}
@@ -15,8 +15,9 @@ use Rattle.kripke_model.specs.Evaluation.{Checked, ◌>>=◌, among, single, tru
 use Rattle.value_tables.specs.declared.cells.Cell.{Cell}
 use Rattle.value_tables.specs.declared.pick.Test.{Test}
 use Rattle.value_tables.specs.Cells.{same_reading, any_of, Reads}
-use Rattle.value_tables.specs.Pick.{truth_of, tested_value, in_bounds, arithmetic, outcome}
-use Rattle.value_tables.specs.Tables.{alone, value_tested, membership, connective, logic, paired, all_values, guard_of, IsSingle, IsUnion, IsMember, IsEquality, IsConnective, IsArithmetic}
+use Rattle.value_tables.specs.Pick.{tested_value, in_bounds, arithmetic, outcome}
+use Rattle.value_tables.specs.Tables.{alone, value_tested, one_tested, membership, connective, logic, paired, all_values, guard_of, IsSingle, IsUnion, IsMember, IsEquality, IsConnective, IsOrder, IsArithmetic}
+use Rattle.value_tables.specs.Orders.{numbers, compares, comparison}
 use Rattle.value_tables.proofs.ReadingLists.{same-true}
 use Rattle.value_tables.proofs.OnceLemmas.{any_values}
 use Rattle.value_tables.proofs.RegionLemmas.{any_cell-grows}
@@ -133,21 +134,32 @@ divided_is f i j = by (int_eq j (pos 0))
     by true = refl
     by false = range_is (f i j)
 
-truth_is : (b : Bool) → alone (Ok (truth_of b)) ≡ Ok (truth b)
-truth_is true = refl
-truth_is false = refl
-
 pub arithmetic_is : (op : BinOp) (c d : Checked (List Value)) → IsArithmetic op → alone (paired op (value_tested Test.Number c) (value_tested Test.Number d)) ≡ binary op c d
 arithmetic_is BinOp.Mul c d is = on_numbers_as (λ i j. in_range (i *ℤ j)) BinOp.Mul (λ i j. range_is (i *ℤ j)) c d
 arithmetic_is BinOp.Div c d is = on_numbers_as (divided int_div) BinOp.Div (divided_is int_div) c d
 arithmetic_is BinOp.Add c d is = on_numbers_as (λ i j. in_range (i +ℤ j)) BinOp.Add (λ i j. range_is (i +ℤ j)) c d
 arithmetic_is BinOp.Sub c d is = on_numbers_as (λ i j. in_range (i -ℤ j)) BinOp.Sub (λ i j. range_is (i -ℤ j)) c d
 arithmetic_is BinOp.Mod c d is = on_numbers_as (divided int_rem) BinOp.Mod (divided_is int_rem) c d
-arithmetic_is BinOp.Lt c d is = on_numbers_as (λ i j. Ok (truth (int_lt i j))) BinOp.Lt (λ i j. truth_is (int_lt i j)) c d
-arithmetic_is BinOp.Gt c d is = on_numbers_as (λ i j. Ok (truth (int_lt j i))) BinOp.Gt (λ i j. truth_is (int_lt j i)) c d
-arithmetic_is BinOp.Le c d is = on_numbers_as (λ i j. Ok (truth (int_le i j))) BinOp.Le (λ i j. truth_is (int_le i j)) c d
-arithmetic_is BinOp.Ge c d is = on_numbers_as (λ i j. Ok (truth (int_le j i))) BinOp.Ge (λ i j. truth_is (int_le j i)) c d
 arithmetic_is op c d is = absurd is
+
+-- ---- order comparisons
+
+-- an operand that passes the test is a number
+pub number_tested : (c : Checked (List Value)) → one_tested Test.Number c ≡ numbers (c >>= number)
+number_tested (Err kind) = refl
+number_tested (Ok vs) = by (single vs)
+  where
+    by : (s : Checked Value) → alone (s >>= tested_value Test.Number) ≡ numbers (s >>= as_number)
+    by (Ok (Number i)) = refl
+    by (Ok (Symbol s)) = refl
+    by (Err kind) = refl
+
+pub comparison_is : (op : BinOp) (c d : Checked (List Value)) → IsOrder op → comparison op (c >>= number) (d >>= number) ≡ binary op c d
+comparison_is BinOp.Lt c d is = refl
+comparison_is BinOp.Gt c d is = refl
+comparison_is BinOp.Le c d is = refl
+comparison_is BinOp.Ge c d is = refl
+comparison_is op c d is = absurd is
 
 -- ---- at most one value
 
@@ -180,3 +192,11 @@ connective_single op is c d = subst IsSingle (connective_is op c d is) (single_c
 
 pub arithmetic_single : (op : BinOp) → IsArithmetic op → (c d : Checked (List Value)) → IsSingle (binary op c d)
 arithmetic_single op is c d = subst IsSingle (arithmetic_is op c d is) (single_alone (paired op (value_tested Test.Number c) (value_tested Test.Number d)))
+
+single_comparison : (op : BinOp) (a b : Checked ℤ) → IsSingle (comparison op a b)
+single_comparison op (Ok i) (Ok j) = one_truth (compares op i j)
+single_comparison op (Ok i) (Err kind) = tt
+single_comparison op (Err kind) b = tt
+
+pub comparison_single : (op : BinOp) → IsOrder op → (c d : Checked (List Value)) → IsSingle (binary op c d)
+comparison_single op is c d = subst IsSingle (comparison_is op c d is) (single_comparison op (c >>= number) (d >>= number))

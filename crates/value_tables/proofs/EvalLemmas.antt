@@ -1,5 +1,5 @@
 -- What expressions come to: some values, each once; and the parts of sets and of `case`.
-use Rattle.std.proofs.Common.{◌≡◌, ℕ, zero, suc, ◌+◌, ◌<◌, ◌≤◌, Bool, true, false, cond, not, ◌&&◌, ◌||◌, List, [], ◌∷◌, ◌++◌, length, get_or, drop, Ok, Err, refl, sym, subst, ap, ◌∙◌, arith, append-nil, append_assoc}
+use Rattle.std.proofs.Common.{◌≡◌, ℕ, zero, suc, ◌+◌, ◌<◌, ◌≤◌, Bool, true, false, cond, not, ◌&&◌, ◌||◌, List, [], ◌∷◌, ◌++◌, length, get_or, drop, Ok, Err, ℤ, refl, sym, subst, ap, ◌∙◌, arith, append-nil, append_assoc}
 use Rattle.std.proofs.lemmas.Bool.{or_parts, or_from}
 use Rattle.std.specs.Prelude.{filter}
 use Rattle.std.specs.List.{list_any}
@@ -10,12 +10,13 @@ use Rattle.kripke_model.specs.declared.expressions.Arm.{Arm}
 use Rattle.kripke_model.specs.Term.{Term, Arms, none, more, esac, arm}
 use Rattle.kripke_model.specs.System.{System, State}
 use Rattle.kripke_model.specs.Reading.{term_of, terms_in, arms_in}
-use Rattle.kripke_model.specs.Evaluation.{Checked, ◌>>=◌, same, among, distinct, truth, boolean, binary, runs, eval, eval_elements, eval_arms}
+use Rattle.kripke_model.specs.Evaluation.{Checked, ◌>>=◌, same, among, distinct, truth, boolean, number, binary, runs, eval, eval_elements, eval_arms}
 use Rattle.kripke_model.specs.Evaluable.{IsEvaluable, AreEvaluableArms}
 use Rattle.value_tables.specs.declared.pick.Test.{Test}
 use Rattle.value_tables.specs.Cells.{same_reading, any_of}
-use Rattle.value_tables.specs.Tables.{alone, IsProper, IsSingle, AreOnceValues, value_tested, membership, connective, guard_of, paired, all_values, negation, arm_shows, goes_on, IsConnective, IsArithmetic}
-use Rattle.value_tables.proofs.BinaryLemmas.{member_is, equality_is, connective_is, arithmetic_is, one_truth}
+use Rattle.value_tables.specs.Tables.{alone, IsProper, IsSingle, AreOnceValues, value_tested, membership, connective, guard_of, paired, all_values, negation, arm_shows, goes_on, IsConnective, IsOrder, IsArithmetic}
+use Rattle.value_tables.specs.Orders.{compares, comparison}
+use Rattle.value_tables.proofs.BinaryLemmas.{member_is, equality_is, connective_is, arithmetic_is, comparison_is, one_truth}
 
 -- ---- each value once
 
@@ -81,6 +82,14 @@ proper_union (Err kind) d h = tt
 arithmetic_proper : (op : BinOp) → IsArithmetic op → (c d : Checked (List Value)) → IsProper (binary op c d)
 arithmetic_proper op is c d = subst IsProper (arithmetic_is op c d is) (proper_alone (paired op (value_tested Test.Number c) (value_tested Test.Number d)))
 
+proper_comparison : (op : BinOp) (a b : Checked ℤ) → IsProper (comparison op a b)
+proper_comparison op (Ok i) (Ok j) = proper_truth (compares op i j)
+proper_comparison op (Ok i) (Err kind) = tt
+proper_comparison op (Err kind) b = tt
+
+comparison_proper : (op : BinOp) → IsOrder op → (c d : Checked (List Value)) → IsProper (binary op c d)
+comparison_proper op is c d = subst IsProper (comparison_is op c d is) (proper_comparison op (c >>= number) (d >>= number))
+
 connective_proper : (op : BinOp) → IsConnective op → (c d : Checked (List Value)) → IsProper (binary op c d)
 connective_proper op is c d = subst IsProper (connective_is op c d is) (proper_connective op (guard_of c) (guard_of d))
 
@@ -97,10 +106,10 @@ proper_binary BinOp.Div c d h = arithmetic_proper BinOp.Div tt c d
 proper_binary BinOp.Add c d h = arithmetic_proper BinOp.Add tt c d
 proper_binary BinOp.Sub c d h = arithmetic_proper BinOp.Sub tt c d
 proper_binary BinOp.Mod c d h = arithmetic_proper BinOp.Mod tt c d
-proper_binary BinOp.Lt c d h = arithmetic_proper BinOp.Lt tt c d
-proper_binary BinOp.Gt c d h = arithmetic_proper BinOp.Gt tt c d
-proper_binary BinOp.Le c d h = arithmetic_proper BinOp.Le tt c d
-proper_binary BinOp.Ge c d h = arithmetic_proper BinOp.Ge tt c d
+proper_binary BinOp.Lt c d h = comparison_proper BinOp.Lt tt c d
+proper_binary BinOp.Gt c d h = comparison_proper BinOp.Gt tt c d
+proper_binary BinOp.Le c d h = comparison_proper BinOp.Le tt c d
+proper_binary BinOp.Ge c d h = comparison_proper BinOp.Ge tt c d
 
 proper_elements : (c d : Checked (List Value)) → IsProper c → IsProper ((c >>= λ vs. d >>= λ ws. Ok (vs ++ ws)) >>= λ vs. Ok (distinct vs))
 proper_elements (Ok []) d h = absurd h

@@ -5,6 +5,7 @@ pub mod AddLemmas
 pub mod CellListLemmas
 pub mod SpreadLemmas
 pub mod CountLemmas
+pub mod OrderLemmas
 pub mod OnceLemmas
 pub mod ResultLemmas
 pub mod OperatorLemmas

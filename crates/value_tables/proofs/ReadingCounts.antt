@@ -13,7 +13,7 @@ use Rattle.value_tables.specs.declared.cells.Cell.{Cell}
 use Rattle.value_tables.specs.Cells.{readings, Reads, AreCells}
 use Rattle.value_tables.specs.Tables.{IsSingle, IsTable, all_values}
 use Rattle.value_tables.specs.Weights.{AreApart}
-use Rattle.value_tables.proofs.BinaryLemmas.{one_truth, member_single, equality_single, connective_single, arithmetic_single}
+use Rattle.value_tables.proofs.BinaryLemmas.{one_truth, member_single, equality_single, connective_single, arithmetic_single, comparison_single}
 use Rattle.value_tables.proofs.EvalLemmas.{single_negation}
 use Rattle.value_tables.proofs.OnceLemmas.{counted_most}
 use Rattle.value_tables.proofs.WeightLemmas.{cells-few}
@@ -80,10 +80,10 @@ binary_amount BinOp.Div c d = omega (arith, amount_single (binary BinOp.Div c d)
 binary_amount BinOp.Add c d = omega (arith, amount_single (binary BinOp.Add c d) (arithmetic_single BinOp.Add tt c d))
 binary_amount BinOp.Sub c d = omega (arith, amount_single (binary BinOp.Sub c d) (arithmetic_single BinOp.Sub tt c d))
 binary_amount BinOp.Mod c d = omega (arith, amount_single (binary BinOp.Mod c d) (arithmetic_single BinOp.Mod tt c d))
-binary_amount BinOp.Lt c d = omega (arith, amount_single (binary BinOp.Lt c d) (arithmetic_single BinOp.Lt tt c d))
-binary_amount BinOp.Gt c d = omega (arith, amount_single (binary BinOp.Gt c d) (arithmetic_single BinOp.Gt tt c d))
-binary_amount BinOp.Le c d = omega (arith, amount_single (binary BinOp.Le c d) (arithmetic_single BinOp.Le tt c d))
-binary_amount BinOp.Ge c d = omega (arith, amount_single (binary BinOp.Ge c d) (arithmetic_single BinOp.Ge tt c d))
+binary_amount BinOp.Lt c d = omega (arith, amount_single (binary BinOp.Lt c d) (comparison_single BinOp.Lt tt c d))
+binary_amount BinOp.Gt c d = omega (arith, amount_single (binary BinOp.Gt c d) (comparison_single BinOp.Gt tt c d))
+binary_amount BinOp.Le c d = omega (arith, amount_single (binary BinOp.Le c d) (comparison_single BinOp.Le tt c d))
+binary_amount BinOp.Ge c d = omega (arith, amount_single (binary BinOp.Ge c d) (comparison_single BinOp.Ge tt c d))
 
 choice_amount : (b : Checked Bool) (d r : Checked (List Value)) (n k : ℕ) → length (readings d) ≤ n → length (readings r) ≤ k + 1 → length (readings (b >>= λ x. cond x d r)) ≤ n + k + 1
 choice_amount (Ok true) d r n k h j = omega arith

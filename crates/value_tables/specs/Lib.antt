@@ -3,6 +3,7 @@ pub mod Cells
 pub mod CellLists
 pub mod Pick
 pub mod Tables
+pub mod Orders
 pub mod States
 pub mod Regions
 pub mod Weights

@@ -1,5 +1,5 @@
 -- What becomes of a reading.
-use Rattle.std.specs.Prelude.{Bool, true, false, not, ◌&&◌, if◌then◌else◌, ℤ, pos, negsuc, int_div, int_rem, int_lt, int_le, ◌+ℤ◌, ◌-ℤ◌, ◌*ℤ◌, Ok, Err, Option, Some, None}
+use Rattle.std.specs.Prelude.{Bool, true, false, not, ◌&&◌, if◌then◌else◌, ℤ, pos, negsuc, int_div, int_rem, int_le, ◌+ℤ◌, ◌-ℤ◌, ◌*ℤ◌, Ok, Err, Option, Some, None}
 use Rattle.std.specs.Ordering.{int_eq}
 use Rattle.std.specs.Option.{option_map_or}
 use Rattle.kripke_model.specs.declared.expressions.Value.{Value}
@@ -35,13 +35,9 @@ arithmetic BinOp.Div i j = if int_eq j (pos 0) then Err FaultKind.ZeroDivisor el
 arithmetic BinOp.Add i j = in_bounds (i +ℤ j)
 arithmetic BinOp.Sub i j = in_bounds (i -ℤ j)
 arithmetic BinOp.Mod i j = if int_eq j (pos 0) then Err FaultKind.ZeroDivisor else in_bounds (int_rem i j)
-arithmetic BinOp.Lt i j = Ok (truth_of (int_lt i j))
-arithmetic BinOp.Gt i j = Ok (truth_of (int_lt j i))
-arithmetic BinOp.Le i j = Ok (truth_of (int_le i j))
-arithmetic BinOp.Ge i j = Ok (truth_of (int_le j i))
 arithmetic op i j = Err FaultKind.NotNumber
 
--- what arithmetic or an order comparison makes of two values
+-- what arithmetic makes of two values
 abbrev pub outcome : BinOp → Value → Value → Checked Value
 outcome op v w = do
   i ← as_number v

@@ -155,8 +155,11 @@ IsArithmetic BinOp.Div = Unit {0}
 IsArithmetic BinOp.Add = Unit {0}
 IsArithmetic BinOp.Sub = Unit {0}
 IsArithmetic BinOp.Mod = Unit {0}
-IsArithmetic BinOp.Lt = Unit {0}
-IsArithmetic BinOp.Gt = Unit {0}
-IsArithmetic BinOp.Le = Unit {0}
-IsArithmetic BinOp.Ge = Unit {0}
 IsArithmetic op = ⊥
+
+abbrev pub IsOrder : BinOp → Type 0
+IsOrder BinOp.Lt = Unit {0}
+IsOrder BinOp.Gt = Unit {0}
+IsOrder BinOp.Le = Unit {0}
+IsOrder BinOp.Ge = Unit {0}
+IsOrder op = ⊥

@@ -9,11 +9,11 @@ ghost use Rattle.kripke_model.specs.Evaluation.{Checked, binary};
 ghost use Rattle.value_tables.specs.Work.{Keeps, Spends, operator_allowance};
 ghost use Rattle.value_tables.specs.Weights.{AreOperands};
 ghost use Rattle.value_tables.specs.Cells.{Reads, AreCells};
-ghost use Rattle.value_tables.specs.Tables.{IsOperand, IsSingle, one_tested, IsUnion, IsMember, IsEquality, IsConnective, IsArithmetic};
+ghost use Rattle.value_tables.specs.Tables.{IsOperand, IsSingle, one_tested, IsUnion, IsMember, IsEquality, IsConnective, IsOrder, IsArithmetic};
 
 use crate::cell_lists::CellList;
 use crate::operands::{Table, tested};
-use crate::operators::{combined, compared};
+use crate::operators::{combined, compared, ordered};
 use crate::pairs::calculated;
 use crate::pick::Test;
 use crate::sets::united;
@@ -153,6 +153,29 @@ fn connective_of<L: Ledger>(
     combined(alloc, engine, op, &pair.left, &pair.right, steps)
 }
 
+fn comparison_of<L: Ledger>(
+    alloc: Global,
+    engine: &mut Engine,
+    op: BinOp,
+    left: &Table,
+    right: &Table,
+    steps: &mut Steps<L>,
+) -> Result<Table, StoreRefusal>
+    requires op { IsOrder op }
+    requires left { AreCells (store_of engine.old) left.now.cells.items }
+    requires right { AreCells (store_of engine.old) right.now.cells.items }
+    ensures cells { IfOk result (λ t. AreCells (store_of engine.new) t.cells.items) }
+    ensures reads { IfOk result (λ t. (bits : List Bool) (c d : Checked (List Values)) → IsOperand (λ r. value_of (store_of engine.old) r bits) left.now.cells.items left.now.single c → IsOperand (λ r. value_of (store_of engine.old) r bits) right.now.cells.items right.now.single d
+        → Reads (λ r. value_of (store_of engine.new) r bits) t.cells.items (binary op c d)) }
+    ensures single { IfOk result (λ t. t.single ≡ true → (c d : Checked (List Values)) → IsSingle (binary op c d)) }
+    ensures held { IfErr result (IsRefusalOf (store_of engine.new)) }
+    ensures keeps { Keeps engine.old engine.new steps.old steps.new }
+    ensures spends { Spends (operator_allowance (length left.now.cells.items) (length right.now.cells.items) (2 ^ levels_of (store_of engine.old))) (store_of engine.old) (store_of engine.new) }
+{
+    let pair = tested_pair(alloc, engine, Test::Number, left, right, steps)?;
+    ordered(alloc, engine, op, &pair.left, &pair.right, steps)
+}
+
 fn outcome_of<L: Ledger>(
     alloc: Global,
     engine: &mut Engine,
@@ -203,6 +226,9 @@ pub(crate) fn binary_of<L: Ledger>(
         BinOp::Eq => equality_of(alloc, engine, op, left, right, steps),
         BinOp::And | BinOp::Or | BinOp::Implies | BinOp::Iff => {
             connective_of(alloc, engine, op, left, right, steps)
+        }
+        BinOp::Lt | BinOp::Gt | BinOp::Le | BinOp::Ge => {
+            comparison_of(alloc, engine, op, left, right, steps)
         }
         _ => outcome_of(alloc, engine, op, left, right, steps),
     }

@@ -9,6 +9,7 @@ mod cells;
 mod counts;
 mod operands;
 mod operators;
+mod orders;
 mod pairs;
 mod pick;
 mod regions;

@@ -1,6 +1,6 @@
 //! The operators on tables.
 
-ghost use Rattle.std.specs.Prelude.{◌≡◌, ◌≤◌, ◌+◌, ◌*◌, ◌^◌, ◌&&◌, ◌||◌, not, if◌then◌else◌, ℕ, Bool, true, false, List, [], ◌∷◌, ◌++◌, Ok, IfOk, IfErr, OnOk, All, length};
+ghost use Rattle.std.specs.Prelude.{◌≡◌, ◌≤◌, ◌+◌, ◌*◌, ◌^◌, ◌&&◌, ◌||◌, not, if◌then◌else◌, ℕ, ℤ, Bool, true, false, List, [], ◌∷◌, ◌++◌, Ok, IfOk, IfErr, OnOk, All, length};
 ghost use Rattle.bdd_nodes.specs.Store.{Has, value_of, levels_of};
 ghost use Rattle.bdd_nodes.specs.Refusal.{IsRefusalOf};
 ghost use Rattle.bdd_ops.specs.Engine.{store_of};
@@ -11,11 +11,13 @@ ghost use Rattle.value_tables.specs.Work.{Keeps, Spends, IsRegion};
 ghost use Rattle.value_tables.specs.Cells.{same_reading, shows, Reads, AreCells};
 ghost use Rattle.value_tables.specs.Pick.{truth_of};
 ghost use Rattle.value_tables.specs.Tables.{logic, alone, IsTable, membership, truths, connective};
+ghost use Rattle.value_tables.specs.Orders.{numbers, comparison, in_order};
 
 use crate::cell_lists::CellList;
 use crate::cells::{Cell, add};
 use crate::counts::matched;
 use crate::operands::{Faults, Table, faults_of, tested};
+use crate::orders::below;
 use crate::pick::{Pick, Test, truth};
 use crate::regions::{alike, join, meet, outside};
 use crate::spread::spread;
@@ -152,5 +154,53 @@ pub(crate) fn combined<L: Ledger>(
     let a = left.region_of(Ok(truth(true)));
     let b = right.region_of(Ok(truth(true)));
     let hit = connected(engine, op, a, b, steps)?;
+    decided(engine, faults, hit, steps)
+}
+
+/// The region where an order comparison holds of two numbers.
+fn related<L: Ledger>(
+    alloc: Global,
+    engine: &mut Engine,
+    op: BinOp,
+    left: &[Cell],
+    right: &[Cell],
+    steps: &mut Steps<L>,
+) -> Result<Ref, StoreRefusal>
+    requires left { All (λ (c : Cells). Has (store_of engine.old) c.region) left.now }
+    requires right { All (λ (c : Cells). Has (store_of engine.old) c.region) right.now }
+    ensures region { IfOk result (λ r. IsRegion (store_of engine.new) r (λ bits. in_order (λ q. value_of (store_of engine.old) q bits) op left.now right.now)) }
+    ensures held { IfErr result (IsRefusalOf (store_of engine.new)) }
+    ensures keeps { Keeps engine.old engine.new steps.old steps.new }
+    ensures spends { Spends (2 * length left.now + 2 * length right.now) (store_of engine.old) (store_of engine.new) }
+{
+    match op {
+        BinOp::Lt => below(alloc, engine, true, left, right, steps),
+        BinOp::Le => below(alloc, engine, false, left, right, steps),
+        BinOp::Gt => below(alloc, engine, true, right, left, steps),
+        _ => below(alloc, engine, false, right, left, steps),
+    }
+}
+
+/// `<`, `<=`, `>` and `>=` on operands that are numbers.
+pub(crate) fn ordered<L: Ledger>(
+    alloc: Global,
+    engine: &mut Engine,
+    op: BinOp,
+    left: &[Cell],
+    right: &[Cell],
+    steps: &mut Steps<L>,
+) -> Result<Table, StoreRefusal>
+    requires left { AreCells (store_of engine.old) left.now }
+    requires right { AreCells (store_of engine.old) right.now }
+    ensures cells { IfOk result (λ t. AreCells (store_of engine.new) t.cells.items) }
+    ensures single { IfOk result (λ t. t.single ≡ true) }
+    ensures reads { IfOk result (λ t. (bits : List Bool) (a b : Checked ℤ) → Reads (λ r. value_of (store_of engine.old) r bits) left.now (numbers a) → Reads (λ r. value_of (store_of engine.old) r bits) right.now (numbers b)
+        → Reads (λ r. value_of (store_of engine.new) r bits) t.cells.items (comparison op a b)) }
+    ensures held { IfErr result (IsRefusalOf (store_of engine.new)) }
+    ensures keeps { Keeps engine.old engine.new steps.old steps.new }
+    ensures spends { Spends (5 * length left.now + 5 * length right.now + 8) (store_of engine.old) (store_of engine.new) }
+{
+    let faults = faults_of(alloc, engine, left, right, steps)?;
+    let hit = related(alloc, engine, op, left, right, steps)?;
     decided(engine, faults, hit, steps)
 }

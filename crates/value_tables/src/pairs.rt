@@ -83,7 +83,7 @@ fn pair_up<L: Ledger>(
     Ok(())
 }
 
-/// Arithmetic and order comparisons on operands that are numbers.
+/// Arithmetic on operands that are numbers.
 pub(crate) fn calculated<L: Ledger>(
     alloc: Global,
     engine: &mut Engine,

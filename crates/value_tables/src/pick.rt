@@ -48,8 +48,7 @@ pub(crate) enum Pick {
     Tested(Test),
     /// 0 and 1 change places, and any other value becomes a fault.
     Negated,
-    /// A right operand becomes the outcome of arithmetic or of an order comparison with this left operand, and a fault
-    /// is left out.
+    /// A right operand becomes the outcome of arithmetic with this left operand, and a fault is left out.
     With(BinOp, Value),
 }
 
@@ -135,10 +134,6 @@ fn arithmetic(op: BinOp, i: i32, j: i32) -> Result<Value, FaultKind>
         BinOp::Sub => in_bounds(a - b),
         BinOp::Mod if j == 0 => Err(FaultKind::ZeroDivisor),
         BinOp::Mod => in_bounds(a % b),
-        BinOp::Lt => Ok(truth(i < j)),
-        BinOp::Gt => Ok(truth(i > j)),
-        BinOp::Le => Ok(truth(i <= j)),
-        BinOp::Ge => Ok(truth(i >= j)),
         _ => Err(FaultKind::NotNumber),
     }
 }

@@ -1,0 +1,439 @@
+-- Marks in order, and the pass over them.
+use Rattle.std.proofs.Common.{◌≡◌, ◌⊎◌, ℕ, ◌+◌, ◌<◌, ◌≤◌, Bool, true, false, not, ◌&&◌, ◌||◌, cond, ltb, leb, ℤ, pos, negsuc, int_lt, int_le, List, [], ◌∷◌, ◌++◌, length, get_or, take, Ok, Err, inl, inr, refl, sym, ap, subst, ◌∙◌, arith}
+use Rattle.std.specs.Prelude.{All}
+use Rattle.std.specs.List.{list_any}
+use Rattle.std.specs.List.Sorted.{IsPermutation, IsSortedBy}
+use Rattle.std.specs.declared.cmp.Ordering.{Ordering}
+use Rattle.std.specs.declared.cmp.Ordering.TheVariants.{Less, Equal, Greater}
+use Rattle.std.specs.Ordering.{is_lt, int_cmp, bool_cmp, ordering_then, ordering_reverse}
+use Rattle.std.specs.Cmp.{IsStrictWeakOrder, bool_cmp_total}
+use Rattle.std.proofs.lemmas.Bool.{false≢true, not-true, cases_lt, lt-ltb, le-ltb, le-leb, lt-leb, and_right}
+use Rattle.std.proofs.lemmas.Cmp.{int_cmp_total, on_total, then_total}
+use Rattle.std.proofs.lemmas.List.{take_more, take_all, append_assoc, length-append, length-take-le, get_or-take}
+use Rattle.std.proofs.lemmas.List.Elements.{All-nil, All-cons, All-head, All-tail, All-append, All-get_or, All-from_get_or, All-weaker}
+use Rattle.std.proofs.lemmas.List.Folds.{list_any-append, list_any_none, list_any_more}
+use Rattle.std.proofs.lemmas.List.Sorted.{All-permutation, list_any-IsPermutation, length_permutation, sorted_far, ranks_by}
+use Rattle.kripke_model.specs.declared.expressions.Value.{Value}
+use Rattle.kripke_model.specs.declared.expressions.Value.TheVariants.{Number, Symbol}
+use Rattle.kripke_model.specs.declared.expressions.BinOp.{BinOp}
+use Rattle.kripke_model.specs.Evaluation.{Checked}
+use Rattle.bdd_nodes.specs.declared.store.Store.{Store}
+use Rattle.bdd_nodes.specs.Store.{Has, value_of, Grows}
+use Rattle.bdd_nodes.proofs.Tables.{value_of-false}
+use Rattle.value_tables.specs.declared.cells.Cell.{Cell}
+use Rattle.value_tables.specs.declared.orders.Mark.{Mark}
+use Rattle.value_tables.specs.Work.{IsRegion}
+use Rattle.value_tables.specs.Cells.{same_reading, any_of, any_cell, Reads}
+use Rattle.value_tables.specs.Pick.{truth_of}
+use Rattle.value_tables.specs.Tables.{is_failure, is_fault_of, both, truths}
+use Rattle.value_tables.specs.Orders.{numbers, compares, comparison, in_order, is_below, any_below, mark_of, marks_in, is_before, is_lesser, any_lesser, is_pair, any_pair, AreMarks}
+use Rattle.value_tables.proofs.ReadingLists.{reads-any}
+use Rattle.value_tables.proofs.RegionLemmas.{any_cell-grows}
+use Rattle.value_tables.proofs.ResultLemmas.{decided_shows}
+
+-- ---- tests over lists
+
+any_none : {X : Type 0} (xs : List X) → list_any (λ x. false) xs ≡ false
+any_none [] = refl
+any_none (x ∷ xs) = any_none xs
+
+any_or : {X : Type 0} (p q : X → Bool) (xs : List X) → list_any (λ x. p x || q x) xs ≡ (list_any p xs || list_any q xs)
+any_or p q [] = refl
+any_or p q (x ∷ xs) = ap (λ b. (p x || q x) || b) (any_or p q xs) ∙ by (p x) (q x) (list_any p xs) (list_any q xs)
+  where
+    by : (a b c d : Bool) → ((a || b) || (c || d)) ≡ ((a || c) || (b || d))
+    by true b c d = refl
+    by false true true d = refl
+    by false true false d = refl
+    by false false c d = refl
+
+any_and : {X : Type 0} (p : X → Bool) (b : Bool) (xs : List X) → list_any (λ x. p x && b) xs ≡ (list_any p xs && b)
+any_and p b [] = refl
+any_and p b (x ∷ xs) = ap (λ c. (p x && b) || c) (any_and p b xs) ∙ by (p x) (list_any p xs) b
+  where
+    by : (a c b : Bool) → ((a && b) || (c && b)) ≡ ((a || c) && b)
+    by true true true = refl
+    by true true false = refl
+    by true false true = refl
+    by true false false = refl
+    by false c b = refl
+
+any_same : {X : Type 0} (p q : X → Bool) (xs : List X) → All (λ x. p x ≡ q x) xs → list_any p xs ≡ list_any q xs
+any_same p q [] h = refl
+any_same p q (x ∷ xs) h = λ i. All-head (λ x. p x ≡ q x) x xs h i || any_same p q xs (All-tail (λ x. p x ≡ q x) x xs h) i
+
+or_none : (a : Bool) → (a || false) ≡ a
+or_none true = refl
+or_none false = refl
+
+and_all : (a : Bool) → (a && true) ≡ a
+and_all true = refl
+and_all false = refl
+
+-- ---- marks of cells
+
+marks-append : (late : Bool) (xs ys : List Cell) → marks_in late (xs ++ ys) ≡ marks_in late xs ++ marks_in late ys
+marks-append late [] ys = refl
+marks-append late (c ∷ xs) ys = ap (λ ms. mark_of late c.reading c.region ++ ms) (marks-append late xs ys) ∙ sym (append_assoc (mark_of late c.reading c.region) (marks_in late xs) (marks_in late ys))
+
+append_none : {X : Type 0} (xs : List X) → xs ++ [] ≡ xs
+append_none [] = refl
+append_none (x ∷ xs) = ap (λ ys. x ∷ ys) (append_none xs)
+
+pub marks_more : (late : Bool) (cells : List Cell) (i : ℕ) (cell : Cell) → i < length cells → cell ≡ get_or cells i cell → (start now new : List Mark) → now ≡ start ++ marks_in late (take i cells) → new ≡ now ++ mark_of late cell.reading cell.region
+    → new ≡ start ++ marks_in late (take (i + 1) cells)
+marks_more late cells i cell lt is start now new e f =
+    f ∙ ap (λ ms. ms ++ mark_of late cell.reading cell.region) e ∙ append_assoc start (marks_in late (take i cells)) (mark_of late cell.reading cell.region)
+    ∙ ap (λ ms. start ++ ms)
+    ((λ j. marks_in late (take i cells) ++ mark_of late (is j).reading (is j).region)
+    ∙ sym (ap (marks_in late) (take_more cells i cell lt) ∙ marks-append late (take i cells) (get_or cells i cell ∷ []) ∙ ap (λ ms. marks_in late (take i cells) ++ ms) (append_none (mark_of late (get_or cells i cell).reading (get_or cells i cell).region))))
+
+pub marks_all : (late : Bool) (cells : List Cell) (i : ℕ) (start now : List Mark) → length cells ≤ i → now ≡ start ++ marks_in late (take i cells) → now ≡ start ++ marks_in late cells
+marks_all late cells i start now le e = e ∙ ap (λ xs. start ++ marks_in late xs) (take_all i cells le)
+
+few : (late : Bool) (k : Checked Value) (r : ℕ) → length (mark_of late k r) ≤ 1
+few late (Ok (Number i)) r = omega arith
+few late (Ok (Symbol c)) r = omega arith
+few late (Err kind) r = omega arith
+
+pub few_marks : (late : Bool) (cells : List Cell) → length (marks_in late cells) ≤ length cells
+few_marks late [] = omega arith
+few_marks late (c ∷ cells) = omega (arith, length-append (mark_of late c.reading c.region) (marks_in late cells), few late c.reading c.region, few_marks late cells)
+
+has_mark : (s : Store) (late : Bool) (k : Checked Value) (r : ℕ) → Has s r → All (λ (m : Mark). Has s m.region) (mark_of late k r)
+has_mark s late (Ok (Number i)) r h = All-cons (λ (m : Mark). Has s m.region) _ [] h (All-nil (λ (m : Mark). Has s m.region))
+has_mark s late (Ok (Symbol c)) r h = All-nil (λ (m : Mark). Has s m.region)
+has_mark s late (Err kind) r h = All-nil (λ (m : Mark). Has s m.region)
+
+pub has_marks : (s : Store) (late : Bool) (cells : List Cell) → All (λ (c : Cell). Has s c.region) cells → All (λ (m : Mark). Has s m.region) (marks_in late cells)
+has_marks s late [] h = All-nil (λ (m : Mark). Has s m.region)
+has_marks s late (c ∷ cells) h =
+    All-append (λ (m : Mark). Has s m.region) (mark_of late c.reading c.region) (marks_in late cells)
+    (has_mark s late c.reading c.region (All-head (λ (c : Cell). Has s c.region) c cells h))
+    (has_marks s late cells (All-tail (λ (c : Cell). Has s c.region) c cells h))
+
+-- a test of the mark of a cell
+abbrev of_mark : (Mark → Bool) → Bool → Checked Value → ℕ → Bool
+of_mark q late (Ok (Number i)) r = q record { number = i; late = late; region = r }
+of_mark q late (Ok (Symbol c)) r = false
+of_mark q late (Err kind) r = false
+
+any_marks : (q : Mark → Bool) (late : Bool) (cells : List Cell) → list_any q (marks_in late cells) ≡ list_any (λ (c : Cell). of_mark q late c.reading c.region) cells
+any_marks q late [] = refl
+any_marks q late (c ∷ cells) = list_any-append q (mark_of late c.reading c.region) (marks_in late cells) ∙ (λ i. one c.reading c.region i || any_marks q late cells i)
+  where
+    one : (k : Checked Value) (r : ℕ) → list_any q (mark_of late k r) ≡ of_mark q late k r
+    one (Ok (Number i)) r = or_none (q record { number = i; late = late; region = r })
+    one (Ok (Symbol c)) r = refl
+    one (Err kind) r = refl
+
+any_cells-same : (p q : Checked Value → ℕ → Bool) → ((k : Checked Value) (r : ℕ) → p k r ≡ q k r) → (cells : List Cell) → list_any (λ (c : Cell). p c.reading c.region) cells ≡ list_any (λ (c : Cell). q c.reading c.region) cells
+any_cells-same p q h [] = refl
+any_cells-same p q h (c ∷ cells) = λ i. h c.reading c.region i || any_cells-same p q h cells i
+
+-- ---- the order of two marks
+
+at_less : (a b : ℕ) → cond (ltb a b) true (cond (ltb b a) false true) ≡ leb a b
+at_less a b = by (cases_lt b a)
+  where
+    by : (b < a) ⊎ (a ≤ b) → cond (ltb a b) true (cond (ltb b a) false true) ≡ leb a b
+    by (inl gt) = (λ i. cond (le-ltb a b (omega (arith, gt)) i) true (cond (lt-ltb b a gt i) false true)) ∙ sym (lt-leb a b gt)
+    by (inr le) = (λ i. cond (ltb a b) true (cond (le-ltb b a le i) false true)) ∙ either (ltb a b) ∙ sym (le-leb a b le)
+      where
+        either : (x : Bool) → cond x true true ≡ true
+        either true = refl
+        either false = refl
+
+at_most : (i j : ℤ) → cond (int_lt i j) true (cond (int_lt j i) false true) ≡ int_le i j
+at_most (pos a) (pos b) = at_less a b
+at_most (pos a) (negsuc b) = refl
+at_most (negsuc a) (pos b) = refl
+at_most (negsuc a) (negsuc b) = at_less b a
+
+first_less : (strict : Bool) (i j : ℤ) → is_lt (ordering_then (int_cmp i j) (bool_cmp strict (not strict))) ≡ cond strict (int_lt i j) (int_le i j)
+first_less true i j = by (int_lt i j) (int_lt j i)
+  where
+    by : (l g : Bool) → is_lt (ordering_then (cond l Less (cond g Greater Equal)) Greater) ≡ l
+    by true g = refl
+    by false true = refl
+    by false false = refl
+first_less false i j = by (int_lt i j) (int_lt j i) ∙ at_most i j
+  where
+    by : (l g : Bool) → is_lt (ordering_then (cond l Less (cond g Greater Equal)) Less) ≡ cond l true (cond g false true)
+    by true g = refl
+    by false true = refl
+    by false false = refl
+
+-- of two marks of different sides one stands before the other
+turned : (o p : Ordering) → p ≡ ordering_reverse o → (a b : Bool) → a ≡ not b → is_lt (ordering_then o (bool_cmp b a)) ≡ false → is_lt (ordering_then p (bool_cmp a b)) ≡ true
+turned Less p e a b d h = absurd (false≢true (sym h))
+turned Greater p e a b d h = ap (λ o. is_lt (ordering_then o (bool_cmp a b))) e
+turned Equal p e true true d h = absurd (false≢true (sym d))
+turned Equal p e true false d h = absurd (false≢true (sym h))
+turned Equal p e false true d h = ap (λ o. is_lt (ordering_then o (bool_cmp false true))) e
+turned Equal p e false false d h = absurd (false≢true d)
+
+apart : (strict a b : Bool) → cond strict a (not a) ≡ true → cond strict b (not b) ≡ false → a ≡ not b
+apart true a b e f = e ∙ sym (ap not f)
+apart false a b e f = not-true a e ∙ sym f
+
+stands_before : (strict : Bool) (m n : Mark) → is_lesser strict m ≡ true → is_lesser strict n ≡ false → is_before n m ≡ false → is_before m n ≡ true
+stands_before strict m n e f h = turned (int_cmp n.number m.number) (int_cmp m.number n.number) (int_cmp_total.antisymm m.number n.number) m.late n.late (apart strict m.late n.late e f) h
+
+before_is_order : IsStrictWeakOrder is_before
+before_is_order = ranks_by (then_total (on_total (λ (m : Mark). m.number) int_cmp_total) (on_total (λ (m : Mark). m.late) bool_cmp_total)) (λ (m : Mark). m)
+
+-- no mark stands before those that come first in a sorted list
+none_before : (marks : List Mark) (i : ℕ) (mark : Mark) → i < length marks → mark ≡ get_or marks i mark → IsSortedBy is_before marks → All (λ (m : Mark). is_before mark m ≡ false) (take i marks)
+none_before marks i mark lt is sorted =
+    All-from_get_or (λ (m : Mark). is_before mark m ≡ false) (take i marks) mark
+    (λ j less. let within : j < i = omega (arith, less, length-take-le i marks (omega (arith, lt))) in
+    (λ k. is_before (is k) (get_or-take i marks j mark within k)) ∙ sorted_far is_before before_is_order marks sorted j i mark (omega (arith, within)) lt)
+
+-- ---- one more mark
+
+module _ (v : ℕ → Bool) (strict : Bool) where
+  tests_up : (xs : List Mark) (y m : Mark) → list_any (is_pair v strict m) (xs ++ y ∷ []) ≡ (list_any (is_pair v strict m) xs || is_pair v strict m y)
+  tests_up xs y m = list_any-append (is_pair v strict m) xs (y ∷ []) ∙ ap (λ b. list_any (is_pair v strict m) xs || b) (or_none (is_pair v strict m y))
+
+  pairs_up : (xs : List Mark) (y : Mark)
+      → any_pair v strict (xs ++ y ∷ []) ≡ ((any_pair v strict xs || list_any (λ (m : Mark). is_pair v strict m y) xs) || (list_any (is_pair v strict y) xs || is_pair v strict y y))
+  pairs_up xs y =
+      (λ i. list_any (λ (m : Mark). tests_up xs y m i) (xs ++ y ∷ []))
+      ∙ list_any-append (λ (m : Mark). list_any (is_pair v strict m) xs || is_pair v strict m y) xs (y ∷ [])
+      ∙ (λ i. any_or (λ (m : Mark). list_any (is_pair v strict m) xs) (λ (m : Mark). is_pair v strict m y) xs i || or_none (list_any (is_pair v strict y) xs || is_pair v strict y y) i)
+
+  -- a mark of the lesser side stands before none of those so far, and behind it no pair is made yet
+  lesser_last : (m y : Mark) → is_lesser strict y ≡ true → is_pair v strict m y ≡ false
+  lesser_last m y e = (λ i. (is_lesser strict m && v m.region) && ((not (e i) && v y.region) && is_before m y)) ∙ and_right (is_lesser strict m && v m.region) false refl
+
+  lesser_first : (y n : Mark) → is_before y n ≡ false → is_pair v strict y n ≡ false
+  lesser_first y n h = (λ i. (is_lesser strict y && v y.region) && and_right (not (is_lesser strict n) && v n.region) (is_before y n) h i) ∙ and_right (is_lesser strict y && v y.region) false refl
+
+  greater_first : (y n : Mark) → is_lesser strict y ≡ false → is_pair v strict y n ≡ false
+  greater_first y n e = λ i. (e i && v y.region) && ((not (is_lesser strict n) && v n.region) && is_before y n)
+
+  greater_last : (m y : Mark) → is_lesser strict y ≡ false → is_before y m ≡ false → is_pair v strict m y ≡ ((is_lesser strict m && v m.region) && v y.region)
+  greater_last m y e h = by (is_lesser strict m) refl
+    where
+      by : (b : Bool) → is_lesser strict m ≡ b → is_pair v strict m y ≡ ((is_lesser strict m && v m.region) && v y.region)
+      by true d =
+          (λ i. (is_lesser strict m && v m.region) && ((not (e i) && v y.region) && stands_before strict m y d e h i)) ∙ ap (λ b. (is_lesser strict m && v m.region) && b) (and_all (v y.region))
+      by false d = (λ i. (d i && v m.region) && ((not (is_lesser strict y) && v y.region) && is_before m y)) ∙ sym (λ i. (d i && v m.region) && v y.region)
+
+  pair_step : (xs : List Mark) (y : Mark) → All (λ (m : Mark). is_before y m ≡ false) xs → any_pair v strict (xs ++ y ∷ []) ≡ (any_pair v strict xs || (not (is_lesser strict y) && (any_lesser v strict xs && v y.region)))
+  pair_step xs y h = pairs_up xs y ∙ by (is_lesser strict y) refl
+    where
+      none : (a : Bool) → ((a || false) || (false || false)) ≡ (a || false)
+      none true = refl
+      none false = refl
+
+      some : (a b : Bool) → ((a || b) || (false || false)) ≡ (a || b)
+      some true b = refl
+      some false true = refl
+      some false false = refl
+
+      by : (b : Bool) → is_lesser strict y ≡ b
+          → ((any_pair v strict xs || list_any (λ (m : Mark). is_pair v strict m y) xs) || (list_any (is_pair v strict y) xs || is_pair v strict y y)) ≡ (any_pair v strict xs || (not (is_lesser strict y) && (any_lesser v strict xs && v y.region)))
+      by true e =
+          (λ i. (any_pair v strict xs || (((λ j. list_any (λ (m : Mark). lesser_last m y e j) xs) ∙ any_none xs) i))
+          || (list_any_none (is_pair v strict y) xs (All-weaker (λ (m : Mark). is_before y m ≡ false) (λ (m : Mark). is_pair v strict y m ≡ false) (λ m. lesser_first y m) xs h) i || lesser_last y y e i))
+          ∙ none (any_pair v strict xs)
+          ∙ sym (λ i. any_pair v strict xs || (not (e i) && (any_lesser v strict xs && v y.region)))
+      by false e =
+          (λ i. (any_pair v strict xs || (any_same (λ (m : Mark). is_pair v strict m y) (λ (m : Mark). (is_lesser strict m && v m.region) && v y.region) xs
+          (All-weaker (λ (m : Mark). is_before y m ≡ false) (λ (m : Mark). is_pair v strict m y ≡ ((is_lesser strict m && v m.region) && v y.region)) (λ m. greater_last m y e) xs h)
+          ∙ any_and (λ (m : Mark). is_lesser strict m && v m.region) (v y.region) xs) i)
+          || (((λ j. list_any (λ (n : Mark). greater_first y n e j) xs) ∙ any_none xs) i || greater_first y y e i))
+          ∙ some (any_pair v strict xs) (any_lesser v strict xs && v y.region)
+          ∙ sym (λ i. any_pair v strict xs || (not (e i) && (any_lesser v strict xs && v y.region)))
+
+  pair_more : (marks : List Mark) (i : ℕ) (mark : Mark) → i < length marks → mark ≡ get_or marks i mark → IsSortedBy is_before marks
+      → any_pair v strict (take (i + 1) marks) ≡ (any_pair v strict (take i marks) || (not (is_lesser strict mark) && (any_lesser v strict (take i marks) && v mark.region)))
+  pair_more marks i mark lt is sorted =
+      ap (any_pair v strict) (take_more marks i mark lt ∙ (λ j. take i marks ++ sym is j ∷ [])) ∙ pair_step (take i marks) mark (none_before marks i mark lt is sorted)
+
+  lesser_more : (marks : List Mark) (i : ℕ) (mark : Mark) → i < length marks → mark ≡ get_or marks i mark
+      → any_lesser v strict (take (i + 1) marks) ≡ (any_lesser v strict (take i marks) || (is_lesser strict mark && v mark.region))
+  lesser_more marks i mark lt is =
+      list_any_more (λ (m : Mark). is_lesser strict m && v m.region) marks i mark lt ∙ (λ j. any_lesser v strict (take i marks) || (is_lesser strict (sym is j) && v (sym is j).region))
+
+  pairs-permutation : (xs ys : List Mark) → IsPermutation xs ys → any_pair v strict xs ≡ any_pair v strict ys
+  pairs-permutation xs ys h =
+      list_any-IsPermutation (λ (m : Mark). list_any (is_pair v strict m) xs) xs ys h
+      ∙ (λ i. list_any (λ (m : Mark). list_any-IsPermutation (is_pair v strict m) xs ys h i) ys)
+
+  -- the pairs of two sides
+
+  lesser_is : (i : ℤ) (r : ℕ) → is_lesser strict record { number = i; late = strict; region = r } ≡ true
+  lesser_is i r = by strict
+    where
+      by : (b : Bool) → cond b b (not b) ≡ true
+      by true = refl
+      by false = refl
+
+  greater_is : (i : ℤ) (r : ℕ) → is_lesser strict record { number = i; late = not strict; region = r } ≡ false
+  greater_is i r = by strict
+    where
+      by : (b : Bool) → cond b (not b) (not (not b)) ≡ false
+      by true = refl
+      by false = refl
+
+  pair_is : (i : ℤ) (r : ℕ) (k : Checked Value) (q : ℕ) → of_mark (is_pair v strict record { number = i; late = strict; region = r }) (not strict) k q ≡ ((is_below strict (Ok (Number i)) k && v q) && v r)
+  pair_is i r (Ok (Number j)) q =
+      (λ n. (lesser_is i r n && v r) && ((not (greater_is j q n) && v q) && first_less strict i j n)) ∙ by (v r) (v q) (cond strict (int_lt i j) (int_le i j))
+    where
+      by : (a b c : Bool) → ((true && a) && ((not false && b) && c)) ≡ ((c && b) && a)
+      by true true true = refl
+      by true true false = refl
+      by true false true = refl
+      by true false false = refl
+      by false true true = refl
+      by false true false = refl
+      by false false true = refl
+      by false false false = refl
+  pair_is i r (Ok (Symbol c)) q = refl
+  pair_is i r (Err kind) q = refl
+
+  no_pair : (m : Mark) (k : Checked Value) (q : ℕ) → of_mark (is_pair v strict m) strict k q ≡ false
+  no_pair m (Ok (Number j)) q = lesser_last m record { number = j; late = strict; region = q } (lesser_is j q)
+  no_pair m (Ok (Symbol c)) q = refl
+  no_pair m (Err kind) q = refl
+
+  module _ (lesser greater : List Cell) where
+    abbrev pub both_sides : List Mark
+    both_sides = marks_in strict lesser ++ marks_in (not strict) greater
+
+    from_lesser : (k : Checked Value) (r : ℕ) → of_mark (λ (m : Mark). list_any (is_pair v strict m) both_sides) strict k r ≡ (any_cell v (is_below strict k) greater && v r)
+    from_lesser (Ok (Number i)) r =
+        let m : Mark = record { number = i; late = strict; region = r } in
+        list_any-append (is_pair v strict m) (marks_in strict lesser) (marks_in (not strict) greater)
+        ∙ (λ n. (any_marks (is_pair v strict m) strict lesser ∙ any_cells-same (of_mark (is_pair v strict m) strict) (λ k q. false) (no_pair m) lesser ∙ any_none lesser) n
+        || (any_marks (is_pair v strict m) (not strict) greater ∙ any_cells-same (of_mark (is_pair v strict m) (not strict)) (λ k q. (is_below strict (Ok (Number i)) k && v q) && v r) (pair_is i r) greater
+        ∙ any_and (λ (c : Cell). is_below strict (Ok (Number i)) c.reading && v c.region) (v r) greater) n)
+    from_lesser (Ok (Symbol c)) r = sym (ap (λ b. b && v r) (any_none greater))
+    from_lesser (Err kind) r = sym (ap (λ b. b && v r) (any_none greater))
+
+    from_greater : (k : Checked Value) (r : ℕ) → of_mark (λ (m : Mark). list_any (is_pair v strict m) both_sides) (not strict) k r ≡ false
+    from_greater (Ok (Number i)) r =
+        (λ n. list_any (λ (x : Mark). greater_first record { number = i; late = not strict; region = r } x (greater_is i r) n) both_sides) ∙ any_none both_sides
+    from_greater (Ok (Symbol c)) r = refl
+    from_greater (Err kind) r = refl
+
+    pairs_are : any_pair v strict both_sides ≡ any_below v strict lesser greater
+    pairs_are =
+        list_any-append (λ (m : Mark). list_any (is_pair v strict m) both_sides) (marks_in strict lesser) (marks_in (not strict) greater)
+        ∙ (λ n. (any_marks (λ (m : Mark). list_any (is_pair v strict m) both_sides) strict lesser ∙ any_cells-same _ (λ k r. any_cell v (is_below strict k) greater && v r) from_lesser lesser) n
+        || (any_marks (λ (m : Mark). list_any (is_pair v strict m) both_sides) (not strict) greater ∙ any_cells-same _ (λ k r. false) from_greater greater ∙ any_none greater) n)
+        ∙ or_none (any_below v strict lesser greater)
+
+    pub sorted_pairs : (marks : List Mark) → IsPermutation both_sides marks → any_pair v strict marks ≡ any_below v strict lesser greater
+    sorted_pairs marks h = sym (pairs-permutation both_sides marks h) ∙ pairs_are
+
+-- ---- the regions of a pass
+
+module _ (s a : Store) (g : Grows s a) (marks : List Mark) (i : ℕ) (mark : Mark) (lt : i < length marks) (is : mark ≡ get_or marks i mark) (has : All (λ (m : Mark). Has s m.region) marks) where
+  mark_at_first : Has s mark.region
+  mark_at_first = subst (λ (m : Mark). Has s m.region) (sym is) (All-get_or (λ (m : Mark). Has s m.region) marks i mark lt has)
+
+  pub has_mark_now : Has a mark.region
+  has_mark_now = g.has mark.region mark_at_first
+
+  module _ (b : Store) (strict : Bool) (l h : ℕ) (so_far : IsRegion a l (λ bits. any_lesser (λ q. value_of s q bits) strict (take i marks))) (found : IsRegion a h (λ bits. any_pair (λ q. value_of s q bits) strict (take i marks))) where
+    pub lesser_passed : (r : ℕ) → IsRegion b r (λ bits. value_of a l bits || (is_lesser strict mark && value_of a mark.region bits)) → IsRegion b r (λ bits. any_lesser (λ q. value_of s q bits) strict (take (i + 1) marks))
+    lesser_passed r k = record {
+      has = k.has;
+      value = λ bits. k.value bits ∙ (λ j. so_far.value bits j || (is_lesser strict mark && g.value mark.region mark_at_first bits j)) ∙ sym (lesser_more (λ q. value_of s q bits) strict marks i mark lt is);
+    }
+
+    pub pair_passed : IsSortedBy is_before marks → (r : ℕ) → IsRegion b r (λ bits. value_of a h bits || (not (is_lesser strict mark) && (value_of a l bits && value_of a mark.region bits)))
+        → IsRegion b r (λ bits. any_pair (λ q. value_of s q bits) strict (take (i + 1) marks))
+    pair_passed sorted r k = record {
+      has = k.has;
+      value = λ bits. k.value bits ∙ (λ j. found.value bits j || (not (is_lesser strict mark) && (so_far.value bits j && g.value mark.region mark_at_first bits j))) ∙ sym (pair_more (λ q. value_of s q bits) strict marks i mark lt is sorted);
+    }
+
+pub nothing_passed : (s : Store) → IsRegion s 0 (λ bits. false)
+nothing_passed s = record { has = omega arith; value = λ bits. value_of-false s.nodes.keys bits }
+
+pub all_passed : (s a : Store) (strict : Bool) (marks : List Mark) (i r : ℕ) → length marks ≤ i → IsRegion a r (λ bits. any_pair (λ q. value_of s q bits) strict (take i marks)) → IsRegion a r (λ bits. any_pair (λ q. value_of s q bits) strict marks)
+all_passed s a strict marks i r le h = record { has = h.has; value = λ bits. h.value bits ∙ ap (any_pair (λ q. value_of s q bits) strict) (take_all i marks le) }
+
+-- ---- both sides
+
+module _ (strict : Bool) (lesser greater : List Cell) (marks : List Mark) (h : AreMarks strict lesser greater marks) where
+  pub has_both : (s : Store) → All (λ (c : Cell). Has s c.region) lesser → All (λ (c : Cell). Has s c.region) greater → All (λ (m : Mark). Has s m.region) marks
+  has_both s left right =
+      All-permutation (λ (m : Mark). Has s m.region) (marks_in strict lesser ++ marks_in (not strict) greater) marks h.moved
+      (All-append (λ (m : Mark). Has s m.region) (marks_in strict lesser) (marks_in (not strict) greater) (has_marks s strict lesser left) (has_marks s (not strict) greater right))
+
+  pub few_both : length marks ≤ length lesser + length greater
+  few_both =
+      omega (arith, length_permutation (marks_in strict lesser ++ marks_in (not strict) greater) marks h.moved, length-append (marks_in strict lesser) (marks_in (not strict) greater), few_marks strict lesser, few_marks (not strict) greater)
+
+  pub below_passed : (s a : Store) (r : ℕ) → IsRegion a r (λ bits. any_pair (λ q. value_of s q bits) strict marks) → IsRegion a r (λ bits. any_below (λ q. value_of s q bits) strict lesser greater)
+  below_passed s a r k = record { has = k.has; value = λ bits. k.value bits ∙ sorted_pairs (λ q. value_of s q bits) strict lesser greater marks h.moved }
+
+-- ---- the comparison
+
+module _ (v : ℕ → Bool) where
+  below_is : (strict : Bool) (lesser greater : List Cell) (i j : ℤ) → Reads v lesser (numbers (Ok i)) → Reads v greater (numbers (Ok j)) → any_below v strict lesser greater ≡ cond strict (int_lt i j) (int_le i j)
+  below_is strict lesser greater i j x y =
+      reads-any v lesser (numbers (Ok i)) x (λ k. any_cell v (is_below strict k) greater) ∙ or_none (any_cell v (is_below strict (Ok (Number i))) greater)
+      ∙ reads-any v greater (numbers (Ok j)) y (is_below strict (Ok (Number i))) ∙ or_none (cond strict (int_lt i j) (int_le i j))
+
+  order_is : (op : BinOp) (left right : List Cell) (i j : ℤ) → Reads v left (numbers (Ok i)) → Reads v right (numbers (Ok j)) → in_order v op left right ≡ compares op i j
+  order_is BinOp.Lt left right i j x y = below_is true left right i j x y
+  order_is BinOp.Le left right i j x y = below_is false left right i j x y
+  order_is BinOp.Gt left right i j x y = below_is true right left j i y x
+  order_is op left right i j x y = below_is false right left j i y x
+
+  pub ordered_shows : (op : BinOp) (left right : List Cell) (a b : Checked ℤ) → Reads v left (numbers a) → Reads v right (numbers b) → (k : Checked Value) (fault fail hit : Bool)
+      → fault ≡ is_fault_of (both (numbers a) (numbers b)) k → fail ≡ is_failure (both (numbers a) (numbers b)) → hit ≡ in_order v op left right
+      → ((fault || (same_reading k (Ok (truth_of false)) && not (hit || fail))) || (same_reading k (Ok (truth_of true)) && (hit && not fail))) ≡ any_of (same_reading k) (comparison op a b)
+  ordered_shows op left right a b x y k fault fail hit f g h =
+      (λ i. ((f ∙ same_fault a b) i || (same_reading k (Ok (truth_of false)) && not (h i || (g ∙ same_failure a b) i))) || (same_reading k (Ok (truth_of true)) && (h i && not ((g ∙ same_failure a b) i))))
+      ∙ decided_shows (joined a b) (in_order v op left right) (λ t e. found t a b x y e) k
+      ∙ ap (any_of (same_reading k)) (same_result a b)
+    where
+      joined : Checked ℤ → Checked ℤ → Checked Bool
+      joined (Ok i) (Ok j) = Ok (compares op i j)
+      joined (Ok i) (Err kind) = Err kind
+      joined (Err kind) b = Err kind
+
+      same_fault : (a b : Checked ℤ) → is_fault_of (both (numbers a) (numbers b)) k ≡ is_fault_of (joined a b) k
+      same_fault (Ok i) (Ok j) = refl
+      same_fault (Ok i) (Err kind) = refl
+      same_fault (Err kind) b = refl
+
+      same_failure : (a b : Checked ℤ) → is_failure (both (numbers a) (numbers b)) ≡ is_failure (joined a b)
+      same_failure (Ok i) (Ok j) = refl
+      same_failure (Ok i) (Err kind) = refl
+      same_failure (Err kind) b = refl
+
+      same_result : (a b : Checked ℤ) → truths (joined a b) ≡ comparison op a b
+      same_result (Ok i) (Ok j) = refl
+      same_result (Ok i) (Err kind) = refl
+      same_result (Err kind) b = refl
+
+      found : (t : Bool) (a b : Checked ℤ) → Reads v left (numbers a) → Reads v right (numbers b) → joined a b ≡ Ok t → in_order v op left right ≡ t
+      found t (Ok i) (Ok j) x y e =
+          let at : compares op i j ≡ t = cc in
+          order_is op left right i j x y ∙ at
+      found t (Ok i) (Err kind) x y e = absurd cc
+      found t (Err kind) b x y e = absurd cc
+
+-- the same in a store that has grown
+module _ (s a : Store) (g : Grows s a) (bits : List Bool) where
+  below-grows : (strict : Bool) (lesser greater : List Cell) → All (λ (c : Cell). Has s c.region) lesser → All (λ (c : Cell). Has s c.region) greater
+      → any_below (λ q. value_of a q bits) strict lesser greater ≡ any_below (λ q. value_of s q bits) strict lesser greater
+  below-grows strict lesser greater left right =
+      (λ j. any_cell (λ q. value_of a q bits) (λ k. any_cell-grows s a g greater right bits (is_below strict k) j) lesser)
+      ∙ any_cell-grows s a g lesser left bits (λ k. any_cell (λ q. value_of s q bits) (is_below strict k) greater)
+
+  pub in_order-grows : (op : BinOp) (left right : List Cell) → All (λ (c : Cell). Has s c.region) left → All (λ (c : Cell). Has s c.region) right
+      → in_order (λ q. value_of a q bits) op left right ≡ in_order (λ q. value_of s q bits) op left right
+  in_order-grows BinOp.Lt left right x y = below-grows true left right x y
+  in_order-grows BinOp.Le left right x y = below-grows false left right x y
+  in_order-grows BinOp.Gt left right x y = below-grows true right left y x
+  in_order-grows op left right x y = below-grows false right left y x
