@@ -7,8 +7,6 @@ mod reference;
 mod refusal;
 mod steps;
 mod store;
-#[cfg(test)]
-mod tests;
 mod triple;
 
 pub use reference::Ref;

@@ -6,8 +6,6 @@ mod engine;
 mod key;
 mod operand;
 mod operation;
-#[cfg(test)]
-mod tests;
 
 pub use engine::Engine;
 pub use key::Key;

@@ -7,8 +7,6 @@ mod level;
 mod node;
 mod quantification;
 mod renaming;
-#[cfg(test)]
-mod tests;
 
 pub use quantification::{and_exists, exists};
 pub use renaming::rename;

@@ -7,6 +7,3 @@ mod limit;
 mod parts;
 
 pub use command::{Command, read_words};
-
-#[cfg(test)]
-mod tests;

@@ -4,12 +4,14 @@
 #![tactic(auto)]
 
 #[cfg(test)]
+mod definition_tests;
+#[cfg(test)]
 mod meanings;
 #[cfg(test)]
 mod reading;
 #[cfg(test)]
+mod single_state_tests;
+#[cfg(test)]
 mod states;
 #[cfg(test)]
 mod step_tests;
-#[cfg(test)]
-mod value_tests;

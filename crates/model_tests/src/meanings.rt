@@ -1,25 +1,9 @@
-//! Models as texts, and what each means, worked out by hand. A value stands as its place in its type, so that the
-//! number 2 of `0..3` is 2, and `b` of `{a, b}` is 1.
+//! What models mean, worked out by hand: those of `sample_models`, and two that stand here. A value stands as its place in
+//! its type, so that the number 2 of `0..3` is 2, and `b` of `{a, b}` is 1.
 
 use crate::states::{Meaning, Places};
 
-/// A counter of three cells, the lowest bit first.
-pub const COUNTER: &str = "MODULE main
-VAR
-  bit0 : counter_cell(1);
-  bit1 : counter_cell(bit0.carry_out);
-  bit2 : counter_cell(bit1.carry_out);
-SPEC AG AF bit2.carry_out
-MODULE counter_cell(carry_in)
-VAR
-  value : boolean;
-ASSIGN
-  init(value) := 0;
-  next(value) := value + carry_in mod 2;
-DEFINE
-  carry_out := value & carry_in;
-";
-
+/// `COUNTER`: the bits of a count, the lowest one first.
 #[derive(Drop)]
 pub struct Counter;
 
@@ -42,23 +26,8 @@ impl Meaning for Counter {
     }
 }
 
-/// A ring of three inverters, each of which makes a step when it is selected. The state is the selector, with `main`
-/// first, and the three outputs.
-pub const RING: &str = "MODULE main
-VAR
-  gate1 : process inverter(gate3.output);
-  gate2 : process inverter(gate1.output);
-  gate3 : process inverter(gate2.output);
-SPEC (AG AF gate1.output) & (AG AF !gate1.output)
-MODULE inverter(input)
-VAR
-  output : boolean;
-ASSIGN
-  init(output) := 0;
-  next(output) := !input;
-FAIRNESS running
-";
-
+/// `INVERTER_RING`: each inverter makes a step when it is selected. The state is the selector, with `main` first, and the
+/// three outputs.
 #[derive(Drop)]
 pub struct Ring;
 
@@ -89,36 +58,7 @@ impl Meaning for Ring {
     }
 }
 
-/// Two users of a semaphore. The state is the selector, with `main` first, the semaphore, and the users' states.
-pub const SEMAPHORE: &str = "MODULE main
-VAR
-  semaphore : boolean;
-  proc1 : process user(semaphore);
-  proc2 : process user(semaphore);
-ASSIGN
-  init(semaphore) := 0;
-SPEC AG !(proc1.state = critical & proc2.state = critical)
-SPEC AG (proc1.state = entering -> AF proc1.state = critical)
-MODULE user(semaphore)
-VAR
-  state : {idle, entering, critical, exiting};
-ASSIGN
-  init(state) := idle;
-  next(state) := case
-    state = idle : {idle, entering};
-    state = entering & !semaphore : critical;
-    state = critical : {critical, exiting};
-    state = exiting : idle;
-    1 : state;
-  esac;
-  next(semaphore) := case
-    state = entering : 1;
-    state = exiting : 0;
-    1 : semaphore;
-  esac;
-FAIRNESS running
-";
-
+/// `SEMAPHORE`: the state is the selector, with `main` first, the semaphore, and the users' states.
 #[derive(Drop)]
 pub struct Semaphore;
 
@@ -168,14 +108,7 @@ impl Meaning for Semaphore {
     }
 }
 
-/// x takes one of two values where y is 1, and is kept elsewhere.
-pub const SETS: &str = "MODULE main
-VAR x : {a, b, c}; y : boolean;
-ASSIGN
-  init(x) := {a, c};
-  next(x) := case y : b union {c}; 1 : x; esac;
-";
-
+/// `SETS`: x takes one of two values where y is 1, and is kept elsewhere.
 #[derive(Drop)]
 pub struct Sets;
 
@@ -197,14 +130,7 @@ impl Meaning for Sets {
     }
 }
 
-/// x is y and z in every state.
-pub const CURRENT: &str = "MODULE main
-VAR x : boolean; y : boolean; z : boolean;
-ASSIGN
-  x := y & z;
-  next(y) := z;
-";
-
+/// `CURRENT`: x is y and z in every state, and y takes the value of z.
 #[derive(Drop)]
 pub struct Current;
 
@@ -226,13 +152,7 @@ impl Meaning for Current {
     }
 }
 
-/// x grows where y is 1, and is no more than two away from its next value.
-pub const GROWS: &str = "MODULE main
-VAR x : 0..3; y : boolean;
-TRANS y -> x < next(x)
-TRANS next(x) - x in {0 - 2, 0 - 1, 0, 1, 2}
-";
-
+/// `GROWS`: x grows where y is 1, and is no more than two away from its next value.
 #[derive(Drop)]
 pub struct Grows;
 
@@ -273,13 +193,7 @@ impl Meaning for Divides {
     }
 }
 
-/// Both an initial value and a condition on the initial states. Nothing is said of steps.
-pub const BEGINS: &str = "MODULE main
-VAR x : 0..3; y : boolean;
-ASSIGN init(y) := 1;
-INIT x in {1, 3}
-";
-
+/// `BEGINS`: both an initial value and a condition on the initial states. Nothing is said of steps.
 #[derive(Drop)]
 pub struct Begins;
 
@@ -297,12 +211,7 @@ impl Meaning for Begins {
     }
 }
 
-/// x turns, and nothing is said of p.
-pub const FREE: &str = "MODULE main
-VAR x : boolean; p : {a, b, c};
-ASSIGN next(x) := !x;
-";
-
+/// `FREE`: x turns, and nothing is said of p.
 #[derive(Drop)]
 pub struct Free;
 
@@ -359,5 +268,23 @@ impl Meaning for Falls {
         } else {
             next == 1
         }
+    }
+}
+
+/// `RISES`: x is set where go is 1, and else keeps its value. Go is free.
+#[derive(Drop)]
+pub struct Rises;
+
+impl Meaning for Rises {
+    fn sizes(&self) -> Places {
+        [2, 2, 1, 1]
+    }
+
+    fn starts(&self, s: Places) -> bool {
+        s[0] == 0
+    }
+
+    fn steps(&self, s: Places, t: Places) -> bool {
+        if s[1] == 1 { t[0] == 1 } else { t[0] == s[0] }
     }
 }

@@ -4,6 +4,4 @@
 pub mod evaluation;
 pub mod outcomes;
 pub mod steps;
-#[cfg(test)]
-mod tests;
 mod valuation;

@@ -11,8 +11,6 @@ pub mod modules;
 pub mod names;
 pub mod refusals;
 pub mod rows;
-#[cfg(test)]
-mod tests;
 pub mod types;
 pub mod walk;
 

@@ -4,8 +4,6 @@
 pub mod bodies;
 pub mod checks;
 pub mod expansion;
-#[cfg(test)]
-mod flat_tests;
 pub mod fronts;
 pub mod items;
 pub mod models;
@@ -14,8 +12,6 @@ pub mod operators;
 pub mod parts;
 pub mod passes;
 pub mod processes;
-#[cfg(test)]
-mod tests;
 pub mod totals;
 pub mod types;
 pub mod variables;

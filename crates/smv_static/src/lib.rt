@@ -15,6 +15,3 @@ mod targets;
 mod ways;
 
 pub use acceptance::accept;
-
-#[cfg(test)]
-mod tests;

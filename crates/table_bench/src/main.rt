@@ -176,8 +176,36 @@ fn built<L: Ledger>(
     table(alloc, engine, layout, model, expr, &mut steps)
 }
 
-/// Builds a case in an engine of its own, and says what was made.
-fn run(rt: &HostRuntime, case: Case, count: u32, timed: bool) -> Result<()>
+/// What a build gave: the regions, how many triples were made, and the microseconds of the processor.
+#[derive(Drop)]
+struct Measured {
+    regions: Regions,
+    triples: u32,
+    micros: u128,
+}
+
+/// Builds the regions of an expression in an engine of its own.
+fn measure(rt: &HostRuntime, layout: &Layout, model: &Ruled, expr: &Expr) -> Result<Measured>
+    requires evaluable { IsEvaluable model.now (term_of expr.now) }
+    requires layout { layout.now.types ≡ types_of model.now }
+{
+    let alloc = rt.alloc();
+    let mut engine = Engine::new(alloc, Store::new(alloc, 2 * layout.bits(), LIMIT)?, CACHE)?;
+    let start = rt.process_cpu_time()?;
+    let regions = built::<Brand>(alloc, &mut engine, layout, model, expr, Blank::new(1));
+    let end = rt.process_cpu_time()?;
+    match regions {
+        Ok(regions) => Ok(Measured {
+            regions,
+            triples: engine.store().count(),
+            micros: end.saturating_sub(start).as_micros(),
+        }),
+        Err(_) => bail!("no room for all triples"),
+    }
+}
+
+/// Builds a case over two variables of so many numbers.
+fn measure_case(rt: &HostRuntime, case: Case, count: u32) -> Result<Measured>
     requires some { 0 < count }
     requires few { count ≤ 1024 }
 {
@@ -187,20 +215,24 @@ fn run(rt: &HostRuntime, case: Case, count: u32, timed: bool) -> Result<()>
         bail!("no layout");
     };
     let expr = case.expr(alloc, count)?;
-    let mut engine = Engine::new(alloc, Store::new(alloc, 2 * layout.bits(), LIMIT)?, CACHE)?;
-    let start = rt.process_cpu_time()?;
-    let regions = built::<Brand>(alloc, &mut engine, &layout, &model, &expr, Blank::new(1));
-    let end = rt.process_cpu_time()?;
-    let Ok(regions) = regions else {
-        bail!("no room for all triples");
-    };
+    measure(rt, &layout, &model, &expr)
+}
+
+/// Builds a case, and says what was made.
+fn run(rt: &HostRuntime, case: Case, count: u32, timed: bool) -> Result<()>
+    requires some { 0 < count }
+    requires few { count ≤ 1024 }
+{
+    let Measured {
+        regions,
+        triples,
+        micros,
+    } = measure_case(rt, case, count)?;
     let rows = regions.rows.len();
     let faults = regions.faults.len();
     let name = case.name();
     println!(rt; "{name}, N = {count}: {rows} values, {faults} faults")?;
     if timed {
-        let triples = engine.store().count();
-        let micros = end.saturating_sub(start).as_micros();
         println!(rt; "{triples} triples, {micros} microseconds")?;
     }
     Ok(())

@@ -1,5 +1,13 @@
-//! From a text to its model.
+//! From a text to its model, and to the formula of its specification.
 
+ghost use Rattle.std.specs.Prelude.{◌≡◌, All, IfOk, IfSome};
+ghost use Rattle.kripke_model.specs.Leaves.{IsLeafOf, IsModelLeaf};
+ghost use Rattle.kripke_model.specs.Reading.{term_of};
+ghost use Rattle.kripke_model.specs.WellFormed.{ctl_of};
+ghost use Rattle.fair_fixpoint.specs.Walks.{HasModelLeaves};
+
+use fair_fixpoint::laws::leaves_law;
+use kripke_model::expressions::{Expr, Formula};
 use kripke_model::models::Ruled;
 use smv_instantiate::flatten;
 use smv_lexer::lex;
@@ -27,5 +35,43 @@ pub fn model_of(alloc: Global, text: &str) -> Result<Ruled, Fail> {
     match ruled(alloc, text) {
         Some(model) => Ok(model),
         None => Err(Fail::new("a text has no model")),
+    }
+}
+
+/// The formulas of the specifications, which have the model's leaves alone.
+fn spec_formulas(model: &Ruled) -> &[Formula]
+    ensures { All (λ f. HasModelLeaves model.now (ctl_of f)) result.now }
+{
+    leaves_law(model);
+    model.formulas()
+}
+
+/// The formula of the one specification.
+pub fn only_formula(model: &Ruled) -> Result<&Formula, &'static str>
+    ensures { IfOk result (λ f. HasModelLeaves model.now (ctl_of f.now)) }
+{
+    match spec_formulas(model) {
+        [formula] => Ok(formula),
+        _ => Err("a text has not one specification"),
+    }
+}
+
+/// The formula's expression, where it has no path operators.
+fn leaf_of(formula: &Formula) -> Option<&Expr>
+    ensures { IfSome result (λ e. IsLeafOf (term_of e.now) (ctl_of formula.now)) }
+{
+    match formula {
+        Formula::Leaf(expr) => Some(expr),
+        _ => None,
+    }
+}
+
+/// The expression that the one specification is.
+pub fn only_leaf(model: &Ruled) -> Result<&Expr, &'static str>
+    ensures { IfOk result (λ e. IsModelLeaf model.now (term_of e.now)) }
+{
+    match spec_formulas(model) {
+        [formula] => leaf_of(formula).ok_or("a formula has path operators"),
+        _ => Err("a text has not one specification"),
     }
 }

@@ -6,4 +6,12 @@
 #[cfg(test)]
 mod layout_tests;
 #[cfg(test)]
+mod models;
+#[cfg(test)]
+mod operands;
+#[cfg(test)]
+mod operator_tests;
+#[cfg(test)]
 mod table_tests;
+#[cfg(test)]
+mod tables;

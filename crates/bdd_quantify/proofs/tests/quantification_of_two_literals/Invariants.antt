@@ -1,7 +1,0 @@
-use Rattle.bdd_quantify.proofs.tests.quantification_of_two_literals.Given as goal
-
-abbrev pub ghosts-renamed_literal : goal.ghosts-renamed_literal
-ghosts-renamed_literal g a = record { name = a.blank.name; parts = a.blank.parts }
-
-abbrev pub ghosts-literals : goal.ghosts-literals
-ghosts-literals g a = record { name = a.blank.name; parts = a.blank.parts }

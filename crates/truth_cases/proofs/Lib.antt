@@ -1,0 +1,2 @@
+mod RunPins
+mod SpecLeaves

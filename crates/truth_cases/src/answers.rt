@@ -1,0 +1,110 @@
+//! The truth of a specification as an answer, over both kinds of sets.
+
+ghost use Rattle.std.specs.Prelude.{◌≡◌};
+ghost use Rattle.kripke_model.specs.WellFormed.{ctl_of};
+ghost use Rattle.fair_fixpoint.specs.Walks.{HasModelLeaves};
+
+use crate::kinds::{diagrams, trees};
+use crate::reading::model_of;
+use crate::telling::{tell_found, tell_full, tell_refusal};
+use crate::verdicts::{least_failing, spec_formulas};
+use case_text::asking::Answer;
+use case_text::fault::Fault;
+use kripke_model::expressions::Formula;
+use kripke_model::models::Ruled;
+use region_sets::{SetRefusal, StateSets};
+use std::alloc::{AllocError, Global};
+
+/// The text with one more specification.
+fn with_spec(alloc: Global, text: &[u8], spec: &[u8]) -> Result<Vec<u8>, AllocError> {
+    let mut whole = text.to_vec(alloc)?;
+    whole.extend_from_slice(b"SPEC ")?;
+    whole.extend_from_slice(spec)?;
+    Ok(whole)
+}
+
+/// What is found of the formula over the sets.
+fn found_over<S: StateSets>(
+    alloc: Global,
+    sets: &mut S,
+    model: &Ruled,
+    formula: &Formula,
+) -> Result<String, AllocError>
+    requires model { model.now ≡ (S.seen sets.old).over }
+    requires leaves { HasModelLeaves model.now (ctl_of formula.now) }
+{
+    let mut answer = String::new(alloc);
+    match least_failing(alloc, sets, model, formula) {
+        Ok(found) => tell_found(model, &found, &mut answer)?,
+        Err(SetRefusal::Full { held }) => tell_full(&held, &mut answer)?,
+        Err(SetRefusal::Memory) => return Err(AllocError),
+    }
+    Ok(answer)
+}
+
+/// What is found of the formula over trees.
+fn found_by_trees(alloc: Global, model: &Ruled, formula: &Formula) -> Result<String, AllocError>
+    requires { HasModelLeaves model.now (ctl_of formula.now) }
+{
+    let mut sets = trees(alloc, model)?;
+    found_over(alloc, &mut sets, model, formula)
+}
+
+/// What is found of the formula over diagrams.
+fn found_by_diagrams(alloc: Global, model: &Ruled, formula: &Formula) -> Result<String, AllocError>
+    requires { HasModelLeaves model.now (ctl_of formula.now) }
+{
+    match diagrams(alloc, model) {
+        Ok(mut sets) => found_over(alloc, &mut sets, model, formula),
+        Err(refusal) => {
+            let mut answer = String::new(alloc);
+            tell_refusal(&refusal, &mut answer)?;
+            Ok(answer)
+        }
+    }
+}
+
+/// Adds what is found of the formula: once where both kinds of sets agree.
+fn answer_formula(
+    alloc: Global,
+    model: &Ruled,
+    formula: &Formula,
+    answer: &mut String,
+) -> Result<(), AllocError>
+    requires { HasModelLeaves model.now (ctl_of formula.now) }
+{
+    let trees = found_by_trees(alloc, model, formula)?;
+    let diagrams = found_by_diagrams(alloc, model, formula)?;
+    if trees == diagrams {
+        answer.push_str(trees.as_str())
+    } else {
+        write!(answer, "trees {trees}, diagrams {diagrams}")
+    }
+}
+
+/// Adds what is found of the model's one specification.
+fn answer_model(alloc: Global, model: &Ruled, answer: &mut String) -> Result<(), Fault> {
+    match spec_formulas(model) {
+        [formula] => Ok(answer_formula(alloc, model, formula, answer)?),
+        _ => Err(Fault::Unasked),
+    }
+}
+
+/// Answers whether a specification of a text is true.
+pub struct Truth;
+
+impl Answer for Truth {
+    fn answer(
+        &self,
+        alloc: Global,
+        text: &[u8],
+        question: &[u8],
+        answer: &mut String,
+    ) -> Result<(), Fault> {
+        let text = with_spec(alloc, text, question)?;
+        match model_of(alloc, &text) {
+            Ok(model) => answer_model(alloc, &model, answer),
+            Err(refusal) => Ok(write!(answer, "refused, {refusal}")?),
+        }
+    }
+}
