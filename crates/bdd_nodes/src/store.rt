@@ -5,9 +5,6 @@ use crate::{Held, Ref, StoreRefusal, Triple};
 use indexmap::IndexSet;
 use std::alloc::{AllocError, Global};
 
-/// How many triples a new store has room for before its table grows.
-const FIRST_ROOM: u32 = 1024;
-
 /// A node table: the triples of diagrams that share their nodes, each once.
 #[derive(Drop)]
 pub struct Store {
@@ -35,11 +32,11 @@ impl Store {
         ensures limit { IfOk result (λ s. limit_of s ≡ limit) }
         ensures empty { IfOk result (λ s. triples s ≡ []) }
     {
-        let nodes = IndexSet::with_capacity(alloc, limit.min(FIRST_ROOM) as usize)?;
         Ok(Store {
             levels,
             limit,
-            nodes,
+            // a limit reserves no memory: the table grows as triples come
+            nodes: IndexSet::new(alloc),
         })
     }
 
