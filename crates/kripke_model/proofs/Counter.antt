@@ -40,6 +40,7 @@ counter = record {
   processes = main_name ∷ [];
   assigns = init_bit 0 ∷ next_bit 0 ∷ init_bit 1 ∷ next_bit 1 ∷ init_bit 2 ∷ next_bit 2 ∷ [];
   inits = [];
+  invars = [];
   trans = [];
   constraints = [];
   specs = record { expr = Term.Quant PathOp.AG (Term.Quant PathOp.AF (carry 3)); line = 6 } ∷ [];
@@ -104,6 +105,8 @@ steps s t a b c = record {
   constrained = All-nil (λ c. Holds counter c.expr s t);
   current_before = current s;
   current_after = current t;
+  invariant_before = All-nil (λ c. Holds counter c.expr s s);
+  invariant_after = All-nil (λ c. Holds counter c.expr t t);
 }
 
 -- each count below 8 steps to the next one

@@ -40,6 +40,7 @@ ring = record {
   processes = main_name ∷ (103 ∷ 49 ∷ []) ∷ (103 ∷ 50 ∷ []) ∷ (103 ∷ 51 ∷ []) ∷ [];
   assigns = init_output 1 ∷ next_output 1 3 ∷ init_output 2 ∷ next_output 2 1 ∷ init_output 3 ∷ next_output 3 2 ∷ [];
   inits = [];
+  invars = [];
   trans = [];
   constraints = running_fair 1 ∷ running_fair 2 ∷ running_fair 3 ∷ [];
   specs = record { expr = Term.Binary BinOp.And (Term.Quant PathOp.AG (Term.Quant PathOp.AF (Term.Var 1))) (Term.Quant PathOp.AG (Term.Quant PathOp.AF (Term.Not (Term.Var 1)))); line = 6 } ∷ [];
@@ -96,6 +97,8 @@ steps s t a b c = record {
   constrained = All-nil (λ c. Holds ring c.expr s t);
   current_before = current s;
   current_after = current t;
+  invariant_before = All-nil (λ c. Holds ring c.expr s s);
+  invariant_after = All-nil (λ c. Holds ring c.expr t t);
 }
   where
     Kept : ℕ → Type 0

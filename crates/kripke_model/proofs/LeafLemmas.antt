@@ -112,14 +112,14 @@ module _ (m : System) (flat : IsFlat m) (allowed : Silent (formula_not_allowed m
   in_constraint : (t : Term) → Any (λ c. IsLeafOf t (formula_of c.expr)) m.constraints → IsEvaluable m t
   in_constraint t h =
       let clear = untrue (has_path_operator (get_or m.constraints h.0 h.1).expr)
-      (never_in (λ (c : Condition). StaticRefusal.FormulaNotAllowed c.line) (λ (c : Condition). HasFormula c.expr) m.constraints (silent_first (silent_second (silent_second (silent_second allowed)))) h.0 h.1 h.2) in
+      (never_in (λ (c : Condition). StaticRefusal.FormulaNotAllowed c.line) (λ (c : Condition). HasFormula c.expr) m.constraints (silent_first (silent_second (silent_second (silent_second (silent_second allowed))))) h.0 h.1 h.2) in
       leaf_known m t (get_or m.constraints h.0 h.1).expr (constraints_sound m flat h.0 h.1 h.2) (clear_formula (get_or m.constraints h.0 h.1).expr clear)
       (subst (λ (c : Condition). IsLeafOf t (formula_of c.expr)) (sym h.3) h.4)
 
   in_spec : (t : Term) → Any (λ c. IsLeafOf t (formula_of c.expr)) m.specs → IsEvaluable m t
   in_spec t h =
       let formula = not_false (is_formula (get_or m.specs h.0 h.1).expr)
-      (never_in (λ (c : Condition). StaticRefusal.FormulaNotAllowed c.line) (λ (c : Condition). IsFalse (is_formula c.expr)) m.specs (silent_second (silent_second (silent_second (silent_second allowed)))) h.0 h.1 h.2) in
+      (never_in (λ (c : Condition). StaticRefusal.FormulaNotAllowed c.line) (λ (c : Condition). IsFalse (is_formula c.expr)) m.specs (silent_second (silent_second (silent_second (silent_second (silent_second allowed))))) h.0 h.1 h.2) in
       leaf_known m t (get_or m.specs h.0 h.1).expr (specs_sound m flat h.0 h.1 h.2) formula
       (subst (λ (c : Condition). IsLeafOf t (formula_of c.expr)) (sym h.3) h.4)
 

@@ -61,33 +61,39 @@ module _ (m : System) (flat : IsFlat m) where
   pub rights_sound : All (λ a. IsSound m a.right) m.assigns
   rights_sound =
       all_unmapped (IsSound m) (λ (a : Assignment). a.right) m.assigns
-      (all_front (IsSound m) (map (λ (a : Assignment). a.right) m.assigns) (map whole (m.inits ++ m.trans ++ m.constraints ++ m.specs)) flat.expressions)
+      (all_front (IsSound m) (map (λ (a : Assignment). a.right) m.assigns) (map whole (m.inits ++ m.invars ++ m.trans ++ m.constraints ++ m.specs)) flat.expressions)
 
-  conditions_sound : All (λ c. IsSound m (whole c)) (m.inits ++ m.trans ++ m.constraints ++ m.specs)
+  conditions_sound : All (λ c. IsSound m (whole c)) (m.inits ++ m.invars ++ m.trans ++ m.constraints ++ m.specs)
   conditions_sound =
-      all_unmapped (IsSound m) whole (m.inits ++ m.trans ++ m.constraints ++ m.specs)
-      (all_back (IsSound m) (map (λ (a : Assignment). a.right) m.assigns) (map whole (m.inits ++ m.trans ++ m.constraints ++ m.specs)) flat.expressions)
+      all_unmapped (IsSound m) whole (m.inits ++ m.invars ++ m.trans ++ m.constraints ++ m.specs)
+      (all_back (IsSound m) (map (λ (a : Assignment). a.right) m.assigns) (map whole (m.inits ++ m.invars ++ m.trans ++ m.constraints ++ m.specs)) flat.expressions)
 
   abbrev Sound : Condition → Type 0
   Sound c = IsSound m c.expr
 
   pub specs_sound : All (λ c. IsSound m c.expr) m.specs
-  specs_sound = all_back Sound (m.inits ++ m.trans ++ m.constraints) m.specs conditions_sound
+  specs_sound = all_back Sound (m.inits ++ m.invars ++ m.trans ++ m.constraints) m.specs conditions_sound
 
-  before_specs : All (λ c. IsSound m c.expr) (m.inits ++ m.trans ++ m.constraints)
-  before_specs = all_front Sound (m.inits ++ m.trans ++ m.constraints) m.specs conditions_sound
+  before_specs : All (λ c. IsSound m c.expr) (m.inits ++ m.invars ++ m.trans ++ m.constraints)
+  before_specs = all_front Sound (m.inits ++ m.invars ++ m.trans ++ m.constraints) m.specs conditions_sound
 
   pub constraints_sound : All (λ c. IsSound m c.expr) m.constraints
-  constraints_sound = all_back Sound (m.inits ++ m.trans) m.constraints before_specs
+  constraints_sound = all_back Sound (m.inits ++ m.invars ++ m.trans) m.constraints before_specs
 
-  before_constraints : All (λ c. IsSound m c.expr) (m.inits ++ m.trans)
-  before_constraints = all_front Sound (m.inits ++ m.trans) m.constraints before_specs
+  before_constraints : All (λ c. IsSound m c.expr) (m.inits ++ m.invars ++ m.trans)
+  before_constraints = all_front Sound (m.inits ++ m.invars ++ m.trans) m.constraints before_specs
 
   trans_sound : All (λ c. IsSound m c.expr) m.trans
-  trans_sound = all_back Sound m.inits m.trans before_constraints
+  trans_sound = all_back Sound (m.inits ++ m.invars) m.trans before_constraints
+
+  before_trans : All (λ c. IsSound m c.expr) (m.inits ++ m.invars)
+  before_trans = all_front Sound (m.inits ++ m.invars) m.trans before_constraints
+
+  invars_sound : All (λ c. IsSound m c.expr) m.invars
+  invars_sound = all_back Sound m.inits m.invars before_trans
 
   inits_sound : All (λ c. IsSound m c.expr) m.inits
-  inits_sound = all_front Sound m.inits m.trans before_constraints
+  inits_sound = all_front Sound m.inits m.invars before_trans
 
   conditions_evaluable : (cs : List Condition) → All (λ c. IsSound m c.expr) cs → Silent (refused_condition StaticRefusal.FormulaNotAllowed HasFormula cs) → All (λ c. IsEvaluable m c.expr) cs
   conditions_evaluable cs sound silent k d below =
@@ -102,8 +108,11 @@ module _ (m : System) (flat : IsFlat m) where
     pub inits_evaluable : All (λ c. IsEvaluable m c.expr) m.inits
     inits_evaluable = conditions_evaluable m.inits inits_sound (silent_first (silent_second allowed))
 
+    pub invars_evaluable : All (λ c. IsEvaluable m c.expr) m.invars
+    invars_evaluable = conditions_evaluable m.invars invars_sound (silent_first (silent_second (silent_second allowed)))
+
     pub trans_evaluable : All (λ c. IsEvaluable m c.expr) m.trans
-    trans_evaluable = conditions_evaluable m.trans trans_sound (silent_first (silent_second (silent_second allowed)))
+    trans_evaluable = conditions_evaluable m.trans trans_sound (silent_first (silent_second (silent_second (silent_second allowed))))
 
     pub constraints_evaluable : All (λ c. IsEvaluable m c.expr) m.constraints
-    constraints_evaluable = conditions_evaluable m.constraints constraints_sound (silent_first (silent_second (silent_second (silent_second allowed))))
+    constraints_evaluable = conditions_evaluable m.constraints constraints_sound (silent_first (silent_second (silent_second (silent_second (silent_second allowed)))))

@@ -70,6 +70,7 @@ users = record {
   processes = main_name ∷ (112 ∷ 49 ∷ []) ∷ (112 ∷ 50 ∷ []) ∷ [];
   assigns = begins_free ∷ begins_idle 1 ∷ state_assigned 1 ∷ semaphore_assigned 1 ∷ begins_idle 2 ∷ state_assigned 2 ∷ semaphore_assigned 2 ∷ [];
   inits = [];
+  invars = [];
   trans = [];
   constraints = record { expr = Term.Running 1; line = 27 } ∷ record { expr = Term.Running 2; line = 27 } ∷ [];
   specs = record { expr = Term.Quant PathOp.AG (Term.Not (Term.Binary BinOp.And (is_at 2 critical) (is_at 3 critical))); line = 8 }

@@ -33,6 +33,7 @@ rising = record {
   processes = main_name ∷ [];
   assigns = raised ∷ [];
   inits = record { expr = Term.Binary BinOp.Eq (Term.Var 0) (constant 0); line = 4 } ∷ [];
+  invars = [];
   trans = record { expr = Term.Binary BinOp.Lt (Term.Next (Term.Var 0)) (constant 3); line = 5 } ∷ [];
   constraints = [];
   specs = record { expr = Term.Quant PathOp.AG (Term.Binary BinOp.Lt (Term.Var 0) (constant 3)); line = 6 } ∷ [];
@@ -80,6 +81,7 @@ symbols_only = record {
   processes = main_name ∷ [];
   assigns = falling ∷ [];
   inits = [];
+  invars = [];
   trans = [];
   constraints = [];
   specs = record { expr = Term.Quant PathOp.AG (Term.Binary BinOp.Eq (Term.Var 0) (symbol 0)); line = 4 } ∷ [];

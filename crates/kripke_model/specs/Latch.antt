@@ -42,6 +42,7 @@ latch = record {
   processes = (109 ∷ 97 ∷ 105 ∷ 110 ∷ []) ∷ [];
   assigns = init_x ∷ next_x ∷ [];
   inits = [];
+  invars = [];
   trans = [];
   constraints = go_fair ∷ one_fair ∷ [];
   specs = record { expr = Term.Quant PathOp.AF x_term; line = 8 } ∷ [];

@@ -71,35 +71,49 @@ impl Formula {
     pub fn copy(&self, alloc: Global) -> Result<Formula, AllocError>
         ensures { IfOk result (λ f. ctl_of f ≡ ctl_of self.now) }
     {
-        match self {
-            Formula::Leaf(e) => Ok(Formula::Leaf(e.copy(alloc)?)),
-            Formula::Not(f) => Ok(Formula::Not(Box::new(alloc, f.copy(alloc)?)?)),
-            Formula::And(f, g) => {
-                let f = Box::new(alloc, f.copy(alloc)?)?;
-                let g = Box::new(alloc, g.copy(alloc)?)?;
-                Ok(Formula::And(f, g))
-            }
-            Formula::Or(f, g) => {
-                let f = Box::new(alloc, f.copy(alloc)?)?;
-                let g = Box::new(alloc, g.copy(alloc)?)?;
-                Ok(Formula::Or(f, g))
-            }
-            Formula::Implies(f, g) => {
-                let f = Box::new(alloc, f.copy(alloc)?)?;
-                let g = Box::new(alloc, g.copy(alloc)?)?;
-                Ok(Formula::Implies(f, g))
-            }
-            Formula::Iff(f, g) => {
-                let f = Box::new(alloc, f.copy(alloc)?)?;
-                let g = Box::new(alloc, g.copy(alloc)?)?;
-                Ok(Formula::Iff(f, g))
-            }
-            Formula::Quant(op, f) => Ok(Formula::Quant(*op, Box::new(alloc, f.copy(alloc)?)?)),
-            Formula::Until(all, f, g) => {
-                let f = Box::new(alloc, f.copy(alloc)?)?;
-                let g = Box::new(alloc, g.copy(alloc)?)?;
-                Ok(Formula::Until(*all, f, g))
-            }
+        copy_formula(alloc, self)
+    }
+}
+
+#[cycle(copy_formula)]
+fn copy_formula(alloc: Global, f: &Formula) -> Result<Formula, AllocError>
+    ensures { IfOk result (λ g. ctl_of g ≡ ctl_of f.now) }
+{
+    match f {
+        Formula::Leaf(e) => Ok(Formula::Leaf(e.copy(alloc)?)),
+        Formula::Not(f) => Ok(Formula::Not(copy_boxed(alloc, f)?)),
+        Formula::And(f, g) => {
+            let f = copy_boxed(alloc, f)?;
+            let g = copy_boxed(alloc, g)?;
+            Ok(Formula::And(f, g))
+        }
+        Formula::Or(f, g) => {
+            let f = copy_boxed(alloc, f)?;
+            let g = copy_boxed(alloc, g)?;
+            Ok(Formula::Or(f, g))
+        }
+        Formula::Implies(f, g) => {
+            let f = copy_boxed(alloc, f)?;
+            let g = copy_boxed(alloc, g)?;
+            Ok(Formula::Implies(f, g))
+        }
+        Formula::Iff(f, g) => {
+            let f = copy_boxed(alloc, f)?;
+            let g = copy_boxed(alloc, g)?;
+            Ok(Formula::Iff(f, g))
+        }
+        Formula::Quant(op, f) => Ok(Formula::Quant(*op, copy_boxed(alloc, f)?)),
+        Formula::Until(all, f, g) => {
+            let f = copy_boxed(alloc, f)?;
+            let g = copy_boxed(alloc, g)?;
+            Ok(Formula::Until(*all, f, g))
         }
     }
+}
+
+#[cycle(copy_formula)]
+fn copy_boxed(alloc: Global, f: &Formula) -> Result<Box<Formula>, AllocError>
+    ensures { IfOk result (λ g. ctl_of g.value ≡ ctl_of f.now) }
+{
+    Ok(Box::new(alloc, copy_formula(alloc, f)?)?)
 }

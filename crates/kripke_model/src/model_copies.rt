@@ -61,6 +61,19 @@ fn copy_all<T: Copied>(alloc: Global, members: &[T]) -> Result<Vec<T>, AllocErro
     Ok(copies)
 }
 
+fn copy_both<T: Copied, U: Copied>(
+    alloc: Global,
+    first: &[T],
+    second: &[U],
+) -> Result<(Vec<T>, Vec<U>), AllocError>
+    ensures first { IfOk result (λ both. both.0.items ≡ first.now) }
+    ensures second { IfOk result (λ both. both.1.items ≡ second.now) }
+{
+    let first = copy_all(alloc, first)?;
+    let second = copy_all(alloc, second)?;
+    Ok((first, second))
+}
+
 fn copy_formulas(alloc: Global, formulas: &[Formula]) -> Result<Vec<Formula>, AllocError>
     ensures { IfOk result (λ v. map ctl_of v.items ≡ map ctl_of formulas.now) }
 {
@@ -76,16 +89,22 @@ impl FlatModel {
     pub fn copy(&self, alloc: Global) -> Result<FlatModel, AllocError>
         ensures { IfOk result (λ m. m ≡ self.now) }
     {
+        let (symbols, processes) = copy_both(alloc, &self.symbols, &self.processes)?;
+        let (vars, assigns) = copy_both(alloc, &self.vars, &self.assigns)?;
+        let (inits, invars) = copy_both(alloc, &self.inits, &self.invars)?;
+        let (trans, constraints) = copy_both(alloc, &self.trans, &self.constraints)?;
+        let specs = copy_all(alloc, &self.specs)?;
         Ok(FlatModel {
-            symbols: copy_all(alloc, &self.symbols)?,
-            vars: copy_all(alloc, &self.vars)?,
+            symbols,
+            vars,
             selector: self.selector,
-            processes: copy_all(alloc, &self.processes)?,
-            assigns: copy_all(alloc, &self.assigns)?,
-            inits: copy_all(alloc, &self.inits)?,
-            trans: copy_all(alloc, &self.trans)?,
-            constraints: copy_all(alloc, &self.constraints)?,
-            specs: copy_all(alloc, &self.specs)?,
+            processes,
+            assigns,
+            inits,
+            invars,
+            trans,
+            constraints,
+            specs,
         })
     }
 }

@@ -6,7 +6,7 @@ ghost use Rattle.kripke_model.specs.Refusing.{Silent};
 ghost use Rattle.kripke_model.specs.Static.{HasNext, HasNextInNext};
 ghost use Rattle.smv_static.specs.Sections.{IsWrong, IsWrongIn, refusal, assignments_rule, conditions_rule, items_rule};
 
-use crate::operators::{is_formula, uses_inner_next, uses_next, uses_path_operator};
+use crate::operators::{is_formula, uses_inner_next, uses_path_operator};
 use crate::parts::{
     assigns_of, constraints_of, inits_of, line_of, line_of_assign, specs_of, trans_of,
 };
@@ -36,7 +36,7 @@ pub enum Section {
 fn holds_next(expr: &Expr) -> bool
     ensures { IsTrue result ↔ HasNext (term_of expr.now) }
 {
-    uses_next(expr)
+    expr.uses_next()
 }
 
 fn holds_inner_next(expr: &Expr) -> bool
