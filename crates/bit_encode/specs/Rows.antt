@@ -17,6 +17,7 @@ model_with symbols vars = record {
   processes = main_name ∷ [];
   assigns = [];
   inits = [];
+  invars = [];
   trans = [];
   constraints = [];
   specs = [];

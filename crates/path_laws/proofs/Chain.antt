@@ -42,6 +42,7 @@ chain = record {
   processes = (109 ∷ 97 ∷ 105 ∷ 110 ∷ []) ∷ [];
   assigns = init_x ∷ next_x ∷ [];
   inits = [];
+  invars = [];
   trans = [];
   constraints = [];
   specs = [];
@@ -89,6 +90,8 @@ step_of s t v = record {
   constrained = All-nil (λ c. Holds chain c.expr s t);
   current_before = current s;
   current_after = current t;
+  invariant_before = All-nil (λ c. Holds chain c.expr s s);
+  invariant_after = All-nil (λ c. Holds chain c.expr t t);
 }
 
 stepped : (s t : State) → Step chain s t → IsValueOf chain next_term s t (value_in t 0)

@@ -33,6 +33,7 @@ sections = record {
   processes = main_name ∷ [];
   assigns = tied_z ∷ rising_y ∷ [];
   inits = begins ∷ [];
+  invars = [];
   trans = alternates ∷ [];
   constraints = [];
   specs = [];
@@ -86,6 +87,8 @@ steps s t y changes before after = record {
   constrained = All-from_recursion (λ c. Holds sections c.expr s t) sections.trans (changes, tt);
   current_before = current s before;
   current_after = current t after;
+  invariant_before = All-nil (λ c. Holds sections c.expr s s);
+  invariant_after = All-nil (λ c. Holds sections c.expr t t);
 }
 
 -- y keeps its value or becomes 2, as the set says

@@ -25,6 +25,7 @@ two_processes assigns specs = record {
   processes = main_name ∷ (112 ∷ []) ∷ [];
   assigns = assigns;
   inits = [];
+  invars = [];
   trans = [];
   constraints = [];
   specs = specs;
