@@ -38,7 +38,7 @@ module _ (m : System) (flat : IsFlat m) where
   few_assigns =
       let nodes : node_total m ≤ 200000 = flat.limits.nodes in
       let rights : List Term = map (λ (a : Assignment). a.right) m.assigns in
-      let others : List Term = map (λ (c : Condition). c.expr) (m.inits ++ m.trans ++ m.constraints ++ m.specs) in
+      let others : List Term = map (λ (c : Condition). c.expr) (m.inits ++ m.invars ++ m.trans ++ m.constraints ++ m.specs) in
       omega (arith, nodes, few_members (expressions m), length-append rights others, length-map m.assigns (λ (a : Assignment). a.right))
 
   pub few_processes : length m.processes ≤ 1024

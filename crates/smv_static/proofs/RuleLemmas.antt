@@ -35,13 +35,13 @@ module _ (m : System) (rules : KeepsRules m) where
   specs_are_formulas k d below =
       not_false (is_formula (get_or m.specs k d).expr)
       (never_in (λ (c : Condition). StaticRefusal.FormulaNotAllowed c.line) (λ (c : Condition). IsFalse (is_formula c.expr)) m.specs
-      (silent_second (silent_second (silent_second (silent_second (silent_second (silent_second (silent_second (silent_second rules)))))))) k d below)
+      (silent_second (silent_second (silent_second (silent_second (silent_second (silent_second (silent_second (silent_second (silent_second rules))))))))) k d below)
 
   pub constraints_are_formulas : All (λ c. is_formula c.expr ≡ true) m.constraints
   constraints_are_formulas k d below =
       plain_formula (get_or m.constraints k d).expr (not_true (has_path_operator (get_or m.constraints k d).expr)
       (never_in (λ (c : Condition). StaticRefusal.FormulaNotAllowed c.line) (λ (c : Condition). HasFormula c.expr) m.constraints
-      (silent_first (silent_second (silent_second (silent_second (silent_second (silent_second (silent_second (silent_second rules)))))))) k d below))
+      (silent_first (silent_second (silent_second (silent_second (silent_second (silent_second (silent_second (silent_second (silent_second rules))))))))) k d below))
 
   pub ruled : (formulas fair : List Formula) → IsFlat m → map ctl_of formulas ≡ map (λ c. formula_of c.expr) m.specs → map ctl_of fair ≡ map (λ c. formula_of c.expr) m.constraints → IsRuled m formulas fair
   ruled formulas fair flat f g = record {

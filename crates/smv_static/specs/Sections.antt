@@ -36,6 +36,7 @@ conditions_rule rule section cs = refused_condition (refusal rule) (IsWrong rule
 abbrev pub items_rule : ItemRule → System → StaticRule
 items_rule rule m = assignments_rule rule m.assigns
     then conditions_rule rule Section.State m.inits
+    then conditions_rule rule Section.State m.invars
     then conditions_rule rule Section.Step m.trans
     then conditions_rule rule Section.State m.constraints
     then conditions_rule rule Section.Specification m.specs

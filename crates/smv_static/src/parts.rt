@@ -16,6 +16,12 @@ pub fn inits_of(flat: &FlatModel) -> &[Item]
     &flat.inits
 }
 
+pub fn invars_of(flat: &FlatModel) -> &[Item]
+    ensures { result.now ≡ flat.now.invars }
+{
+    &flat.invars
+}
+
 pub fn trans_of(flat: &FlatModel) -> &[Item]
     ensures { result.now ≡ flat.now.trans }
 {

@@ -8,7 +8,7 @@ ghost use Rattle.smv_static.specs.Sections.{IsWrong, IsWrongIn, refusal, assignm
 
 use crate::operators::{is_formula, uses_inner_next, uses_path_operator};
 use crate::parts::{
-    assigns_of, constraints_of, inits_of, line_of, line_of_assign, specs_of, trans_of,
+    assigns_of, constraints_of, inits_of, invars_of, line_of, line_of_assign, specs_of, trans_of,
 };
 use kripke_model::expressions::Expr;
 use kripke_model::models::{Assign, FlatModel, Item, Part};
@@ -26,7 +26,7 @@ pub enum ItemRule {
 /// What an item speaks of.
 #[derive(Clone, Copy)]
 pub enum Section {
-    /// A state: `INIT` and the constraints.
+    /// A state: `INIT`, `INVAR` and the constraints.
     State,
     /// A step: `TRANS`.
     Step,
@@ -133,6 +133,7 @@ pub fn check_items(flat: &FlatModel, rule: ItemRule) -> Result<(), StaticRefusal
 {
     refuse_assigns(assigns_of(flat), rule)?;
     refuse_items(inits_of(flat), rule, Section::State)?;
+    refuse_items(invars_of(flat), rule, Section::State)?;
     refuse_items(trans_of(flat), rule, Section::Step)?;
     refuse_items(constraints_of(flat), rule, Section::State)?;
     refuse_items(specs_of(flat), rule, Section::Specification)

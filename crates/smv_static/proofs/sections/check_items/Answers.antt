@@ -24,7 +24,7 @@ returns-in_err-refuse_items-2-clause-err c =
       silent_assigns r _ _ c.assigns_of.ensures c.in_ok-refuse_assigns.ensures.ok,
       inr (
         silent_conditions r Section.State _ _ c.inits_of.ensures c.in_ok-refuse_items.ensures.ok,
-        inl (subst (λ (xs : List Condition). conditions_rule r Section.Step xs p.0) c.trans_of.ensures (subst (λ (y : StaticRefusal). conditions_rule r Section.Step c.trans_of.result.now y) (sym p.2) c.in_err-refuse_items-2.ensures.err)),
+        inl (subst (λ (xs : List Condition). conditions_rule r Section.State xs p.0) c.invars_of.ensures (subst (λ (y : StaticRefusal). conditions_rule r Section.State c.invars_of.result.now y) (sym p.2) c.in_err-refuse_items-2.ensures.err)),
       ),
     ))
 
@@ -37,8 +37,26 @@ returns-in_err-refuse_items-3-clause-err c =
       inr (
         silent_conditions r Section.State _ _ c.inits_of.ensures c.in_ok-refuse_items.ensures.ok,
         inr (
-          silent_conditions r Section.Step _ _ c.trans_of.ensures c.in_ok-refuse_items-2.ensures.ok,
-          inl (subst (λ (xs : List Condition). conditions_rule r Section.State xs p.0) c.constraints_of.ensures (subst (λ (y : StaticRefusal). conditions_rule r Section.State c.constraints_of.result.now y) (sym p.2) c.in_err-refuse_items-3.ensures.err)),
+          silent_conditions r Section.State _ _ c.invars_of.ensures c.in_ok-refuse_items-2.ensures.ok,
+          inl (subst (λ (xs : List Condition). conditions_rule r Section.Step xs p.0) c.trans_of.ensures (subst (λ (y : StaticRefusal). conditions_rule r Section.Step c.trans_of.result.now y) (sym p.2) c.in_err-refuse_items-3.ensures.err)),
+        ),
+      ),
+    ))
+
+pub returns-in_err-refuse_items-4-clause-err : goal.returns-in_err-refuse_items-4-clause-err
+returns-in_err-refuse_items-4-clause-err c =
+    let r = c.args.rule in
+    let p = err_from_is_err_and c.from_residual-in_err-refuse_items-4.result c.from_residual-in_err-refuse_items-4.ensures.1 in
+    rw p.1 (inr (
+      silent_assigns r _ _ c.assigns_of.ensures c.in_ok-refuse_assigns.ensures.ok,
+      inr (
+        silent_conditions r Section.State _ _ c.inits_of.ensures c.in_ok-refuse_items.ensures.ok,
+        inr (
+          silent_conditions r Section.State _ _ c.invars_of.ensures c.in_ok-refuse_items-2.ensures.ok,
+          inr (
+            silent_conditions r Section.Step _ _ c.trans_of.ensures c.in_ok-refuse_items-3.ensures.ok,
+            inl (subst (λ (xs : List Condition). conditions_rule r Section.State xs p.0) c.constraints_of.ensures (subst (λ (y : StaticRefusal). conditions_rule r Section.State c.constraints_of.result.now y) (sym p.2) c.in_err-refuse_items-4.ensures.err)),
+          ),
         ),
       ),
     ))
@@ -46,29 +64,33 @@ returns-in_err-refuse_items-3-clause-err c =
 pub returns-clause-ok : goal.returns-clause-ok
 returns-clause-ok c =
     let r = c.args.rule in
-    on_ok c.refuse_items-4.result (λ s.
+    on_ok c.refuse_items-5.result (λ s.
     silent_then (silent_assigns r _ _ c.assigns_of.ensures c.in_ok-refuse_assigns.ensures.ok)
     (silent_then (silent_conditions r Section.State _ _ c.inits_of.ensures c.in_ok-refuse_items.ensures.ok)
-    (silent_then (silent_conditions r Section.Step _ _ c.trans_of.ensures c.in_ok-refuse_items-2.ensures.ok)
-    (silent_then (silent_conditions r Section.State _ _ c.constraints_of.ensures c.in_ok-refuse_items-3.ensures.ok)
-    (silent_conditions r Section.Specification _ _ c.specs_of.ensures s)))))
-    c.refuse_items-4.ensures.ok
+    (silent_then (silent_conditions r Section.State _ _ c.invars_of.ensures c.in_ok-refuse_items-2.ensures.ok)
+    (silent_then (silent_conditions r Section.Step _ _ c.trans_of.ensures c.in_ok-refuse_items-3.ensures.ok)
+    (silent_then (silent_conditions r Section.State _ _ c.constraints_of.ensures c.in_ok-refuse_items-4.ensures.ok)
+    (silent_conditions r Section.Specification _ _ c.specs_of.ensures s))))))
+    c.refuse_items-5.ensures.ok
 
 pub returns-clause-err : goal.returns-clause-err
 returns-clause-err c =
     let r = c.args.rule in
-    if_err c.refuse_items-4.result (λ e h.
+    if_err c.refuse_items-5.result (λ e h.
     inr (
       silent_assigns r _ _ c.assigns_of.ensures c.in_ok-refuse_assigns.ensures.ok,
       inr (
         silent_conditions r Section.State _ _ c.inits_of.ensures c.in_ok-refuse_items.ensures.ok,
         inr (
-          silent_conditions r Section.Step _ _ c.trans_of.ensures c.in_ok-refuse_items-2.ensures.ok,
+          silent_conditions r Section.State _ _ c.invars_of.ensures c.in_ok-refuse_items-2.ensures.ok,
           inr (
-            silent_conditions r Section.State _ _ c.constraints_of.ensures c.in_ok-refuse_items-3.ensures.ok,
-            subst (λ (xs : List Condition). conditions_rule r Section.Specification xs e) c.specs_of.ensures h,
+            silent_conditions r Section.Step _ _ c.trans_of.ensures c.in_ok-refuse_items-3.ensures.ok,
+            inr (
+              silent_conditions r Section.State _ _ c.constraints_of.ensures c.in_ok-refuse_items-4.ensures.ok,
+              subst (λ (xs : List Condition). conditions_rule r Section.Specification xs e) c.specs_of.ensures h,
+            ),
           ),
         ),
       ),
     ))
-    c.refuse_items-4.ensures.err
+    c.refuse_items-5.ensures.err
