@@ -14,7 +14,7 @@ use Rattle.kripke_model.specs.WellFormed.{ctl_of}
 use Rattle.kripke_model.specs.declared.expressions.Formula.{Formula}
 use Rattle.fair_fixpoint.specs.Walks.{HasModelLeaves}
 use Rattle.smv_session.specs.Report.{Finding, is_unknown, is_false}
-use Rattle.smv_session.specs.Verdicts.{EachFinding, IsVerdict, ShowsState, AreVerdicts, ShowStates}
+use Rattle.smv_session.specs.Verdicts.{EachFinding, IsTold, ShowsState, AreVerdicts, ShowStates}
 use Rattle.smv_session.specs.Endings.{IsOfLimit, EndsWith}
 use Rattle.smv_session.specs.Found.{finding_of, outcome_tried, held_tried, IsTried, IsFoundOf, AreFoundOf, AreFound}
 use Rattle.smv_session.specs.declared.decision.Tried.{Tried}
@@ -46,7 +46,7 @@ each_weaker R Q to [] (g ∷ fs) each = absurd each
 each_weaker R Q to (d ∷ cs) [] each = absurd each
 
 pub verdicts_of : (m : System) (limit : ℕ) (fs : List Finding) → EachFinding (IsFoundOf m limit) m.specs fs → AreVerdicts m limit fs
-verdicts_of m limit fs each = each_weaker (IsFoundOf m limit) (λ f finding. IsVerdict m limit f finding.outcome) (λ f g found. found.0) m.specs fs each
+verdicts_of m limit fs each = each_weaker (IsFoundOf m limit) (IsTold m limit) (λ f g found. found.0) m.specs fs each
 
 pub states_of : (m : System) (limit : ℕ) (fs : List Finding) → EachFinding (IsFoundOf m limit) m.specs fs → ShowStates m fs
 states_of m limit fs each = each_weaker (IsFoundOf m limit) (λ f finding. ShowsState m f finding.outcome) (λ f g found. found.1) m.specs fs each
@@ -55,9 +55,9 @@ states_of m limit fs each = each_weaker (IsFoundOf m limit) (λ f finding. Shows
 
 -- what trying a formula gave is what is found of it
 found_of : (m : System) (limit : ℕ) (f : Ctl) (t : Tried) → IsFaultless m → IsTried m limit f t → IsFoundOf m limit f (finding_of (outcome_tried limit t))
-found_of m limit f (tried.Decided None) faultless is = ((faultless, is), tt)
-found_of m limit f (tried.Decided (Some s)) faultless is = ((faultless, λ holds. is.0.2 (holds s is.0.0 is.0.1)), (is, refl))
-found_of m limit f (tried.Full held) faultless is = (refl, tt)
+found_of m limit f (tried.Decided None) faultless is = (record { verdict = (faultless, is); left_out = refl }, tt)
+found_of m limit f (tried.Decided (Some s)) faultless is = (record { verdict = (faultless, λ holds. is.0.2 (holds s is.0.0 is.0.1)); left_out = refl }, (is, refl))
+found_of m limit f (tried.Full held) faultless is = (record { verdict = refl; left_out = refl }, tt)
 
 -- and a full store of it is told
 told_held : (m : System) (limit : ℕ) (f : Ctl) (t : Tried) (h : Held) → IsTried m limit f t → held_tried t ≡ Some h → IsOfLimit m limit h
@@ -149,7 +149,7 @@ unknown_more_of m limit specs old new below h is =
     record {
       each = subst (λ cs. EachFinding (IsFoundOf m limit) cs (map finding_of new)) (sym fronts)
           (subst (EachFinding (IsFoundOf m limit) (take (length old) specs ++ get_or specs (length old) d ∷ [])) (sym findings)
-          (each_push (IsFoundOf m limit) (take (length old) specs) (map finding_of old) (get_or specs (length old) d) (finding_of (Unknown limit)) h.each (refl, tt)));
+          (each_push (IsFoundOf m limit) (take (length old) specs) (map finding_of old) (get_or specs (length old) d) (finding_of (Unknown limit)) h.each (record { verdict = refl; left_out = refl }, tt)));
       all =
           let before = h.all in
           let after = ap (count_by is_unknown) findings ∙ sum_by_push (λ f. cond (is_unknown f) 1 0) (map finding_of old) (finding_of (Unknown limit)) in

@@ -17,7 +17,7 @@ use Rattle.smv_session.specs.Verdicts.{AreVerdicts, ShowStates}
 use Rattle.smv_session.specs.Endings.{EndsWith}
 use Rattle.smv_session.specs.Answers.{Answers, Loads, IsModelAnswer, IsReported}
 use Rattle.smv_session.specs.Foreseen.{Foresees, Came}
-use Rattle.smv_session.specs.Session.{Session, FilesRose, FilesGrew, FilesWereAtLast, SinkRose, Puts, PutsPrefix, PutsFaultLine, TellsText, AnswersUsage, RefusesModels, FaultHasCause, FaultLinesHaveCause, CutsOffAnswer, MemoryChangesNothing, IsUndisturbed, Checks, MayCheck, PutsReport, ReportsVerdicts, ShowsStates, HasEvidence, ReportHasStatus}
+use Rattle.smv_session.specs.Session.{Session, FilesRose, FilesGrew, Grew, WasAtLast, SinkRose, Puts, PutsPrefix, PutsFaultLine, TellsText, AnswersUsage, RefusesModels, FaultHasCause, FaultLinesHaveCause, CutsOffAnswer, MemoryChangesNothing, IsUndisturbed, Checks, MayCheck, PutsReport, ReportsVerdicts, ShowsStates, HasEvidence, ReportHasStatus}
 use Rattle.smv_session.proofs.Answered.{OneAnswer, no_fault, no_memory, usage_only, usage_always, refused_only, refused_always, faulty, never, no_line, answer_to, reported, report_only}
 use Rattle.smv_session.proofs.PutText.{told_text, same_line}
 
@@ -57,9 +57,16 @@ module _ (s : Session) (text : List ℕ) (status : Status) (foreseen : Foresees 
   rose LoadMissing name came = inr came.0.rose
 
   -- one that made no count grow found it at its last value
-  at_last : (fault : Fault) (name : List ℕ) → Came fault name s.contents s.file_faults s.file_faults_after → ¬ FilesGrew s → FilesWereAtLast s
-  at_last LoadFailed name came same = inl (stood _ _ came.0 (λ grew. same (inl grew)))
-  at_last LoadMissing name came same = inr (stood _ _ came.0 (λ grew. same (inr grew)))
+  at_last : (fault : Fault) (name : List ℕ) → Came fault name s.contents s.file_faults s.file_faults_after → ¬ FilesGrew s → WasAtLast s fault
+  at_last LoadFailed name came same = stood _ _ came.0 (λ grew. same (inl grew))
+  at_last LoadMissing name came same = stood _ _ came.0 (λ grew. same (inr grew))
+
+  -- one that came with a count that grew made its own count grow
+  own_grew : (fault : Fault) (name : List ℕ) → Came fault name s.contents s.file_faults s.file_faults_after → FilesGrew s → Grew s fault
+  own_grew LoadFailed name came (inl grew) = grew
+  own_grew LoadFailed name came (inr grew) = absurd (omega (arith, grew, came.1))
+  own_grew LoadMissing name came (inl grew) = absurd (omega (arith, grew, came.1.0))
+  own_grew LoadMissing name came (inr grew) = grew
 
   -- a fault line that was put has come
   came_of : (n : ℕ) (fault : Fault) → take n text ≡ fault_line fault → (name : List ℕ) × Loads (command_of s.words) name × Came fault name s.contents s.file_faults s.file_faults_after
@@ -84,7 +91,7 @@ module _ (s : Session) (text : List ℕ) (status : Status) (foreseen : Foresees 
   cut_off puts = record {
     cut = λ is same. elim foreseen [
       | inl answer ↦ inl (text, status, answer.answer, puts)
-      | inr told ↦ inr (at_last told.fault told.name told.came same, told.fault, subst (PutsPrefix s) told.text_is puts)
+      | inr told ↦ inr (told.fault, at_last told.fault told.name told.came same, subst (PutsPrefix s) told.text_is puts)
     ];
   }
 
@@ -101,7 +108,14 @@ module _ (s : Session) (text : List ℕ) (status : Status) (foreseen : Foresees 
   pub prefix_of_line : SinkRose s → PutsPrefix s text → PutsFaultLine s
   prefix_of_line rose puts = λ grew is. elim foreseen [
     | inl answer ↦ absurd (no_growth answer.quiet grew)
-    | inr told ↦ (told.fault, inr (rose, subst (PutsPrefix s) told.text_is puts))
+    | inr told ↦ (told.fault, own_grew told.fault told.name told.came grew, inr (rose, subst (PutsPrefix s) told.text_is puts))
+  ]
+
+  -- where it did not, the whole line is put
+  pub whole_line : Puts s text → PutsFaultLine s
+  whole_line puts = λ grew is. elim foreseen [
+    | inl answer ↦ absurd (no_growth answer.quiet grew)
+    | inr told ↦ (told.fault, own_grew told.fault told.name told.came grew, inl (subst (Puts s) told.text_is puts))
   ]
 
   -- where the text was put and the status answered

@@ -114,7 +114,7 @@ module _ (laws : Laws) (bytes : List ℕ) where
       laws.deep_or_tree h.1 has.1.tokens has.0 (subst (λ ts. IsTooDeepPlace ts h.1) (one_tokens h.0 has.1.tokens h.2 has.1.has) h.3) has.1.derived has.1.within
   stopped (NotFlat r) h has = has.1.kept r (subst (λ p. flattening.Refuses (plain.program p) r) (one_program h.0 has.1.program h.1 has.1.has) h.2)
   stopped (BreaksRule r) h has = has.1.rules r (subst (λ m. Breaks m r) (one_flat h.0 has.0 h.1 has.1.flat) h.2)
-  stopped (TooManyBits bits) h has = let few = subst (λ m. state_bits m ≤ 64) (one_ruled has.0 h.0 has.1.ruled h.1) has.1.few in omega (arith, few, h.2)
+  stopped (TooManyBits bits) h has = let few = subst (λ m. state_bits m ≤ 128) (one_ruled has.0 h.0 has.1.ruled h.1) has.1.few in omega (arith, few, h.2)
   stopped (Faults m kind l here after) h has = faultless_or_fault m kind l here after h.1 (subst IsFaultless (one_model has.0 m has.1.has h.0) has.1.faultless)
 
   -- what is accepted is not refused

@@ -12,7 +12,7 @@ use Rattle.trans_parts.specs.Parts.{model_of, store_of}
 use Rattle.smv_session.specs.Report as report
 use Rattle.smv_session.specs.Report.{Finding}
 use Rattle.smv_session.specs.Source.{state_bits, most_state_bits}
-use Rattle.smv_session.specs.Verdicts.{IsVerdict, ShowsState, EachFinding, IsLeastFailing}
+use Rattle.smv_session.specs.Verdicts.{IsTold, ShowsState, EachFinding, IsLeastFailing}
 use Rattle.smv_session.specs.Endings.{IsOfLimit, AreTried, IsModelUndecided}
 use Rattle.smv_session.specs.declared.outcome.Outcome.{Outcome}
 use Rattle.smv_session.specs.declared.outcome.Outcome.TheVariants.{True, False, Unknown}
@@ -69,7 +69,7 @@ held_tried (tried.Full held) = Some held
 
 -- what is found of a specification
 abbrev pub IsFoundOf : System → ℕ → Ctl → Finding → Type 0
-IsFoundOf m limit f finding = IsVerdict m limit f finding.outcome × ShowsState m f finding.outcome
+IsFoundOf m limit f finding = IsTold m limit f finding × ShowsState m f finding.outcome
 
 -- what is found of each of these specifications, and the full stores that show it
 pub record AreFoundOf (m : System) (limit : ℕ) (cs : List Condition) (found : Findings) : Type 0 where

@@ -54,13 +54,22 @@ session contents file_faults written sink_faults words files files_after out out
 abbrev pub FilesRose : Session → Type 0
 FilesRose s = Rose s.file_faults.failed s.file_faults_after.failed ⊎ Rose s.file_faults.missing s.file_faults_after.missing
 
+-- the count of a fault
+abbrev pub count_of : Fault → FileFaults → ℕ
+count_of LoadFailed counts = counts.failed
+count_of LoadMissing counts = counts.missing
+
+-- the count of the fault is greater than before
+abbrev pub Grew : Session → Fault → Type 0
+Grew s fault = count_of fault s.file_faults < count_of fault s.file_faults_after
+
 -- a count of the files is greater than before
 abbrev pub FilesGrew : Session → Type 0
-FilesGrew s = (s.file_faults.failed < s.file_faults_after.failed) ⊎ (s.file_faults.missing < s.file_faults_after.missing)
+FilesGrew s = Grew s LoadFailed ⊎ Grew s LoadMissing
 
--- a count of the files stood at its last value before the call
-abbrev pub FilesWereAtLast : Session → Type 0
-FilesWereAtLast s = (s.file_faults.failed ≡ last_count) ⊎ (s.file_faults.missing ≡ last_count)
+-- the count of the fault stood at its last value before the call
+abbrev pub WasAtLast : Session → Fault → Type 0
+WasAtLast s fault = count_of fault s.file_faults ≡ last_count
 
 -- the count of the sink rose in this call
 abbrev pub SinkRose : Session → Type 0
@@ -177,9 +186,10 @@ pub record AnswersFaults (s : Session) : Type 0 where
   pub sink : s.sink_faults < s.sink_faults_after → s.status ≡ OutsideFault
   pub files : FilesGrew s → (s.status ≡ OutsideFault) ⊎ (s.status ≡ Memory)
 
--- Where a count of the files grew one fault line is put: whole, or a prefix where the sink failed too.
+-- Where a count of the files grew the line of its fault is put: whole, or a prefix where the sink failed too.
 abbrev pub PutsFaultLine : Session → Type 0
-PutsFaultLine s = FilesGrew s → s.status ≡ OutsideFault → (fault : Fault) × (Puts s (fault_line fault) ⊎ (SinkRose s × PutsPrefix s (fault_line fault)))
+PutsFaultLine s = FilesGrew s → s.status ≡ OutsideFault
+    → (fault : Fault) × Grew s fault × (Puts s (fault_line fault) ⊎ (SinkRose s × PutsPrefix s (fault_line fault)))
 
 -- Each fault line stands only where its own count rose, and all contents stay with it.
 pub record FaultLinesHaveCause (s : Session) : Type 0 where
@@ -187,10 +197,10 @@ pub record FaultLinesHaveCause (s : Session) : Type 0 where
   pub missing : IsToldToPut s (fault_line LoadMissing) → Rose s.file_faults.missing s.file_faults_after.missing × (s.contents_after ≡ s.contents)
       × IfSome s.contents (λ files. (name : List ℕ) × Loads (command_of s.words) name × (bytes_under files name ≡ None))
 
--- A fault that no count of the files tells cut an answer off, unless such a count stood at its last value.
+-- A fault that no count of the files tells cut an answer off, or the line of a fault whose count stood at its last value.
 pub record CutsOffAnswer (s : Session) : Type 0 where
   pub cut : s.status ≡ OutsideFault → ¬ FilesGrew s → ((text : List ℕ) × (status : Status) × Answers (command_of s.words) s.contents text status × PutsPrefix s text)
-      ⊎ (FilesWereAtLast s × (fault : Fault) × PutsPrefix s (fault_line fault))
+      ⊎ ((fault : Fault) × WasAtLast s fault × PutsPrefix s (fault_line fault))
 
 -- Where memory ran out nothing was put, and all contents stay.
 pub record MemoryChangesNothing (s : Session) : Type 0 where

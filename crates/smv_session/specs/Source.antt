@@ -58,7 +58,7 @@ abbrev pub state_bits : System → ℕ
 state_bits m = bit_count (types_of m)
 
 abbrev pub most_state_bits : ℕ
-most_state_bits = 64
+most_state_bits = 128
 
 -- the states of its flat model m have few enough bits: nothing that can be read off the text stands in the way
 pub record HasModel (bytes : List ℕ) (m : System) : Type 0 where

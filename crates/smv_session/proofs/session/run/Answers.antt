@@ -1,5 +1,5 @@
 use Rattle.std.proofs.Common.{refl}
-use Rattle.smv_session.proofs.Kept.{whole, fault_lines, fault_lines_none, prefix_of_line, cut_off, usage, refused, fault_has_cause, memory, verdicts, states, evidence, report_status}
+use Rattle.smv_session.proofs.Kept.{whole, fault_lines, fault_lines_none, prefix_of_line, whole_line, cut_off, usage, refused, fault_has_cause, memory, verdicts, states, evidence, report_status}
 use Rattle.smv_session.specs.Session.{session}
 use Rattle.smv_session.specs.declared.status.Status.TheVariants.{OutsideFault}
 use Rattle.smv_session.proofs.session.run.Goals as goal
@@ -62,6 +62,12 @@ pub returns-in-Ok-put-clause-unknown : goal.returns-in-Ok-put-clause-unknown
 returns-in-Ok-put-clause-unknown g c =
     let puts = rw c.deref.ensures.value at c.in-Ok-put.ensures.ok in
     evidence _ c.in-Ok.answer.text.items c.in-Ok.answer.status c.in-Ok.ensures.answer puts refl
+
+pub returns-in-Ok-put-clause-fault_line : goal.returns-in-Ok-put-clause-fault_line
+returns-in-Ok-put-clause-fault_line g c =
+    let puts = rw c.deref.ensures.value at c.in-Ok-put.ensures.ok in
+    whole_line (session g.F.Files.contents g.F.Files.faults g.S.Sink.written g.S.Sink.faults c.args.words.now c.args.files.now c.answer.new.files c.args.out.now c.put.new.self c.in-Ok.answer.status)
+    c.in-Ok.answer.text.items c.in-Ok.answer.status c.in-Ok.ensures.answer puts
 
 pub returns-in-Err-put-clause-fault_line : goal.returns-in-Err-put-clause-fault_line
 returns-in-Err-put-clause-fault_line g c =
