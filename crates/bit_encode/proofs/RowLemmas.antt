@@ -33,8 +33,8 @@ plain_rules symbols vars m formulas fair e f g flat =
       assigned_once = none;
       current_alone = none;
       acyclic = none;
-      next_allowed = silent_then none (silent_then none (silent_then none (silent_then none none)));
-      formulas_allowed = silent_then none (silent_then none (silent_then none (silent_then none none)));
+      next_allowed = silent_then none (silent_then none (silent_then none (silent_then none (silent_then none none))));
+      formulas_allowed = silent_then none (silent_then none (silent_then none (silent_then none (silent_then none none))));
       formulas_are = refl;
       fair_are = refl;
     })))

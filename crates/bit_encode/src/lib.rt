@@ -8,4 +8,4 @@ pub mod layout;
 mod orders;
 
 /// The most bits that the states of a model may have.
-pub const MAX_STATE_BITS: u32 = 64;
+pub const MAX_STATE_BITS: u32 = 128;
