@@ -8,7 +8,7 @@ use crate::program::{Condition, LeftKind};
 use smv_lexer::{Keyword, Sign, Token, TokenKind};
 
 /// The plain type that a token begins.
-#[derive(Clone, Copy, Debug, PartialEq, Eq)]
+#[derive(Clone, Copy)]
 pub enum PlainLead {
     Boolean,
     Enumeration,
@@ -17,7 +17,7 @@ pub enum PlainLead {
 }
 
 /// The type that a token begins.
-#[derive(Clone, Copy, Debug, PartialEq, Eq)]
+#[derive(Clone, Copy)]
 pub enum TypeLead {
     Plain(PlainLead),
     Process,
@@ -26,7 +26,7 @@ pub enum TypeLead {
 }
 
 /// The section that a token begins.
-#[derive(Clone, Copy, Debug, PartialEq, Eq)]
+#[derive(Clone, Copy)]
 pub enum SectionLead {
     Variables,
     Assignments,
