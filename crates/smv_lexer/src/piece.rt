@@ -71,7 +71,7 @@ fn word_kind(alloc: Global, word: &[u8]) -> Result<TokenKind, AllocError>
 
 // The digits as a token, unless the number is too large.
 fn number_kind(digits: &[u8]) -> Option<TokenKind>
-    ensures { MatchOption result (greatest_number < decimal digits.now) (λ k. (kind k ≡ Kind.number (decimal digits.now)) × (decimal digits.now ≤ greatest_number)) }
+    ensures { MatchOption result (greatest_number < decimal digits.now) (λ k. (kind k ≡ Kind.number (pos (decimal digits.now))) × (decimal digits.now ≤ greatest_number)) }
 {
     let value = number(digits)?;
     Some(TokenKind::Number(value))

@@ -1,8 +1,9 @@
 -- Plain types are read exactly.
-use Rattle.std.proofs.Common.{◌≡◌, ℕ, zero, suc, ◌+◌, ◌≤◌, ◌<◌, true, false, ◌⊎◌, inl, inr, List, [], ◌∷◌, ◌++◌, refl, sym, ◌∙◌, ap, subst, arith, append_assoc}
-use Rattle.token_readers.specs.Reading.{Reading, accept, after_first, enclosed, headed, both, switch}
+use Rattle.std.proofs.Common.{◌≡◌, ℕ, zero, suc, ℤ, ◌+◌, ◌≤◌, ◌<◌, true, false, ◌⊎◌, inl, inr, List, [], ◌∷◌, ◌++◌, refl, sym, ◌∙◌, ap, subst, arith, append_assoc}
+use Rattle.token_readers.specs.Reading.{Reading, ◌>>=◌, accept, after_first, enclosed, both, switch}
+use Rattle.token_readers.specs.Reading.Reading.{found}
 use Rattle.token_readers.proofs.Readers.{Reads, EachFits, ManyEnds}
-use Rattle.token_readers.proofs.More.{Headed, Enclosed, Both, BothFit, AnyOf, Alternative, map_reads, renamed_reads, give_reads, headed_reads, enclosed_reads, both_reads, no_alternative, switch_reads, decide_both, decide_each}
+use Rattle.token_readers.proofs.More.{Enclosed, Both, BothFit, AnyOf, Alternative, line_reads, map_reads, renamed_reads, give_reads, enclosed_reads, both_reads, reads_alternative, no_alternative, switch_reads, decide_both, decide_each}
 use Rattle.smv_lexer.specs.declared.keyword.Keyword.{Keyword}
 use Rattle.smv_lexer.specs.declared.sign.Sign.{Sign}
 use Rattle.smv_lexer.specs.Text.{Kind, Placed}
@@ -11,17 +12,17 @@ use Rattle.smv_parser.specs.declared.openings.PlainLead.{PlainLead}
 use Rattle.smv_parser.specs.declared.openings.TypeLead.{TypeLead}
 use Rattle.smv_parser.specs.Words.{Is, BeginsOn}
 use Rattle.smv_parser.specs.Program.{Lined, Constant, Plain, PlainForm, plain_on, plain_depth}
-use Rattle.smv_parser.specs.Programs.{Commas, DerivesConstant, DerivesPlain, OnLine}
-use Rattle.smv_parser.specs.Tests.{is_sign, is_key, sign_is, sign_number, key_number, number_in, number_of}
+use Rattle.smv_parser.specs.Programs.{Commas, DerivesConstant, DerivesEnd, DerivesPlain, OnLine}
+use Rattle.smv_parser.specs.Tests.{is_sign, is_key, sign_is, sign_number, key_number}
 use Rattle.smv_parser.specs.Openings.{constant_of, kind_type, type_lead}
-use Rattle.smv_parser.specs.Reading.{some_or, value_of}
-use Rattle.smv_parser.specs.ProgramReading.{commas, read_range, boolean_tail, enumeration_tail, range_tail, array_tail, plain_by, plain_step, read_plain, plain_line}
+use Rattle.smv_parser.specs.Reading.{front_line}
+use Rattle.smv_parser.specs.ProgramReading.{commas, read_ends, read_range, boolean_tail, enumeration_tail, range_here, array_tail, plain_by, plain_step, read_plain, plain_line}
 use Rattle.smv_parser.proofs.TokenTests.{sign_is-kind, key_is-kind, kind_is-key}
 use Rattle.smv_parser.proofs.Operands.{sign_token, key_token, open_alternative, gated_alternative}
 use Rattle.smv_parser.proofs.Shapes.{is_it, sign_of}
 use Rattle.smv_parser.proofs.Starts.{TypeIs, type_is, line_of_first}
 use Rattle.smv_parser.proofs.Parameters.{commas_reads, list_closes}
-use Rattle.smv_parser.proofs.TokenReads.{AnyFits, Free, NumberIs, RangeIs, number_token, all_fit, constant_reads, decide_depth, number_reads, range_reads}
+use Rattle.smv_parser.proofs.TokenReads.{AnyFits, EndsAre, Free, RangeIs, number_token, all_fit, constant_reads, decide_depth, ends_read, range_reads}
 
 pub plain_depth_pos : (p : Plain) → 1 ≤ plain_depth p
 plain_depth_pos (plain_on l PlainForm.boolean) = omega arith
@@ -29,12 +30,20 @@ plain_depth_pos (plain_on l (PlainForm.enumeration cs)) = omega arith
 plain_depth_pos (plain_on l (PlainForm.range low high)) = omega arith
 plain_depth_pos (plain_on l (PlainForm.array low high p)) = omega arith
 
--- the relation of each plain type, after its first token
+-- a range's first token
+end_first : (ts : List Placed) (e : ℤ) → DerivesEnd ts e → (t : Placed) × (u : List Placed) × (ts ≡ t ∷ u) × (type_lead t ≡ TypeLead.Plain PlainLead.Range)
+end_first ts e (inl (n, p, (t, q, k))) = (t, [], q, ap kind_type k)
+end_first ts e (inr (n, p, minus, t, q, i, k)) = (minus, t ∷ [], q, ap kind_type i)
+
+ends_first : (ts : List Placed) (x : ℤ × ℤ) → EndsAre ts x → (t : Placed) × (u : List Placed) × (ts ≡ t ∷ u) × (type_lead t ≡ TypeLead.Plain PlainLead.Range)
+ends_first ts x (dots, a, b, q, d, i, e) = let w = end_first a x.0 d in (w.0, w.1 ++ dots ∷ b, q ∙ ap (λ (z : List Placed). z ++ dots ∷ b) w.2, w.3)
+
+-- the relation of each plain type, by its first token
 unfoldable pub PlainTail : TypeLead → Placed → List Placed → Plain → Type 0
 PlainTail (TypeLead.Plain PlainLead.Boolean) t u p = (u ≡ []) × (p ≡ plain_on t.line PlainForm.boolean)
 PlainTail (TypeLead.Plain PlainLead.Enumeration) t u p = (cs : List (Lined Constant)) × (p ≡ plain_on t.line (PlainForm.enumeration cs))
     × Enclosed (is_sign Sign.CloseBrace) (Commas (OnLine DerivesConstant)) u cs
-PlainTail (TypeLead.Plain PlainLead.Range) t u p = (high : ℕ) × (p ≡ plain_on t.line (PlainForm.range (value_of t) high)) × Headed (is_sign Sign.Range) NumberIs u high
+PlainTail (TypeLead.Plain PlainLead.Range) t u p = (x : ℤ × ℤ) × (p ≡ plain_on t.line (PlainForm.range x.0 x.1)) × EndsAre (t ∷ u) x
 PlainTail (TypeLead.Plain PlainLead.Array) t u p = (x : (ℕ × ℕ) × Plain) × (p ≡ plain_on t.line (PlainForm.array x.0.0 x.0.1 x.1))
     × Both (Enclosed (is_key Keyword.Of) RangeIs) DerivesPlain u x
 PlainTail TypeLead.Process t u p = ⊥
@@ -69,12 +78,21 @@ module _ (reader : List Placed → Reading Placed Plain) (b : ℕ) where
       (λ cs. plain_on t.line (PlainForm.enumeration cs)) (PlainTail (TypeLead.Plain PlainLead.Enumeration) t) Fits Free
       (λ a x d. (x, refl, d)) (λ a y d. d) (λ x h. omega arith) (λ x h. all_fit AnyFits (λ y. tt) x) (λ a x r d e. tt) (λ a x r d e. tt)
 
-  range_of : (t : Placed) → Reads (PlainTail (TypeLead.Plain PlainLead.Range) t) Fits Free (range_tail t)
-  unfolding PlainTail range_tail sign_number
-  range_of t = map_reads (Headed (is_sign Sign.Range) NumberIs) AnyFits Free (headed (is_sign Sign.Range) (accept number_of))
-      (headed_reads (is_sign Sign.Range) (sign_token Sign.Range) refl NumberIs AnyFits Free (accept number_of) number_reads)
-      (λ high. plain_on t.line (PlainForm.range (value_of t) high)) (PlainTail (TypeLead.Plain PlainLead.Range) t) Fits Free
-      (λ a x d. (x, refl, d)) (λ a y d. d) (λ x h. omega arith) (λ x h. tt) (λ a x r d e. tt) (λ a x r d e. tt)
+  range_of : Reads (PlainLed (TypeLead.Plain PlainLead.Range)) Fits Free range_here
+  unfolding range_here PlainTail
+  range_of = renamed_reads (λ ts p. (x : ℤ × ℤ) × (p ≡ plain_on (front_line ts) (PlainForm.range x.0 x.1)) × EndsAre ts x) Fits Free
+      (λ s. read_ends s >>= λ x r. found (plain_on (front_line s) (PlainForm.range x.0 x.1)) r)
+      (line_reads (λ (t : Placed). t.line) EndsAre (BothFit AnyFits AnyFits) Free read_ends ends_read (λ a x d. let w = ends_first a x d in (w.0, w.1, w.2))
+      (λ l x. plain_on l (PlainForm.range x.0 x.1)) Fits Free
+      (λ l x h. omega arith) (λ l x h. (tt, tt)) (λ l x r e. tt) (λ l x r e. tt))
+      (PlainLed (TypeLead.Plain PlainLead.Range)) Free
+      (λ ts p d.
+      let w = ends_first ts d.0 d.2 in
+      (w.0, w.1, w.2, w.3, (d.0, d.1 ∙ ap (λ (l : List Placed). plain_on (front_line l) (PlainForm.range d.0.0 d.0.1)) w.2, subst (λ (l : List Placed). EndsAre l d.0) w.2 d.2)))
+      (λ ts p d.
+      let (t, u, q, h, (x, e, r)) = d in
+      (x, e ∙ ap (λ (l : List Placed). plain_on (front_line l) (PlainForm.range x.0 x.1)) (sym q), subst (λ (l : List Placed). EndsAre l x) (sym q) r))
+      (λ a x r d e. tt) (λ a x r d e. tt)
 
   array_reads : Reads DerivesPlain (λ p. plain_depth p ≤ b) Free reader → (t : Placed) → Reads (PlainTail (TypeLead.Plain PlainLead.Array) t) Fits Free (array_tail reader b t)
   unfolding PlainTail array_tail key_number
@@ -120,8 +138,8 @@ module _ (reader : List Placed → Reading Placed Plain) (b : ℕ) where
         (TypeLead.Plain PlainLead.Boolean) boolean_tail boolean_reads (λ s. refl)
     plain_alternative (TypeLead.Plain PlainLead.Enumeration) = open_alternative b type_lead PlainTail Fits Free (plain_by reader b) (key_token Keyword.Boolean ∷ [], plain_on 0 PlainForm.boolean, some_led, omega arith)
         (TypeLead.Plain PlainLead.Enumeration) enumeration_tail enumeration_reads (λ s. refl)
-    plain_alternative (TypeLead.Plain PlainLead.Range) = open_alternative b type_lead PlainTail Fits Free (plain_by reader b) (key_token Keyword.Boolean ∷ [], plain_on 0 PlainForm.boolean, some_led, omega arith)
-        (TypeLead.Plain PlainLead.Range) range_tail range_of (λ s. refl)
+    plain_alternative (TypeLead.Plain PlainLead.Range) = reads_alternative type_lead PlainLed Fits Free (plain_by reader b) (key_token Keyword.Boolean ∷ [], plain_on 0 PlainForm.boolean, some_led, omega arith)
+        (TypeLead.Plain PlainLead.Range) (λ a x d. (d.0, d.1, d.2, d.3)) range_of
     plain_alternative (TypeLead.Plain PlainLead.Array) = gated_alternative b type_lead PlainTail Fits Free (plain_by reader b) (key_token Keyword.Boolean ∷ [], plain_on 0 PlainForm.boolean, some_led, omega arith)
         (TypeLead.Plain PlainLead.Array) (array_tail reader b) (λ pos t. array_reads (one pos) t) never_array any_array (λ s. refl)
     plain_alternative TypeLead.Process = no_alternative type_lead PlainLed Fits Free (plain_by reader b) (key_token Keyword.Boolean ∷ [], plain_on 0 PlainForm.boolean, some_led, omega arith)
@@ -135,9 +153,6 @@ module _ (reader : List Placed → Reading Placed Plain) (b : ℕ) where
     unfolding plain_step
     step_reads = switch_reads type_lead PlainLed Fits Free (plain_by reader b) (key_token Keyword.Boolean ∷ [], plain_on 0 PlainForm.boolean, some_led, omega arith) plain_alternative
 
-number_value : (t : Placed) (n : ℕ) → t.kind ≡ Kind.number n → value_of t ≡ n
-number_value t n h = ap (λ (k : Kind). some_or 0 (number_in k)) h
-
 on_first : (form : PlainForm) (l : ℕ) (ts : List Placed) (t : Placed) (u : List Placed) → ts ≡ t ∷ u → BeginsOn l ts → plain_on l form ≡ plain_on t.line form
 on_first form l ts t u q h = ap (λ (n : ℕ). plain_on n form) (sym (line_of_first l ts t u q h))
 
@@ -147,20 +162,9 @@ plain_shape ts (plain_on l PlainForm.boolean) (b, (t, q, i)) =
     (TypeLead.Plain PlainLead.Boolean, (t, [], q, ap kind_type i, (refl, on_first PlainForm.boolean l ts t [] q b)))
 plain_shape ts (plain_on l (PlainForm.enumeration cs)) (b, (o, c, a, q, i, j, d)) =
     (TypeLead.Plain PlainLead.Enumeration, (o, a ++ c ∷ [], q, ap kind_type i, (cs, on_first (PlainForm.enumeration cs) l ts o (a ++ c ∷ []) q b, (c, a, refl, is_it Sign.CloseBrace c j, d))))
-plain_shape ts (plain_on l (PlainForm.range low high)) (b, (n, dots, h, q, i, j, k)) = (
-  TypeLead.Plain PlainLead.Range,
-  (
-    n,
-    dots ∷ h ∷ [],
-    q,
-    ap kind_type i,
-    (
-      high,
-      on_first (PlainForm.range low high) l ts n (dots ∷ h ∷ []) q b ∙ ap (λ (m : ℕ). plain_on n.line (PlainForm.range m high)) (sym (number_value n low i)),
-      (dots, h ∷ [], refl, is_it Sign.Range dots j, (h, refl, k)),
-    ),
-  ),
-)
+plain_shape ts (plain_on l (PlainForm.range low high)) (b, d) =
+    let w = ends_first ts (low, high) d in
+    (TypeLead.Plain PlainLead.Range, (w.0, w.1, w.2, w.3, ((low, high), on_first (PlainForm.range low high) l ts w.0 w.1 w.2 b, subst (λ (s : List Placed). EndsAre s (low, high)) w.2 d)))
 plain_shape ts (plain_on l (PlainForm.array low high p)) (b, (t, of, a, c, q, i, j, r, d)) = (
   TypeLead.Plain PlainLead.Array,
   (
@@ -181,19 +185,7 @@ unfolding PlainTail
 unshape_at t u p (TypeLead.Plain PlainLead.Boolean) k (z, q) = subst (DerivesPlain (t ∷ u)) (sym q) (refl, (t, ap (λ (s : List Placed). t ∷ s) z, k))
 unshape_at t u p (TypeLead.Plain PlainLead.Enumeration) k (cs, q, (c, a, r, j, d)) =
     subst (DerivesPlain (t ∷ u)) (sym q) (refl, (t, c, a, ap (λ (s : List Placed). t ∷ s) r, k, sign_of Sign.CloseBrace c j, d))
-unshape_at t u p (TypeLead.Plain PlainLead.Range) (n, k) (high, q, (dots, a, r, j, (h, r', i))) =
-    subst (DerivesPlain (t ∷ u)) (sym q) (
-      refl,
-      (
-        t,
-        dots,
-        h,
-        ap (λ (s : List Placed). t ∷ s) (r ∙ ap (λ (s : List Placed). dots ∷ s) r'),
-        subst (λ (m : ℕ). t.kind ≡ Kind.number m) (sym (number_value t n k)) k,
-        sign_of Sign.Range dots j,
-        i,
-      ),
-    )
+unshape_at t u p (TypeLead.Plain PlainLead.Range) k (x, q, d) = subst (DerivesPlain (t ∷ u)) (sym q) (refl, d)
 unshape_at t u p (TypeLead.Plain PlainLead.Array) k (x, q, (m, n, e, (of, a, r, j, rg), d)) =
     subst (DerivesPlain (t ∷ u)) (sym q) (
       refl,

@@ -1,5 +1,5 @@
 -- The grammar's operands are those that are read after their first token.
-use Rattle.std.proofs.Common.{◌≡◌, ℕ, suc, ◌≤◌, cond, Bool, true, false, List, [], ◌∷◌, ◌++◌, Some, refl, sym, ◌∙◌, ap, subst, arith, append_assoc}
+use Rattle.std.proofs.Common.{◌≡◌, ℕ, suc, pos, ◌≤◌, cond, Bool, true, false, List, [], ◌∷◌, ◌++◌, Some, refl, sym, ◌∙◌, ap, subst, arith, append_assoc}
 use Rattle.token_readers.proofs.Readers.{EachOf, Reads}
 use Rattle.token_readers.proofs.More.{AnyOf, Headed, renamed_reads}
 use Rattle.token_readers.specs.Reading.{Reading}
@@ -161,7 +161,7 @@ arms_from u (a ∷ l) (x, y, q, (m, n, q', (colon, g, r, i, d), (semicolon, v, r
 some_word : (t : Placed) (w : List ℕ) → Is (word w) t → w ≡ text_of t
 some_word t w h = sym (ap (λ (k : Kind). some_or [] (word_in k)) h)
 
-some_number : (t : Placed) (n : ℕ) → Is (Kind.number n) t → n ≡ value_of t
+some_number : (t : Placed) (n : ℕ) → Is (Kind.number (pos n)) t → n ≡ value_of t
 some_number t n h = sym (ap (λ (k : Kind). some_or 0 (number_in k)) h)
 
 lead : (t : Placed) (k : Kind) (i : Lead) → Is k t → kind_lead k ≡ i → lead_of t ≡ i
@@ -176,7 +176,7 @@ first l ts t u h q = subst (BeginsOn l) q h
 pub shape : (ts : List Placed) (e : Tree) → Derives false 11 ts e → AnyOf LedBy ts e
 unfolding Tail
 shape ts (on_line l (Form.number n)) (b, (t, q, i)) =
-    (Lead.Number, (t, [], q, lead t (Kind.number n) Lead.Number i refl, (refl, lined l (Form.number n) (Form.number (value_of t)) t (first l ts t [] b q) (ap Form.number (some_number t n i)))))
+    (Lead.Number, (t, [], q, lead t (Kind.number (pos n)) Lead.Number i refl, (refl, lined l (Form.number n) (Form.number (value_of t)) t (first l ts t [] b q) (ap Form.number (some_number t n i)))))
 shape ts (on_line l (Form.truth v)) (b, (t, q, i)) =
     (Lead.Truth v, (t, [], q, lead t (truth_word v) (Lead.Truth v) i (truth_lead v), (refl, lined l (Form.truth v) (Form.truth v) t (first l ts t [] b q) refl)))
 shape ts (on_line l Form.running) (b, (t, q, i)) =
@@ -288,7 +288,7 @@ unfolding Tail
 unshape_at t u e Lead.Name (n, k) (ps, q, d) =
     subst (Derives false 11 (t ∷ u)) (sym q) (refl, (t, u, refl, subst (λ (w : List ℕ). t.kind ≡ word w) (some_word t n k) k, refl, parts_from u ps d))
 unshape_at t u e Lead.Number (n, k) (z, q) =
-    subst (Derives false 11 (t ∷ u)) (sym q) (refl, (t, ap (λ (s : List Placed). t ∷ s) z, subst (λ (w : ℕ). t.kind ≡ Kind.number w) (some_number t n k) k))
+    subst (Derives false 11 (t ∷ u)) (sym q) (refl, (t, ap (λ (s : List Placed). t ∷ s) z, subst (λ (w : ℕ). t.kind ≡ Kind.number (pos w)) (some_number t n k) k))
 unshape_at t u e (Lead.Truth v) k (z, q) = subst (Derives false 11 (t ∷ u)) (sym q) (refl, (t, ap (λ (s : List Placed). t ∷ s) z, k))
 unshape_at t u e Lead.Running k (z, q) = subst (Derives false 11 (t ∷ u)) (sym q) (refl, (t, ap (λ (s : List Placed). t ∷ s) z, k))
 unshape_at t u e Lead.Next k (x, q, (o, y, r, i, (c, z, r', j, d))) =

@@ -1,5 +1,5 @@
 -- What single tokens above expressions are.
-use Rattle.std.proofs.Common.{◌≡◌, ℕ, cond, Bool, true, false, List, [], ◌∷◌, Option, Some, None, refl, sym, ◌∙◌, ap, subst}
+use Rattle.std.proofs.Common.{◌≡◌, ℕ, pos, negsuc, cond, Bool, true, false, List, [], ◌∷◌, Option, Some, None, refl, sym, ◌∙◌, ap, subst}
 use Rattle.smv_lexer.specs.declared.keyword.Keyword.{Keyword}
 use Rattle.smv_lexer.specs.declared.sign.Sign.{Sign}
 use Rattle.smv_lexer.specs.Text.{Kind, Placed}
@@ -21,7 +21,7 @@ use Rattle.smv_parser.proofs.TokenTests.{key_is-kind, kind_is-key, word_in-kind,
 abbrev pub TypeIs : Kind → TypeLead → Type 0
 TypeIs k (TypeLead.Plain PlainLead.Boolean) = k ≡ key Keyword.Boolean
 TypeIs k (TypeLead.Plain PlainLead.Enumeration) = k ≡ mark Sign.OpenBrace
-TypeIs k (TypeLead.Plain PlainLead.Range) = (n : ℕ) × (k ≡ Kind.number n)
+TypeIs k (TypeLead.Plain PlainLead.Range) = Unit {0}
 TypeIs k (TypeLead.Plain PlainLead.Array) = k ≡ key Keyword.Array
 TypeIs k TypeLead.Process = k ≡ key Keyword.Process
 TypeIs k TypeLead.Name = (w : List ℕ) × (k ≡ word w)
@@ -39,7 +39,8 @@ sign_type_is _ = tt
 
 pub type_is : (k : Kind) → TypeIs k (kind_type k)
 type_is (word w) = (w, refl)
-type_is (Kind.number n) = (n, refl)
+type_is (Kind.number (pos n)) = tt
+type_is (Kind.number (negsuc n)) = tt
 type_is (key k) = key_type_is k
 type_is (mark s) = sign_type_is s
 
@@ -57,6 +58,7 @@ key_section_is Keyword.Var = refl
 key_section_is Keyword.Assign = refl
 key_section_is Keyword.Define = refl
 key_section_is Keyword.InitSection = refl
+key_section_is Keyword.Invar = refl
 key_section_is Keyword.Trans = refl
 key_section_is Keyword.Spec = refl
 key_section_is Keyword.Fairness = refl
@@ -70,6 +72,7 @@ section_is (mark s) = tt
 
 pub condition_found : (c : Condition) → key_section (condition_word c) ≡ SectionLead.Condition c
 condition_found Condition.Init = refl
+condition_found Condition.Invar = refl
 condition_found Condition.Trans = refl
 condition_found Condition.Spec = refl
 condition_found Condition.Fairness = refl
@@ -104,6 +107,7 @@ key_settled Keyword.Var h = (refl, refl, refl, refl, refl, refl)
 key_settled Keyword.Assign h = (refl, refl, refl, refl, refl, refl)
 key_settled Keyword.Define h = (refl, refl, refl, refl, refl, refl)
 key_settled Keyword.InitSection h = (refl, refl, refl, refl, refl, refl)
+key_settled Keyword.Invar h = (refl, refl, refl, refl, refl, refl)
 key_settled Keyword.Trans h = (refl, refl, refl, refl, refl, refl)
 key_settled Keyword.Spec h = (refl, refl, refl, refl, refl, refl)
 key_settled Keyword.Fairness h = (refl, refl, refl, refl, refl, refl)
@@ -137,7 +141,7 @@ formal_known t x h l = ap (λ (k : Kind). on_its_line t.line (word_in k)) h ∙ 
 
 abbrev pub constant_kind : Constant → Kind
 constant_kind (Constant.name n) = word n
-constant_kind (Constant.number n) = Kind.number n
+constant_kind (Constant.number n) = Kind.number (pos n)
 constant_kind (Constant.truth b) = truth_word b
 
 pub constant_lone : (ts : List Placed) (c : Constant) → DerivesConstant ts c → Lone (constant_kind c) ts
@@ -157,7 +161,8 @@ truth_is _ c h = absurd cc
 
 in_constant : (k : Kind) (c : Constant) → constant_in k ≡ Some c → k ≡ constant_kind c
 in_constant (word w) c h = ap constant_kind {x = Constant.name w} {y = c} cc
-in_constant (Kind.number n) c h = ap constant_kind {x = Constant.number n} {y = c} cc
+in_constant (Kind.number (pos n)) c h = ap constant_kind {x = Constant.number n} {y = c} cc
+in_constant (Kind.number (negsuc n)) c h = absurd cc
 in_constant (key k) c h = truth_is k c h
 in_constant (mark s) c h = absurd cc
 

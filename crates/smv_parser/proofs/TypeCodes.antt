@@ -1,7 +1,7 @@
 -- One step each of the code of types, in terms of reading.
-use Rattle.std.proofs.Common.{◌≡◌, ℕ, zero, suc, ◌+◌, ◌-◌, ◌≤◌, ◌<◌, Bool, true, false, List, [], ◌∷◌, map, length, refl, sym, ◌∙◌, ap, subst, arith, le-leb, Option, Some, None}
+use Rattle.std.proofs.Common.{◌≡◌, ℕ, zero, suc, pos, neg_ℤ, ◌+◌, ◌-◌, ◌≤◌, ◌<◌, Bool, true, false, List, [], ◌∷◌, map, length, refl, sym, ◌∙◌, ap, subst, arith, le-leb, Option, Some, None}
 use Rattle.std.proofs.lemmas.Bool.{lt-leb}
-use Rattle.token_readers.specs.Reading.{Reading, ◌>>=◌, accept, accepted, after_first, enclosed, headed, both, switch}
+use Rattle.token_readers.specs.Reading.{Reading, ◌>>=◌, accept, accepted, after_first, choose, enclosed, first_is, headed, both, switch}
 use Rattle.token_readers.specs.Reading.Reading.{found, syntax_error, too_deep}
 use Rattle.token_readers.proofs.Readers.{found-then}
 use Rattle.token_readers.proofs.Mapped.{then_made, then_then, then_same}
@@ -15,12 +15,24 @@ use Rattle.smv_parser.specs.Tree.{Tree}
 use Rattle.smv_parser.specs.Program.{Lined, Plain, PlainForm, TypeForm, plain_on}
 use Rattle.smv_parser.specs.Tests.{is_sign, is_key, name_of, number_of}
 use Rattle.smv_parser.specs.Openings.{constant_of, formal_of, on_its_line, type_lead}
-use Rattle.smv_parser.specs.Reading.{front_line, read, value_of, with_room}
-use Rattle.smv_parser.specs.ProgramReading.{Head, OpenType, plain_head, process_head, name_head, no_head, commas, head_of, is_open, lined, listed, named, parameters, parameters_here, plain_line, read_range, boolean_tail, enumeration_tail, range_tail, array_tail, plain_by, plain_step, read_plain, process_tail, type_by, open_type, read_type, read_instance}
+use Rattle.smv_parser.specs.Reading.{front_line, read, with_room}
+use Rattle.smv_parser.specs.ProgramReading.{Head, OpenType, plain_head, process_head, name_head, no_head, commas, head_of, is_open, lined, listed, named, parameters, parameters_here, plain_line, negated_number, plain_number, read_end, read_ends, read_range, boolean_tail, enumeration_tail, range_here, array_tail, plain_by, plain_step, read_plain, process_tail, type_by, open_type, read_type, read_instance}
 
 pub range_is : (s : List Placed) → read_range s ≡ both (enclosed (is_sign Sign.Range) (accept number_of)) (accept number_of) s
 unfolding read_range
 range_is s = refl
+
+pub ends_are : (s : List Placed) → read_ends s ≡ both (enclosed (is_sign Sign.Range) read_end) read_end s
+unfolding read_ends
+ends_are s = refl
+
+pub minus_end_is : (s : List Placed) → first_is (is_sign Sign.Minus) s ≡ true → read_end s ≡ (headed (is_sign Sign.Minus) (accept number_of) s >>= λ n r. found (neg_ℤ (pos n)) r)
+unfolding read_end choose negated_number
+minus_end_is s h = rw h refl
+
+pub number_end_is : (s : List Placed) → first_is (is_sign Sign.Minus) s ≡ false → read_end s ≡ (accept number_of s >>= λ n r. found (pos n) r)
+unfolding read_end choose plain_number
+number_end_is s h = rw h refl
 
 pub plain_empty : (b : ℕ) (s : List Placed) → 1 ≤ b → length s ≡ 0 → IsSyntaxError 0 (read_plain b s)
 unfolding read_plain plain_step switch
@@ -48,9 +60,9 @@ module _ (b : ℕ) (s : List Placed) (t : Placed) (v : List Placed) (pos : 1 ≤
   enumeration_is led = at_lead (TypeLead.Plain PlainLead.Enumeration) led
 
   pub ends_is : type_lead t ≡ TypeLead.Plain PlainLead.Range
-      → read_plain b s ≡ (headed (is_sign Sign.Range) (accept number_of) v >>= λ high r. found (plain_on t.line (PlainForm.range (value_of t) high)) r)
-  unfolding plain_by after_first range_tail
-  ends_is led = at_lead (TypeLead.Plain PlainLead.Range) led
+      → read_plain b s ≡ (read_ends s >>= λ x r. found (plain_on t.line (PlainForm.range x.0 x.1)) r)
+  unfolding plain_by range_here
+  ends_is led = at_lead (TypeLead.Plain PlainLead.Range) led ∙ ap (λ (l : List Placed). read_ends l >>= λ x r. found (plain_on t.line (PlainForm.range x.0 x.1)) r) (sym first)
 
   pub array_is : type_lead t ≡ TypeLead.Plain PlainLead.Array → 1 ≤ b - 1
       → read_plain b s ≡ (both (enclosed (is_key Keyword.Of) read_range) (read_plain (b - 1)) v >>= λ x r. found (plain_on t.line (PlainForm.array x.0.0 x.0.1 x.1)) r)

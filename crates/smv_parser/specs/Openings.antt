@@ -1,5 +1,5 @@
 -- What single tokens begin above expressions.
-use Rattle.std.specs.Prelude.{◌≡◌, ℕ, Bool, true, false, cond, ◌||◌, List, Option, Some, None}
+use Rattle.std.specs.Prelude.{◌≡◌, ℕ, ℤ, pos, negsuc, Bool, true, false, cond, ◌||◌, List, Option, Some, None}
 use Rattle.smv_lexer.specs.declared.keyword.Keyword.{Keyword}
 use Rattle.smv_lexer.specs.declared.sign.Sign.{Sign}
 use Rattle.smv_lexer.specs.Text.{Kind, Placed}
@@ -10,7 +10,7 @@ use Rattle.smv_parser.specs.declared.openings.TypeLead.{TypeLead}
 use Rattle.smv_parser.specs.declared.program.Condition.{Condition}
 use Rattle.smv_parser.specs.declared.program.LeftKind.{LeftKind}
 use Rattle.smv_parser.specs.Program.{Lined, Constant}
-use Rattle.smv_parser.specs.Tests.{is_key, name_of}
+use Rattle.smv_parser.specs.Tests.{is_key, name_of, natural}
 
 abbrev pub some_is : {A : Type 0} → Option A → Bool
 some_is None = false
@@ -29,11 +29,16 @@ key_type _ = TypeLead.Other
 
 abbrev pub sign_type : Sign → TypeLead
 sign_type Sign.OpenBrace = TypeLead.Plain PlainLead.Enumeration
+sign_type Sign.Minus = TypeLead.Plain PlainLead.Range
 sign_type _ = TypeLead.Other
+
+abbrev pub number_type : ℤ → TypeLead
+number_type (pos n) = TypeLead.Plain PlainLead.Range
+number_type (negsuc n) = TypeLead.Other
 
 abbrev pub kind_type : Kind → TypeLead
 kind_type (word w) = TypeLead.Name
-kind_type (Kind.number n) = TypeLead.Plain PlainLead.Range
+kind_type (Kind.number n) = number_type n
 kind_type (key k) = key_type k
 kind_type (mark s) = sign_type s
 
@@ -45,6 +50,7 @@ key_section Keyword.Var = SectionLead.Variables
 key_section Keyword.Assign = SectionLead.Assignments
 key_section Keyword.Define = SectionLead.Definitions
 key_section Keyword.InitSection = SectionLead.Condition Condition.Init
+key_section Keyword.Invar = SectionLead.Condition Condition.Invar
 key_section Keyword.Trans = SectionLead.Condition Condition.Trans
 key_section Keyword.Spec = SectionLead.Condition Condition.Spec
 key_section Keyword.Fairness = SectionLead.Condition Condition.Fairness
@@ -106,9 +112,13 @@ abbrev pub truth_in : Option Bool → Option Constant
 truth_in None = None
 truth_in (Some b) = Some (Constant.truth b)
 
+abbrev pub number_constant : Option ℕ → Option Constant
+number_constant None = None
+number_constant (Some n) = Some (Constant.number n)
+
 abbrev pub constant_in : Kind → Option Constant
 constant_in (word w) = Some (Constant.name w)
-constant_in (Kind.number n) = Some (Constant.number n)
+constant_in (Kind.number n) = number_constant (natural n)
 constant_in (key k) = truth_in (key_truth k)
 constant_in (mark s) = None
 

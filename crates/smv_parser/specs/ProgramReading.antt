@@ -1,5 +1,5 @@
 -- Reading what stands above expressions from left to right, within a depth.
-use Rattle.std.specs.Prelude.{◌≡◌, ℕ, zero, suc, Bool, true, false, length, List, [], ◌∷◌, Option, Some, None, map}
+use Rattle.std.specs.Prelude.{◌≡◌, ℕ, zero, suc, ℤ, pos, neg_ℤ, Bool, true, false, length, List, [], ◌∷◌, Option, Some, None, map}
 use Rattle.token_readers.specs.Optional.{optional}
 use Rattle.token_readers.specs.Reading.{Reading, ◌>>=◌, accept, expect, switch, choose, many, after_first, headed, enclosed, both}
 use Rattle.token_readers.specs.Reading.Reading.{found, syntax_error, too_deep}
@@ -14,7 +14,7 @@ use Rattle.smv_parser.specs.Tree.{Tree, PathTree}
 use Rattle.smv_parser.specs.Program.{Lined, Constant, Plain, PlainForm, TypeForm, Declaration, Left, Assignment, Definition, Section, Module, Program, plain_on}
 use Rattle.smv_parser.specs.Tests.{is_sign, is_key, name_of, number_of}
 use Rattle.smv_parser.specs.Openings.{begins_left, begins_name, begins_section, constant_of, formal_of, key_line, left_of, section_lead, some_is, type_lead}
-use Rattle.smv_parser.specs.Reading.{path_line, read, read_path, text_of, value_of, with_room}
+use Rattle.smv_parser.specs.Reading.{front_line, path_line, read, read_path, text_of, with_room}
 
 abbrev pub lined : {A : Type 0} → ℕ → A → Lined A
 lined line x = record { form = x; line = line }
@@ -41,14 +41,27 @@ parameters item s = parameters_here item s >>= λ ps r. found (listed ps) r
 unfoldable pub read_range : List Placed → Reading Placed (ℕ × ℕ)
 read_range s = both (enclosed (is_sign Sign.Range) (accept number_of)) (accept number_of) s
 
+unfoldable pub negated_number : List Placed → Reading Placed ℤ
+negated_number s = headed (is_sign Sign.Minus) (accept number_of) s >>= λ n r. found (neg_ℤ (pos n)) r
+
+unfoldable pub plain_number : List Placed → Reading Placed ℤ
+plain_number s = accept number_of s >>= λ n r. found (pos n) r
+
+-- an end of a range of values
+unfoldable pub read_end : List Placed → Reading Placed ℤ
+read_end s = choose (is_sign Sign.Minus) negated_number plain_number s
+
+unfoldable pub read_ends : List Placed → Reading Placed (ℤ × ℤ)
+read_ends s = both (enclosed (is_sign Sign.Range) read_end) read_end s
+
+unfoldable pub range_here : List Placed → Reading Placed Plain
+range_here s = read_ends s >>= λ x r. found (plain_on (front_line s) (PlainForm.range x.0 x.1)) r
+
 unfoldable pub boolean_tail : Placed → List Placed → Reading Placed Plain
 boolean_tail t s = found (plain_on t.line PlainForm.boolean) s
 
 unfoldable pub enumeration_tail : Placed → List Placed → Reading Placed Plain
 enumeration_tail t s = enclosed (is_sign Sign.CloseBrace) (commas (accept constant_of)) s >>= λ cs r. found (plain_on t.line (PlainForm.enumeration cs)) r
-
-unfoldable pub range_tail : Placed → List Placed → Reading Placed Plain
-range_tail t s = headed (is_sign Sign.Range) (accept number_of) s >>= λ high r. found (plain_on t.line (PlainForm.range (value_of t) high)) r
 
 -- reader reads the element's type, which has at most depth b
 module _ (reader : List Placed → Reading Placed Plain) (b : ℕ) where
@@ -58,7 +71,7 @@ module _ (reader : List Placed → Reading Placed Plain) (b : ℕ) where
   unfoldable pub plain_by : TypeLead → List Placed → Reading Placed Plain
   plain_by (TypeLead.Plain PlainLead.Boolean) s = after_first boolean_tail s
   plain_by (TypeLead.Plain PlainLead.Enumeration) s = after_first enumeration_tail s
-  plain_by (TypeLead.Plain PlainLead.Range) s = after_first range_tail s
+  plain_by (TypeLead.Plain PlainLead.Range) s = range_here s
   plain_by (TypeLead.Plain PlainLead.Array) s = with_room b (after_first array_tail) s
   plain_by TypeLead.Process s = syntax_error s
   plain_by TypeLead.Name s = syntax_error s

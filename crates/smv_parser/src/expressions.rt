@@ -3,7 +3,7 @@
 use kripke_model::Name;
 
 /// An operator between two operands, as `->`, `|` or `mod`. McMillan's SMV manual has them all.
-#[derive(Clone, Copy, Debug, PartialEq, Eq)]
+#[derive(Clone, Copy)]
 pub enum BinaryOperator {
     Implies,
     Iff,
@@ -24,7 +24,7 @@ pub enum BinaryOperator {
 }
 
 /// An operator in front of its operand: `!`, or a path operator of CTL with one operand, as `EX` or `AG`.
-#[derive(Clone, Copy, Debug, PartialEq, Eq)]
+#[derive(Clone, Copy)]
 pub enum PrefixOperator {
     Not,
     ExistsNext,
@@ -36,14 +36,14 @@ pub enum PrefixOperator {
 }
 
 /// The `E` or `A` of an until: some fair path, or every one.
-#[derive(Clone, Copy, Debug, PartialEq, Eq)]
+#[derive(Clone, Copy)]
 pub enum PathQuantifier {
     Exists,
     All,
 }
 
 /// An expression.
-#[derive(Debug, Drop)]
+#[derive(Drop)]
 #[cycle(expr)]
 pub struct Expr {
     pub kind: ExprKind,
@@ -52,7 +52,7 @@ pub struct Expr {
 }
 
 /// What an expression is.
-#[derive(Debug, Drop)]
+#[derive(Drop)]
 #[cycle(expr)]
 pub enum ExprKind {
     /// From 0 to 2,147,483,647.
@@ -76,7 +76,7 @@ pub enum ExprKind {
 }
 
 /// One `guard : right ;` of a `case`. It begins where its guard does.
-#[derive(Debug, Drop)]
+#[derive(Drop)]
 #[cycle(expr)]
 pub struct Arm {
     pub guard: Expr,
@@ -84,7 +84,7 @@ pub struct Arm {
 }
 
 /// A name with what follows it, as `a.b[3]`.
-#[derive(Debug, Drop)]
+#[derive(Drop)]
 #[cycle(expr)]
 pub struct Path {
     pub first: Name,
@@ -94,7 +94,7 @@ pub struct Path {
 }
 
 /// What may follow the first name of a path.
-#[derive(Debug, Drop)]
+#[derive(Drop)]
 #[cycle(expr)]
 pub enum PathPart {
     /// `.name`

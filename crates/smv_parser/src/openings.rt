@@ -2,13 +2,13 @@
 
 ghost use Rattle.std.specs.Prelude.{◌≡◌};
 ghost use Rattle.smv_lexer.specs.View as tokens;
-ghost use Rattle.smv_parser.specs.Openings.{begins_left, begins_name, begins_section, key_left, key_section, key_type, left_of, section_lead, sign_type, type_lead};
+ghost use Rattle.smv_parser.specs.Openings.{begins_left, begins_name, begins_section, key_left, key_section, key_type, left_of, number_type, section_lead, sign_type, type_lead};
 
 use crate::program::{Condition, LeftKind};
 use smv_lexer::{Keyword, Sign, Token, TokenKind};
 
 /// The plain type that a token begins.
-#[derive(Clone, Copy, Debug, PartialEq, Eq)]
+#[derive(Clone, Copy)]
 pub enum PlainLead {
     Boolean,
     Enumeration,
@@ -17,7 +17,7 @@ pub enum PlainLead {
 }
 
 /// The type that a token begins.
-#[derive(Clone, Copy, Debug, PartialEq, Eq)]
+#[derive(Clone, Copy)]
 pub enum TypeLead {
     Plain(PlainLead),
     Process,
@@ -26,7 +26,7 @@ pub enum TypeLead {
 }
 
 /// The section that a token begins.
-#[derive(Clone, Copy, Debug, PartialEq, Eq)]
+#[derive(Clone, Copy)]
 pub enum SectionLead {
     Variables,
     Assignments,
@@ -51,7 +51,18 @@ fn sign_type(sign: Sign) -> TypeLead
 {
     match sign {
         Sign::OpenBrace => TypeLead::Plain(PlainLead::Enumeration),
+        Sign::Minus => TypeLead::Plain(PlainLead::Range),
         _ => TypeLead::Other,
+    }
+}
+
+fn number_type(value: i32) -> TypeLead
+    ensures { result ≡ number_type value }
+{
+    if value >= 0 {
+        TypeLead::Plain(PlainLead::Range)
+    } else {
+        TypeLead::Other
     }
 }
 
@@ -60,7 +71,7 @@ pub fn token_type(token: &Token) -> TypeLead
 {
     match &token.kind {
         TokenKind::Word(_) => TypeLead::Name,
-        TokenKind::Number(_) => TypeLead::Plain(PlainLead::Range),
+        TokenKind::Number(value) => number_type(*value),
         TokenKind::Key(key) => key_type(*key),
         TokenKind::Sign(sign) => sign_type(*sign),
     }
@@ -74,6 +85,7 @@ fn key_section(key: Keyword) -> SectionLead
         Keyword::Assign => SectionLead::Assignments,
         Keyword::Define => SectionLead::Definitions,
         Keyword::InitSection => SectionLead::Condition(Condition::Init),
+        Keyword::Invar => SectionLead::Condition(Condition::Invar),
         Keyword::Trans => SectionLead::Condition(Condition::Trans),
         Keyword::Spec => SectionLead::Condition(Condition::Spec),
         Keyword::Fairness => SectionLead::Condition(Condition::Fairness),

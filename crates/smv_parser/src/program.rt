@@ -4,13 +4,13 @@ use crate::expressions::{Expr, Path};
 use kripke_model::Name;
 
 /// A program: its modules in the order of the text.
-#[derive(Debug, Drop)]
+#[derive(Drop)]
 pub struct Program {
     pub modules: Vec<Module>,
 }
 
 /// `MODULE name ( formals )` and its sections, in the order of the text.
-#[derive(Debug, Drop)]
+#[derive(Drop)]
 pub struct Module {
     pub name: Name,
     pub formals: Vec<Formal>,
@@ -19,21 +19,21 @@ pub struct Module {
 }
 
 /// A formal parameter of a module.
-#[derive(Debug, Drop)]
+#[derive(Drop)]
 pub struct Formal {
     pub name: Name,
     pub line: u32,
 }
 
 /// A section of a module. Its line is that of its word, as `VAR`.
-#[derive(Debug, Drop)]
+#[derive(Drop)]
 pub struct Section {
     pub kind: SectionKind,
     pub line: u32,
 }
 
 /// What a section holds.
-#[derive(Debug, Drop)]
+#[derive(Drop)]
 pub enum SectionKind {
     Variables(Vec<Declaration>),
     Assignments(Vec<Assignment>),
@@ -42,16 +42,17 @@ pub enum SectionKind {
 }
 
 /// The word of a section that is one expression.
-#[derive(Clone, Copy, Debug, PartialEq, Eq)]
+#[derive(Clone, Copy)]
 pub enum Condition {
     Init,
+    Invar,
     Trans,
     Spec,
     Fairness,
 }
 
 /// `name : form ;`
-#[derive(Debug, Drop)]
+#[derive(Drop)]
 pub struct Declaration {
     pub name: Name,
     pub form: TypeForm,
@@ -59,7 +60,7 @@ pub struct Declaration {
 }
 
 /// `left := right ;`
-#[derive(Debug, Drop)]
+#[derive(Drop)]
 pub struct Assignment {
     pub left: Left,
     pub right: Expr,
@@ -67,7 +68,7 @@ pub struct Assignment {
 }
 
 /// `name := right ;`
-#[derive(Debug, Drop)]
+#[derive(Drop)]
 pub struct Definition {
     pub name: Name,
     pub right: Expr,
@@ -75,7 +76,7 @@ pub struct Definition {
 }
 
 /// The left side of an assignment.
-#[derive(Debug, Drop)]
+#[derive(Drop)]
 pub struct Left {
     pub kind: LeftKind,
     pub path: Path,
@@ -83,7 +84,7 @@ pub struct Left {
 }
 
 /// Which value an assignment gives: the current one, `init ( .. )` or `next ( .. )`.
-#[derive(Clone, Copy, Debug, PartialEq, Eq)]
+#[derive(Clone, Copy)]
 pub enum LeftKind {
     Current,
     Init,
@@ -91,14 +92,14 @@ pub enum LeftKind {
 }
 
 /// The type of a declaration.
-#[derive(Debug, Drop)]
+#[derive(Drop)]
 pub struct TypeForm {
     pub kind: TypeKind,
     pub line: u32,
 }
 
 /// A plain type, or an instance of a module.
-#[derive(Debug, Drop)]
+#[derive(Drop)]
 pub enum TypeKind {
     Plain(Plain),
     Instance {
@@ -109,32 +110,33 @@ pub enum TypeKind {
 }
 
 /// A type of values, or an array.
-#[derive(Debug, Drop)]
+#[derive(Drop)]
 #[cycle(plain)]
 pub struct Plain {
     pub kind: PlainKind,
     pub line: u32,
 }
 
-/// What a plain type is. A range and an array have their low end first; no order is asked here.
-#[derive(Debug, Drop)]
+/// What a plain type is. A range and an array have their low end first; no order is asked here. The ends of a range may
+/// be negative.
+#[derive(Drop)]
 #[cycle(plain)]
 pub enum PlainKind {
     Boolean,
     Enumeration(Vec<Constant>),
-    Range(u32, u32),
+    Range(i32, i32),
     Array(u32, u32, Box<Plain>),
 }
 
 /// A member of an enumeration.
-#[derive(Debug, Drop)]
+#[derive(Drop)]
 pub struct Constant {
     pub kind: ConstantKind,
     pub line: u32,
 }
 
 /// What a member of an enumeration is.
-#[derive(Debug, Drop)]
+#[derive(Drop)]
 pub enum ConstantKind {
     Name(Name),
     Number(u32),

@@ -13,7 +13,7 @@ use smv_lexer::{Keyword, Sign, Token, TokenKind};
 use std::alloc::{AllocError, AllocFailed, Global};
 
 /// Why reading stops, with the number of tokens that are left there.
-#[derive(Debug, Drop)]
+#[derive(Drop)]
 pub enum Failure {
     /// Nothing goes on with the token there.
     Syntax(usize),

@@ -18,8 +18,8 @@ use crate::expressions::{Arm, BinaryOperator, Expr, ExprKind, Path, PathPart};
 use crate::reader::{
     Failure, after_key, after_name, after_sign, begins_with_sign, first_line, token_is_sign,
 };
-use crate::tokens::{Lead, level, token_lead, token_operator};
-use smv_lexer::{Keyword, Sign, Token, TokenKind};
+use crate::tokens::{Lead, level, right_level, token_lead, token_number, token_operator};
+use smv_lexer::{Keyword, Sign, Token};
 use std::alloc::Global;
 
 /// An expression with its depth.
@@ -62,13 +62,13 @@ pub struct WholePath {
     ghost depth_is: { depth ≡ Tree.path_depth (path_of path) },
 }
 
-/// The value of a number's token, which is never negative.
-pub fn number(token: &Token) -> u32
+/// The value of a number's token, and 0 where it is none.
+fn number(token: &Token) -> u32
     ensures { result ≡ value_of (tokens.view token.now) }
 {
-    match &token.kind {
-        TokenKind::Number(n) => { if *n >= 0 { *n as u32 } else { 0 } }
-        TokenKind::Word(_) | TokenKind::Key(_) | TokenKind::Sign(_) => 0,
+    match token_number(token) {
+        Some(value) => value,
+        None => 0,
     }
 }
 
@@ -461,7 +461,7 @@ pub fn read_expression(
         if depth >= most {
             return Err(Failure::TooDeep(rest.len()));
         }
-        let (right, after) = read_expression(alloc, after, level(operator) + 1, most - 1)?;
+        let (right, after) = read_expression(alloc, after, right_level(operator), most - 1)?;
         let line = left.line;
         let boxed = Box::new(alloc, left)?;
         left = Expr {

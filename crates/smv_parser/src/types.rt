@@ -21,8 +21,9 @@ use crate::expressions::Expr;
 use crate::items::{Item, read_commas, read_parameters};
 use crate::openings::{PlainLead, TypeLead, token_type};
 use crate::program::{Constant, ConstantKind, Formal, Plain, PlainKind, TypeForm, TypeKind};
-use crate::reader::{Failure, after_key, after_name, after_sign, first_line};
-use crate::reading::{number, read_expression};
+use crate::reader::{Failure, after_key, after_name, after_sign, begins_with_sign, first_line};
+use crate::reading::read_expression;
+use crate::tokens::{natural, token_number};
 use smv_lexer::{Keyword, Sign, Token, TokenKind};
 use std::alloc::Global;
 
@@ -88,10 +89,13 @@ fn read_constant(alloc: Global, tokens: &[Token]) -> Result<(Constant, &[Token])
             let kind = ConstantKind::Name(name.copy(alloc)?);
             Ok((Constant { kind, line }, rest))
         }
-        TokenKind::Number(_) => {
-            let kind = ConstantKind::Number(number(token));
-            Ok((Constant { kind, line }, rest))
-        }
+        TokenKind::Number(value) => match natural(*value) {
+            Some(value) => {
+                let kind = ConstantKind::Number(value);
+                Ok((Constant { kind, line }, rest))
+            }
+            None => Err(Failure::Syntax(tokens.len())),
+        },
         TokenKind::Key(key) => match key_truth(*key) {
             Some(value) => {
                 let kind = ConstantKind::Truth(value);
@@ -119,20 +123,44 @@ impl Item for Constant {
 #[tactic(auto, unfolding(token_readers::specs::Reading::accept, token_readers::specs::Reading::accepted))]
 fn after_number(tokens: &[Token]) -> Result<(u32, &[Token]), Failure>
     ensures reads { Gives (λ x. x.0) (λ x. views x.1.now) result (accept number_of (views tokens.now)) }
+    ensures small { IfOk result (λ x. x.0 ≤ 2147483647) }
     ensures shorter { IfOk result (λ x. length x.1.now < length tokens.now) }
 {
     match tokens.split_first() {
         None => Err(Failure::Syntax(0)),
-        Some((token, rest)) => match &token.kind {
-            TokenKind::Number(_) => Ok((number(token), rest)),
-            TokenKind::Word(_) | TokenKind::Key(_) | TokenKind::Sign(_) => {
-                Err(Failure::Syntax(tokens.len()))
-            }
+        Some((token, rest)) => match token_number(token) {
+            Some(value) => Ok((value, rest)),
+            None => Err(Failure::Syntax(tokens.len())),
         },
     }
 }
 
-/// The two ends of a range.
+/// An end of a range of values: a number, or a minus sign and a number.
+fn read_end(tokens: &[Token]) -> Result<(i32, &[Token]), Failure>
+    ensures reads { Gives (λ x. x.0) (λ x. views x.1.now) result (reading.read_end (views tokens.now)) }
+    ensures shorter { IfOk result (λ x. length x.1.now < length tokens.now) }
+{
+    if begins_with_sign(tokens, Sign::Minus) {
+        let rest = after_sign(tokens, Sign::Minus)?;
+        let (value, rest) = after_number(rest)?;
+        return Ok((-(value as i32), rest));
+    }
+    let (value, rest) = after_number(tokens)?;
+    Ok((value as i32, rest))
+}
+
+/// The two ends of a range of values.
+fn read_ends(tokens: &[Token]) -> Result<(i32, i32, &[Token]), Failure>
+    ensures reads { Gives (λ x. (x.0, x.1)) (λ x. views x.2.now) result (reading.read_ends (views tokens.now)) }
+    ensures shorter { IfOk result (λ x. length x.2.now < length tokens.now) }
+{
+    let (low, rest) = read_end(tokens)?;
+    let rest = after_sign(rest, Sign::Range)?;
+    let (high, rest) = read_end(rest)?;
+    Ok((low, high, rest))
+}
+
+/// The two ends of an array.
 fn read_range(tokens: &[Token]) -> Result<(u32, u32, &[Token]), Failure>
     ensures reads { Gives (λ x. (x.0, x.1)) (λ x. views x.2.now) result (reading.read_range (views tokens.now)) }
     ensures shorter { IfOk result (λ x. length x.2.now < length tokens.now) }
@@ -168,9 +196,8 @@ fn read_plain(alloc: Global, tokens: &[Token], most: u32) -> Result<(Plain, &[To
             Ok((Plain { kind, line }, rest))
         }
         TypeLead::Plain(PlainLead::Range) => {
-            let rest = after_sign(rest, Sign::Range)?;
-            let (high, rest) = after_number(rest)?;
-            let kind = PlainKind::Range(number(token), high);
+            let (low, high, rest) = read_ends(tokens)?;
+            let kind = PlainKind::Range(low, high);
             Ok((Plain { kind, line }, rest))
         }
         TypeLead::Plain(PlainLead::Array) => {

@@ -69,6 +69,7 @@ fn tell_section(section: &SectionKind, answer: &mut String) -> Result<(), AllocE
 fn condition_word(condition: Condition) -> &'static str {
     match condition {
         Condition::Init => "INIT ",
+        Condition::Invar => "INVAR ",
         Condition::Trans => "TRANS ",
         Condition::Spec => "SPEC ",
         Condition::Fairness => "FAIRNESS ",

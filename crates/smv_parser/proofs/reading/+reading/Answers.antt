@@ -107,7 +107,7 @@ read_expression-returns-in_err-right-clause-reads t c =
     let q = more_step (read (c.args.most - 1)) (c.args.most - 1) c.args.least (tree_of c.loop-operator.left) (views c.loop-operator.rest.now) c.in-Some.operator w.0 (views c.in-Some.after.now) w.1 w.2 w.3
     i.3 (omega (arith, i.1, c.if-depth-most.false)) i.4 in
     let p = err_from_is_err_and c.from_residual-in_err-right.result c.from_residual-in_err-right.ensures.1 in
-    rw (p.1, p.2) (rw (i.5, q.2) (Fails-then c.in_err-right.field-0.0 _ _ (rw c.level.ensures at c.in_err-right.ensures.reads)))
+    rw (p.1, p.2) (rw (i.5, q.2) (Fails-then c.in_err-right.field-0.0 _ _ (rw c.right_level.ensures at c.in_err-right.ensures.reads)))
 
 pub read_expression-loop-operator-preserved : goal.read_expression-loop-operator-preserved
 read_expression-loop-operator-preserved t c =
@@ -120,7 +120,7 @@ read_expression-loop-operator-preserved t c =
       omega (arith, c.in_ok-right.ensures.shorter, ap length w.1, i.2, length-views c.loop-operator.rest.now, length-views c.in-Some.after.now),
       q.0,
       omega (arith, c.in_ok-right.ensures.shorter, q.1, length-views c.in-Some.after.now, length-views c.in_ok-right.after.now),
-      i.5 ∙ q.2 ∙ found-then _ _ _ _ (rw c.level.ensures at c.in_ok-right.ensures.reads)
+      i.5 ∙ q.2 ∙ found-then _ _ _ _ (rw c.right_level.ensures at c.in_ok-right.ensures.reads)
           ∙ rw (c.in_ok-boxed.ensures.ok, c.in_ok-new.ensures.ok) refl,
     )
 

@@ -1,11 +1,12 @@
-use Rattle.std.proofs.Common.{◌≡◌, ℕ, ◌-◌, ◌≤◌, length, map, sym, ◌∙◌, ap, arith, ⊎_elim}
+use Rattle.std.proofs.lemmas.Int.{ints}
+use Rattle.std.proofs.Common.{◌≡◌, ℕ, rules, SFits, w32, to_z, of_z, ◌-◌, ◌≤◌, length, map, sym, ◌∙◌, ap, arith, ⊎_elim}
 use Rattle.std.proofs.lemmas.Result.{err_from_is_err_and}
 use Rattle.smv_lexer.specs.declared.keyword.Keyword.{Keyword}
 use Rattle.smv_lexer.specs.declared.sign.Sign.{Sign}
 use Rattle.smv_lexer.specs.Text.{Placed}
 use Rattle.smv_lexer.specs.View as tokens
 use Rattle.smv_lexer.specs.View.{views}
-use Rattle.token_readers.specs.Reading.{accept, enclosed, headed, both}
+use Rattle.token_readers.specs.Reading.{accept, enclosed, both}
 use Rattle.token_readers.specs.Reading.Reading.{found}
 use Rattle.token_readers.proofs.Readers.{found-then}
 use Rattle.smv_parser.specs.declared.openings.PlainLead.{PlainLead}
@@ -14,8 +15,8 @@ use Rattle.smv_parser.specs.Openings.{constant_of}
 use Rattle.smv_parser.specs.Program.{PlainForm, plain_on}
 use Rattle.smv_parser.specs.ProgramReading.{commas, read_plain, read_range}
 use Rattle.smv_parser.specs.ProgramView as view
-use Rattle.smv_parser.specs.Tests.{is_key, is_sign, number_of}
-use Rattle.smv_parser.proofs.Codes.{Fails-then, both_fails, both_fails_after, both_found, enclosed_fails, enclosed_fails_after, enclosed_found, headed_fails, headed_is, length-views}
+use Rattle.smv_parser.specs.Tests.{is_key, is_sign}
+use Rattle.smv_parser.proofs.Codes.{Fails-then, both_fails, both_fails_after, both_found, enclosed_fails, enclosed_fails_after, enclosed_found, length-views}
 use Rattle.smv_parser.proofs.TypeCodes.{array_deep, array_is, boolean_is, ends_is, enumeration_is, name_no_plain, other_no_plain, plain_empty, process_no_plain}
 use Rattle.smv_parser.proofs.types.+read_plain.Goals as goal
 
@@ -44,24 +45,20 @@ returns-in_ok-rest-in-Plain-Enumeration-clause-reads t c =
     ∙ found-then _ _ _ _ (enclosed_found (is_sign Sign.CloseBrace) (commas (accept constant_of)) (views c.in-Some.rest.now) (views c.in_ok-constants-in-Plain-Enumeration.rest.now) (views c.in_ok-rest-in-Plain-Enumeration.rest.now) (map view.constant c.in_ok-constants-in-Plain-Enumeration.constants.items)
     c.in_ok-rest-in-Plain-Enumeration.ensures.reads.0 c.in_ok-constants-in-Plain-Enumeration.ensures.reads c.in_ok-rest-in-Plain-Enumeration.ensures.reads.1)
 
-pub returns-in_err-rest-in-Plain-Range-clause-reads : goal.returns-in_err-rest-in-Plain-Range-clause-reads
-returns-in_err-rest-in-Plain-Range-clause-reads t c =
+pub returns-in_err-low-in-Plain-Range-clause-reads : goal.returns-in_err-low-in-Plain-Range-clause-reads
+returns-in_err-low-in-Plain-Range-clause-reads t c =
     let q = ends_is c.args.most (views c.args.tokens.now) (tokens.view c.in-Some.token.now) (views c.in-Some.rest.now) c.requires (ap views c.in-Some.ensures.cases.0) (sym c.token_type.ensures ∙ c.in-Plain-Range.is ∙ ap TypeLead.Plain c.in-Plain-Range.field-0-is) in
-    let p = err_from_is_err_and c.from_residual-in_err-rest-in-Plain-Range.result c.from_residual-in_err-rest-in-Plain-Range.ensures.1 in
-    rw (p.1, p.2) (rw q (Fails-then c.in_err-rest-in-Plain-Range.field-0.0 _ _ (headed_fails (is_sign Sign.Range) (accept number_of) (views c.in-Some.rest.now) c.in_err-rest-in-Plain-Range.field-0.0 c.in_err-rest-in-Plain-Range.ensures.reads)))
+    let p = err_from_is_err_and c.from_residual-in_err-low-in-Plain-Range.result c.from_residual-in_err-low-in-Plain-Range.ensures.1 in
+    rw (p.1, p.2) (rw q (Fails-then c.in_err-low-in-Plain-Range.field-0.0 _ _ c.in_err-low-in-Plain-Range.ensures.reads))
 
-pub returns-in_err-high-in-Plain-Range-clause-reads : goal.returns-in_err-high-in-Plain-Range-clause-reads
-returns-in_err-high-in-Plain-Range-clause-reads t c =
-    let q = ends_is c.args.most (views c.args.tokens.now) (tokens.view c.in-Some.token.now) (views c.in-Some.rest.now) c.requires (ap views c.in-Some.ensures.cases.0) (sym c.token_type.ensures ∙ c.in-Plain-Range.is ∙ ap TypeLead.Plain c.in-Plain-Range.field-0-is) in
-    let w = headed_is (is_sign Sign.Range) (accept number_of) (views c.in-Some.rest.now) (views c.in_ok-rest-in-Plain-Range.rest.now) c.in_ok-rest-in-Plain-Range.ensures.reads.0 c.in_ok-rest-in-Plain-Range.ensures.reads.1 in
-    let p = err_from_is_err_and c.from_residual-in_err-high-in-Plain-Range.result c.from_residual-in_err-high-in-Plain-Range.ensures.1 in
-    rw (p.1, p.2) (rw (q, w) (Fails-then c.in_err-high-in-Plain-Range.field-0.0 _ _ c.in_err-high-in-Plain-Range.ensures.reads))
-
-pub returns-in_ok-high-in-Plain-Range-clause-reads : goal.returns-in_ok-high-in-Plain-Range-clause-reads
-returns-in_ok-high-in-Plain-Range-clause-reads t c =
-    ends_is c.args.most (views c.args.tokens.now) (tokens.view c.in-Some.token.now) (views c.in-Some.rest.now) c.requires (ap views c.in-Some.ensures.cases.0) (sym c.token_type.ensures ∙ c.in-Plain-Range.is ∙ ap TypeLead.Plain c.in-Plain-Range.field-0-is)
-    ∙ found-then _ _ _ _ (headed_is (is_sign Sign.Range) (accept number_of) (views c.in-Some.rest.now) (views c.in_ok-rest-in-Plain-Range.rest.now) c.in_ok-rest-in-Plain-Range.ensures.reads.0 c.in_ok-rest-in-Plain-Range.ensures.reads.1 ∙ c.in_ok-high-in-Plain-Range.ensures.reads)
-    ∙ ap (λ (n : ℕ). found (plain_on c.in-Some.token.now.line (PlainForm.range n c.in_ok-high-in-Plain-Range.high)) (views c.in_ok-high-in-Plain-Range.rest.now)) (sym c.number.ensures)
+pub returns-in_ok-low-in-Plain-Range-clause-reads : goal.returns-in_ok-low-in-Plain-Range-clause-reads
+returns-in_ok-low-in-Plain-Range-clause-reads t c =
+    let f : SFits w32 c.in_ok-low-in-Plain-Range.low = search rules in
+    let g : SFits w32 c.in_ok-low-in-Plain-Range.high = search rules in
+    let low : to_z w32 (of_z w32 c.in_ok-low-in-Plain-Range.low) ≡ c.in_ok-low-in-Plain-Range.low = omega (arith, ints) in
+    let high : to_z w32 (of_z w32 c.in_ok-low-in-Plain-Range.high) ≡ c.in_ok-low-in-Plain-Range.high = omega (arith, ints) in
+    rw (low, high) (ends_is c.args.most (views c.args.tokens.now) (tokens.view c.in-Some.token.now) (views c.in-Some.rest.now) c.requires (ap views c.in-Some.ensures.cases.0) (sym c.token_type.ensures ∙ c.in-Plain-Range.is ∙ ap TypeLead.Plain c.in-Plain-Range.field-0-is)
+    ∙ found-then _ _ _ _ c.in_ok-low-in-Plain-Range.ensures.reads)
 
 pub returns-then-most-eq1-clause-reads : goal.returns-then-most-eq1-clause-reads
 returns-then-most-eq1-clause-reads t c = array_deep c.args.most (views c.args.tokens.now) (tokens.view c.in-Some.token.now) (views c.in-Some.rest.now) c.requires (ap views c.in-Some.ensures.cases.0) (sym c.token_type.ensures ∙ c.in-Plain-Array.is ∙ ap TypeLead.Plain c.in-Plain-Array.field-0-is) c.if-most-eq1.true (length c.args.tokens.now) (sym (length-views c.args.tokens.now))
