@@ -34,6 +34,8 @@ list_allowance-last k u some = omega arith
 pub allowance-element : (k n u l r : ℕ) → 1 ≤ n → l ≤ k * u → r ≤ n * u → 1 ≤ u → list_allowance k u + allowance n u + (5 * l + 5 * r + 3) ≤ list_allowance (k + n) u
 allowance-element k n u l r one h j some = omega (arith, mul-le-mul_left (k * u) one, mul-le-mul_left u one)
 
-pub allowance-arm : (k a b u l r : ℕ) → 1 ≤ a → 1 ≤ b → l ≤ a * u → r ≤ b * u → 1 ≤ u
-    → list_allowance k u + allowance a u + (5 * l + 2) + allowance b u + (2 * (l + 1) + 2 * r + 2) ≤ list_allowance (k + (a + b)) u
-allowance-arm k a b u l r one two h j some = omega (arith, mul-le-mul_left (a * u) two, mul-le-mul_left u one, mul-le-mul_left u two)
+pub allowance-arm : (a b u l r : ℕ) → 1 ≤ a → 1 ≤ b → l ≤ a * u → r ≤ b * u → 1 ≤ u → allowance a u + allowance b u + (7 * l + 2 * r + 6) ≤ list_allowance (a + b) u
+allowance-arm a b u l r one two h j some = omega (arith, mul-le-mul_left (a * u) two, mul-le-mul_left u one, mul-le-mul_left u two)
+
+pub list_allowance-join : (k n u : ℕ) → list_allowance k u + list_allowance n u ≤ list_allowance (k + n) u
+list_allowance-join k n u = omega arith

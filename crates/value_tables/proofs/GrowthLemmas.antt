@@ -16,7 +16,7 @@ use Rattle.value_tables.specs.Work.{Spends, allowance, list_allowance, operator_
 use Rattle.value_tables.specs.Weights.{AreApart, weights}
 use Rattle.value_tables.proofs.RegionLemmas.{Spends-then}
 use Rattle.value_tables.proofs.WeightLemmas.{Spends-more, AreApart-grows, weights-most}
-use Rattle.value_tables.proofs.AllowanceLemmas.{allowance-next, allowance-least, allowance-not, allowance-left, allowance-both, allowance-binary, allowance-element, allowance-arm, list_allowance-mono, list_allowance-whole, list_allowance-last}
+use Rattle.value_tables.proofs.AllowanceLemmas.{allowance-next, allowance-least, allowance-not, allowance-left, allowance-both, allowance-binary, allowance-element, allowance-arm, list_allowance-join, list_allowance-mono, list_allowance-whole, list_allowance-last}
 
 -- ---- the nodes of lists
 
@@ -143,43 +143,26 @@ list_spends s z k t e h = subst (λ m. Spends (allowance m (2 ^ levels_of s)) s 
 
 -- ---- arms
 
-arm_within : (k a b t u l r : ℕ) → 1 ≤ a → 1 ≤ b → l ≤ a * u → r ≤ b * u → 1 ≤ u → k + (a + b) ≤ t
-    → list_allowance k u + allowance a u + (5 * l + 2) + allowance b u + (2 * (l + 1) + 2 * r + 2) ≤ list_allowance t u
-arm_within k a b t u l r one two h j some le = omega (arith, allowance-arm k a b u l r one two h j some, list_allowance-mono (k + (a + b)) t u le)
+module _ (s p q : Store) (g : Grows s p) (h : Grows p q) (a b : ℕ) (one : 1 ≤ a) (two : 1 ≤ b) (x : Spends (allowance a (2 ^ levels_of s)) s p) where
+  within : (l r : ℕ) → l ≤ a * 2 ^ levels_of s → r ≤ b * 2 ^ levels_of s → allowance a (2 ^ levels_of s) + allowance b (2 ^ levels_of s) + (7 * l + 2 * r + 6) ≤ list_allowance (a + b) (2 ^ levels_of s)
+  within l r few more = allowance-arm a b (2 ^ levels_of s) l r one two few more (some_unit s)
 
-module _ (s p q : Store) (g : Grows s p) (h : Grows p q) (k a b t l : ℕ) (one : 1 ≤ a) (two : 1 ≤ b) (le : k + (a + b) ≤ t)
-    (x : Spends (list_allowance k (2 ^ levels_of s)) s p) (y : Spends (allowance a (2 ^ levels_of p)) p q) where
-  pub arm_guard : Spends (list_allowance t (2 ^ levels_of s)) s q
-  arm_guard = Spends-more s q _ _ (omega (arith, arm_within k a b t (2 ^ levels_of s) 0 0 one two (omega arith) (omega arith) (some_unit s) le)) (element_join s p q g k a x y)
+  pub arm_guard : Spends (list_allowance (a + b) (2 ^ levels_of s)) s p
+  arm_guard = Spends-more s p _ _ (omega (arith, within 0 0 (omega arith) (omega arith))) x
 
-  module _ (w : Store) (i : Grows q w) (few : l ≤ a * 2 ^ levels_of q) (z : Spends (5 * l + 2) q w) where
-    to_q : 2 ^ levels_of q ≡ 2 ^ levels_of s
-    to_q = same_unit p q h ∙ same_unit s p g
+  module _ (y : Spends (allowance b (2 ^ levels_of p)) p q) where
+    pub arm_right : Spends (list_allowance (a + b) (2 ^ levels_of s)) s q
+    arm_right = Spends-more s q _ _ (omega (arith, within 0 0 (omega arith) (omega arith))) (both_join s p q g a b x y)
 
-    to_w : 2 ^ levels_of w ≡ 2 ^ levels_of s
-    to_w = same_unit q w i ∙ to_q
+    pub arm_spends : (z : Store) (l r : ℕ) → l ≤ a * 2 ^ levels_of p → r ≤ b * 2 ^ levels_of q → Spends (7 * l + 2 * r + 6) q z → Spends (list_allowance (a + b) (2 ^ levels_of s)) s z
+    arm_spends z l r few more w =
+        let all : 2 ^ levels_of q ≡ 2 ^ levels_of s = same_unit p q h ∙ same_unit s p g in
+        Spends-then s q z _ (7 * l + 2 * r + 6) _ (h.levels ∙ g.levels) (within l r (subst (λ u. l ≤ a * u) (same_unit s p g) few) (subst (λ u. r ≤ b * u) all more)) (both_join s p q g a b x y) w
 
-    few_here : l ≤ a * 2 ^ levels_of s
-    few_here = subst (λ u. l ≤ a * u) to_q few
-
-    so_far : Spends (list_allowance k (2 ^ levels_of s) + allowance a (2 ^ levels_of s) + (5 * l + 2)) s w
-    so_far = Spends-then s q w _ _ _ (h.levels ∙ g.levels) (omega arith) (element_join s p q g k a x y) z
-
-    pub arm_tested : Spends (list_allowance t (2 ^ levels_of s)) s w
-    arm_tested = Spends-more s w _ _ (omega (arith, arm_within k a b t (2 ^ levels_of s) l 0 one two few_here (omega arith) (some_unit s) le)) so_far
-
-    module _ (v : Store) (j : Grows w v) (f : Spends (allowance b (2 ^ levels_of w)) w v) where
-      with_right : Spends (list_allowance k (2 ^ levels_of s) + allowance a (2 ^ levels_of s) + (5 * l + 2) + allowance b (2 ^ levels_of s)) s v
-      with_right = Spends-then s w v _ (allowance b (2 ^ levels_of s)) _ (i.levels ∙ h.levels ∙ g.levels) (omega arith) so_far (subst (λ u. Spends (allowance b u) w v) to_w f)
-
-      pub arm_right : Spends (list_allowance t (2 ^ levels_of s)) s v
-      arm_right = Spends-more s v _ _ (omega (arith, arm_within k a b t (2 ^ levels_of s) l 0 one two few_here (omega arith) (some_unit s) le)) with_right
-
-      pub arm_spends : (z : Store) (m r : ℕ) → m ≤ l + 1 → r ≤ b * 2 ^ levels_of v → Spends (2 * m + 2 * r + 2) v z → Spends (list_allowance t (2 ^ levels_of s)) s z
-      arm_spends z m r short more d =
-          let most : r ≤ b * 2 ^ levels_of s = subst (λ u. r ≤ b * u) (same_unit w v j ∙ to_w) more in
-          Spends-then s v z _ (2 * m + 2 * r + 2) _ (j.levels ∙ i.levels ∙ h.levels ∙ g.levels)
-          (omega (arith, arm_within k a b t (2 ^ levels_of s) l r one two few_here most (some_unit s) le)) with_right d
+pub arm_joined : (s p z : Store) → Grows s p → (k n t : ℕ) → k + n ≤ t → Spends (list_allowance k (2 ^ levels_of s)) s p → Spends (list_allowance n (2 ^ levels_of p)) p z → Spends (list_allowance t (2 ^ levels_of s)) s z
+arm_joined s p z g k n t le x y =
+    Spends-then s p z _ (list_allowance n (2 ^ levels_of s)) _ g.levels (omega (arith, list_allowance-join k n (2 ^ levels_of s), list_allowance-mono (k + n) t (2 ^ levels_of s) le))
+    x (subst (λ u. Spends (list_allowance n u) p z) (same_unit s p g) y)
 
 pub arms_spend : (s p z : Store) → Grows s p → (k t : ℕ) → t ≡ k → Spends (list_allowance k (2 ^ levels_of s)) s p → Spends 1 p z → Spends (allowance (1 + t) (2 ^ levels_of s)) s z
 arms_spend s p z g k t e x y = subst (λ m. Spends (allowance (1 + m) (2 ^ levels_of s)) s z) (sym e) (Spends-then s p z _ 1 _ g.levels (list_allowance-last k (2 ^ levels_of s) (some_unit s)) x y)

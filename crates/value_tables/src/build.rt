@@ -1,7 +1,7 @@
 //! The table of an expression, by recursion.
 
-ghost use Rattle.std.specs.Prelude.{◌≡◌, ◌+◌, ◌*◌, ◌^◌, ◌&&◌, true, List, Bool, IfOk, IfErr, length};
-ghost use Rattle.bdd_nodes.specs.Store.{levels_of};
+ghost use Rattle.std.specs.Prelude.{◌≡◌, ◌+◌, ◌*◌, ◌^◌, ◌&&◌, ◌||◌, true, List, Bool, IfOk, IfErr, OnOk, length};
+ghost use Rattle.bdd_nodes.specs.Store.{Has, value_of, levels_of};
 ghost use Rattle.bdd_nodes.specs.Refusal.{IsRefusalOf};
 ghost use Rattle.bdd_ops.specs.Engine.{store_of};
 ghost use Rattle.bit_encode.specs.Code.{types_of, bit_count};
@@ -10,15 +10,18 @@ ghost use Rattle.kripke_model.specs.Reading.{term_of, terms_in, arms_in};
 ghost use Rattle.kripke_model.specs.Size.{node_count, element_nodes, arm_nodes};
 ghost use Rattle.value_tables.specs.Work.{Keeps, Spends, allowance, list_allowance};
 ghost use Rattle.value_tables.specs.States.{meaning_of, elements_meaning, arms_meaning};
-ghost use Rattle.value_tables.specs.Tables.{IsTable, IsSetTable};
+ghost use Rattle.kripke_model.specs.declared.expressions.Value.{Value as Values};
+ghost use Rattle.kripke_model.specs.Evaluation.{Checked};
+ghost use Rattle.value_tables.specs.Cells.{shows, AreCells};
+ghost use Rattle.value_tables.specs.Tables.{IsTable, IsSetTable, guard_of, arm_shows, goes_on};
 
 use crate::binary::binary_of;
 use crate::cell_lists::CellList;
 use crate::cells::add;
-use crate::operands::{Table, tested};
+use crate::operands::Table;
 use crate::operators::everywhere;
-use crate::pick::{Test, truth};
-use crate::sets::{choose, negated, united};
+use crate::pick::truth;
+use crate::sets::{add_arm, negated, united};
 use crate::variables::{running, variable};
 use bdd_nodes::{Ref, Steps, StoreRefusal};
 use bdd_ops::Engine;
@@ -102,6 +105,42 @@ fn build_elements<L: Ledger>(
     Ok(cells)
 }
 
+/// Adds what one arm of a `case` gives within the region that the arms before it left, and answers with the region
+/// that it leaves.
+#[cycle(build)]
+fn build_arm<L: Ledger>(
+    alloc: Global,
+    engine: &mut Engine,
+    layout: &Layout,
+    model: &Ruled,
+    arm: &Arm,
+    next: bool,
+    left: Ref,
+    out: &mut CellList,
+    steps: &mut Steps<L>,
+) -> Result<Ref, StoreRefusal>
+    requires guard { IsEvaluable model.now (term_of arm.now.guard) }
+    requires right { IsEvaluable model.now (term_of arm.now.right) }
+    requires types { layout.now.types ≡ types_of model.now }
+    requires levels { levels_of (store_of engine.old) ≡ 2 * bit_count layout.now.types }
+    requires left { Has (store_of engine.old) left }
+    requires out { AreCells (store_of engine.old) out.old.items }
+    ensures cells { OnOk result (AreCells (store_of engine.new) out.new.items) }
+    ensures has { IfOk result (Has (store_of engine.new)) }
+    ensures shows { OnOk result ((bits : List Bool) (k : Checked Values) → shows (λ r. value_of (store_of engine.new) r bits) out.new.items k
+        ≡ (shows (λ r. value_of (store_of engine.old) r bits) out.old.items k
+        || (value_of (store_of engine.old) left bits && arm_shows (guard_of (meaning_of layout.now model.now next (term_of arm.now.guard) bits)) (meaning_of layout.now model.now next (term_of arm.now.right) bits) k))) }
+    ensures rest { IfOk result (λ r. (bits : List Bool) → value_of (store_of engine.new) r bits
+        ≡ (value_of (store_of engine.old) left bits && goes_on (guard_of (meaning_of layout.now model.now next (term_of arm.now.guard) bits)))) }
+    ensures held { IfErr result (IsRefusalOf (store_of engine.new)) }
+    ensures keeps { Keeps engine.old engine.new steps.old steps.new }
+    ensures spends { Spends (list_allowance (node_count (term_of arm.now.guard) + node_count (term_of arm.now.right)) (2 ^ levels_of (store_of engine.old))) (store_of engine.old) (store_of engine.new) }
+{
+    let guard = build(alloc, engine, layout, model, &arm.guard, next, steps)?;
+    let right = build(alloc, engine, layout, model, &arm.right, next, steps)?;
+    add_arm(alloc, engine, &guard, &right.cells, left, out, steps)
+}
+
 /// The table of a `case`.
 #[cycle(build)]
 fn build_arms<L: Ledger>(
@@ -124,10 +163,9 @@ fn build_arms<L: Ledger>(
     let mut cells = CellList::new(alloc);
     let mut left = Ref::TRUE;
     for arm in arms {
-        let guard = build(alloc, engine, layout, model, &arm.guard, next, steps)?;
-        let guard = tested(alloc, engine, &guard, Test::Boolean, steps)?;
-        let right = build(alloc, engine, layout, model, &arm.right, next, steps)?;
-        left = choose(engine, &guard, &right.cells, left, &mut cells, steps)?;
+        left = build_arm(
+            alloc, engine, layout, model, arm, next, left, &mut cells, steps,
+        )?;
     }
     add(engine, &mut cells, Ok(truth(true)), left, steps)?;
     Ok(Table {

@@ -11,7 +11,7 @@ ghost use Rattle.value_tables.specs.Tables.{is_fault, count_on, at_region};
 
 use crate::cell_lists::CellList;
 use crate::cells::Cell;
-use crate::regions::{join, meet};
+use crate::regions::{join, join_both};
 use bdd_nodes::{Ref, Steps, StoreRefusal};
 use bdd_ops::Engine;
 use std::sync::ledger::Ledger;
@@ -78,8 +78,7 @@ fn one_more<L: Ledger>(
     ensures keeps { Keeps engine.old engine.new steps.old steps.new }
     ensures spends { Spends 3 (store_of engine.old) (store_of engine.new) }
 {
-    let both = meet(engine, so_far.one, region, steps)?;
-    let two = join(engine, so_far.two, both, steps)?;
+    let two = join_both(engine, so_far.two, so_far.one, region, steps)?;
     let one = join(engine, so_far.one, region, steps)?;
     Ok(Counted { one, two })
 }
@@ -106,26 +105,6 @@ pub(crate) fn many_of<L: Ledger>(
     Ok(so_far.two)
 }
 
-/// The region, and that where the cell and its reading's cell at the right both are.
-fn with_match<L: Ledger>(
-    engine: &mut Engine,
-    hit: Ref,
-    cell: Cell,
-    right: Ref,
-    steps: &mut Steps<L>,
-) -> Result<Ref, StoreRefusal>
-    requires hit { Has (store_of engine.old) hit }
-    requires cell { Has (store_of engine.old) cell.region }
-    requires right { Has (store_of engine.old) right }
-    ensures region { IfOk result (λ r. IsRegion (store_of engine.new) r (λ bits. value_of (store_of engine.old) hit bits || (value_of (store_of engine.old) right bits && value_of (store_of engine.old) cell.region bits))) }
-    ensures held { IfErr result (IsRefusalOf (store_of engine.new)) }
-    ensures keeps { Keeps engine.old engine.new steps.old steps.new }
-    ensures spends { Spends 2 (store_of engine.old) (store_of engine.new) }
-{
-    let both = meet(engine, right, cell.region, steps)?;
-    join(engine, hit, both, steps)
-}
-
 /// The region where some cell at the left and a cell of the same reading at the right both are.
 pub(crate) fn matched<L: Ledger>(
     engine: &mut Engine,
@@ -142,7 +121,8 @@ pub(crate) fn matched<L: Ledger>(
 {
     let mut hit = Ref::FALSE;
     for cell in left {
-        hit = with_match(engine, hit, *cell, right.region_of(cell.reading), steps)?;
+        let equal = right.region_of(cell.reading);
+        hit = join_both(engine, hit, equal, cell.region, steps)?;
     }
     Ok(hit)
 }

@@ -1,14 +1,17 @@
 //! Operands: tables that are tested, and the faults of two of them.
 
-ghost use Rattle.std.specs.Prelude.{◌≡◌, ◌≤◌, ◌+◌, ◌*◌, ◌&&◌, not, ℕ, Bool, true, List, IfOk, IfErr, length, nat_lt};
+ghost use Rattle.std.specs.Prelude.{◌≡◌, ◌≤◌, ◌+◌, ◌*◌, ◌&&◌, not, ℕ, Bool, ◌||◌, true, List, IfOk, IfErr, OnOk, All, length, nat_lt};
 ghost use Rattle.bdd_nodes.specs.Store.{Has, value_of};
 ghost use Rattle.bdd_nodes.specs.Refusal.{IsRefusalOf};
 ghost use Rattle.bdd_ops.specs.Engine.{store_of};
 ghost use Rattle.kripke_model.specs.declared.expressions.Value.{Value as Values};
 ghost use Rattle.kripke_model.specs.Evaluation.{Checked};
+ghost use Rattle.value_tables.specs.declared.cells.Cell.{Cell as Cells};
 ghost use Rattle.value_tables.specs.Work.{Keeps, Spends, IsRegion};
 ghost use Rattle.value_tables.specs.Cells.{shows, any_cell, Reads, AreCells};
-ghost use Rattle.value_tables.specs.Tables.{is_failure, is_fault_of, one_tested, both, IsProper, IsSingle, count_on};
+ghost use Rattle.value_tables.specs.Pick.{becomes};
+ghost use Rattle.value_tables.specs.declared.pick.Pick.{Pick as Picks};
+ghost use Rattle.value_tables.specs.Tables.{is_fault, is_failure, is_fault_of, one_tested, both, IsProper, IsSingle, count_on};
 
 use crate::cell_lists::CellList;
 use crate::cells::{Cell, add};
@@ -80,6 +83,57 @@ pub(crate) fn tested<L: Ledger>(
     Ok(out)
 }
 
+/// Adds the faults of an operand, as far as they lie within a region, and answers with the region of all its faults.
+fn add_faults<L: Ledger>(
+    engine: &mut Engine,
+    cells: &[Cell],
+    within: Ref,
+    out: &mut CellList,
+    steps: &mut Steps<L>,
+) -> Result<Ref, StoreRefusal>
+    requires cells { All (λ (c : Cells). Has (store_of engine.old) c.region) cells.now }
+    requires within { Has (store_of engine.old) within }
+    requires out { AreCells (store_of engine.old) out.old.items }
+    ensures cells { OnOk result (AreCells (store_of engine.new) out.new.items) }
+    ensures shows { OnOk result ((bits : List Bool) (k : Checked Values) → shows (λ r. value_of (store_of engine.new) r bits) out.new.items k
+        ≡ (shows (λ r. value_of (store_of engine.old) r bits) out.old.items k
+        || (any_cell (λ r. value_of (store_of engine.old) r bits) (becomes Picks.Faults k) cells.now && value_of (store_of engine.old) within bits))) }
+    ensures few { OnOk result (length out.new.items ≤ length out.old.items + length cells.now) }
+    ensures region { IfOk result (λ r. IsRegion (store_of engine.new) r (λ bits. any_cell (λ q. value_of (store_of engine.old) q bits) is_fault cells.now)) }
+    ensures held { IfErr result (IsRefusalOf (store_of engine.new)) }
+    ensures keeps { Keeps engine.old engine.new steps.old steps.new }
+    ensures spends { Spends (3 * length cells.now) (store_of engine.old) (store_of engine.new) }
+{
+    spread(engine, cells, Pick::Faults, within, out, steps)?;
+    faulty_of(engine, cells, steps)
+}
+
+/// Adds the faults of a right operand outside the region of the left one's, and answers with the region of both.
+fn add_later_faults<L: Ledger>(
+    engine: &mut Engine,
+    first: Ref,
+    right: &[Cell],
+    out: &mut CellList,
+    steps: &mut Steps<L>,
+) -> Result<Ref, StoreRefusal>
+    requires first { Has (store_of engine.old) first }
+    requires right { All (λ (c : Cells). Has (store_of engine.old) c.region) right.now }
+    requires out { AreCells (store_of engine.old) out.old.items }
+    ensures cells { OnOk result (AreCells (store_of engine.new) out.new.items) }
+    ensures shows { OnOk result ((bits : List Bool) (k : Checked Values) → shows (λ r. value_of (store_of engine.new) r bits) out.new.items k
+        ≡ (shows (λ r. value_of (store_of engine.old) r bits) out.old.items k
+        || (any_cell (λ r. value_of (store_of engine.old) r bits) (becomes Picks.Faults k) right.now && not (value_of (store_of engine.old) first bits)))) }
+    ensures few { OnOk result (length out.new.items ≤ length out.old.items + length right.now) }
+    ensures region { IfOk result (λ r. IsRegion (store_of engine.new) r (λ bits. value_of (store_of engine.old) first bits || any_cell (λ q. value_of (store_of engine.old) q bits) is_fault right.now)) }
+    ensures held { IfErr result (IsRefusalOf (store_of engine.new)) }
+    ensures keeps { Keeps engine.old engine.new steps.old steps.new }
+    ensures spends { Spends (3 * length right.now + 2) (store_of engine.old) (store_of engine.new) }
+{
+    let sound = outside(engine, first, steps)?;
+    let second = add_faults(engine, right, sound, out, steps)?;
+    join(engine, first, second, steps)
+}
+
 /// The cells of faults, and the region of all of them.
 #[derive(Drop)]
 pub(crate) struct Faults {
@@ -109,11 +163,7 @@ pub(crate) fn faults_of<L: Ledger>(
     ensures spends { Spends (3 * length left.now + 3 * length right.now + 2) (store_of engine.old) (store_of engine.new) }
 {
     let mut cells = CellList::new(alloc);
-    spread(engine, left, Pick::Faults, Ref::TRUE, &mut cells, steps)?;
-    let first = faulty_of(engine, left, steps)?;
-    let sound = outside(engine, first, steps)?;
-    spread(engine, right, Pick::Faults, sound, &mut cells, steps)?;
-    let second = faulty_of(engine, right, steps)?;
-    let region = join(engine, first, second, steps)?;
+    let first = add_faults(engine, left, Ref::TRUE, &mut cells, steps)?;
+    let region = add_later_faults(engine, first, right, &mut cells, steps)?;
     Ok(Faults { cells, region })
 }

@@ -19,7 +19,7 @@ use crate::counts::matched;
 use crate::operands::{Faults, Table, faults_of, tested};
 use crate::orders::below;
 use crate::pick::{Pick, Test, truth};
-use crate::regions::{alike, join, meet, outside};
+use crate::regions::{alike, join, meet, neither, only, outside};
 use crate::spread::spread;
 use bdd_nodes::{Ref, Steps, StoreRefusal};
 use bdd_ops::Engine;
@@ -48,6 +48,33 @@ pub(crate) fn everywhere(
     })
 }
 
+/// The regions of 0 and of 1.
+#[derive(Clone, Copy)]
+struct Sides {
+    no: Ref,
+    yes: Ref,
+}
+
+/// 1 is where the hit is, and 0 where neither it nor a fault is.
+fn sides_of<L: Ledger>(
+    engine: &mut Engine,
+    faulty: Ref,
+    hit: Ref,
+    steps: &mut Steps<L>,
+) -> Result<Sides, StoreRefusal>
+    requires faulty { Has (store_of engine.old) faulty }
+    requires hit { Has (store_of engine.old) hit }
+    ensures no { IfOk result (λ p. IsRegion (store_of engine.new) p.no (λ bits. not (value_of (store_of engine.old) hit bits || value_of (store_of engine.old) faulty bits))) }
+    ensures yes { IfOk result (λ p. IsRegion (store_of engine.new) p.yes (λ bits. value_of (store_of engine.old) hit bits && not (value_of (store_of engine.old) faulty bits))) }
+    ensures held { IfErr result (IsRefusalOf (store_of engine.new)) }
+    ensures keeps { Keeps engine.old engine.new steps.old steps.new }
+    ensures spends { Spends 4 (store_of engine.old) (store_of engine.new) }
+{
+    let no = neither(engine, hit, faulty, steps)?;
+    let yes = only(engine, hit, faulty, steps)?;
+    Ok(Sides { no, yes })
+}
+
 /// The table of 0 and 1: 1 where the hit is, 0 where neither it nor a fault is.
 fn decided<L: Ledger>(
     engine: &mut Engine,
@@ -70,12 +97,9 @@ fn decided<L: Ledger>(
     ensures spends { Spends 6 (store_of engine.old) (store_of engine.new) }
 {
     let mut cells = faults.cells;
-    let covered = join(engine, hit, faults.region, steps)?;
-    let no = outside(engine, covered, steps)?;
-    let sound = outside(engine, faults.region, steps)?;
-    let yes = meet(engine, hit, sound, steps)?;
-    add(engine, &mut cells, Ok(truth(false)), no, steps)?;
-    add(engine, &mut cells, Ok(truth(true)), yes, steps)?;
+    let sides = sides_of(engine, faults.region, hit, steps)?;
+    add(engine, &mut cells, Ok(truth(false)), sides.no, steps)?;
+    add(engine, &mut cells, Ok(truth(true)), sides.yes, steps)?;
     Ok(Table {
         cells,
         single: true,

@@ -11,7 +11,7 @@ ghost use Rattle.value_tables.specs.Work.{Keeps, Spends, IsRegion};
 ghost use Rattle.value_tables.specs.Orders.{any_below, mark_of, marks_in, is_before, is_lesser, any_pair, AreMarks};
 
 use crate::cells::Cell;
-use crate::regions::{join, meet};
+use crate::regions::{join, join_both};
 use bdd_nodes::{Ref, Steps, StoreRefusal};
 use bdd_ops::Engine;
 use kripke_model::expressions::Value;
@@ -97,8 +97,7 @@ fn pass_mark<L: Ledger>(
         let lesser = join(engine, so_far.lesser, mark.region, steps)?;
         return Ok(Passed { lesser, ..so_far });
     }
-    let both = meet(engine, so_far.lesser, mark.region, steps)?;
-    let hit = join(engine, so_far.hit, both, steps)?;
+    let hit = join_both(engine, so_far.hit, so_far.lesser, mark.region, steps)?;
     Ok(Passed { hit, ..so_far })
 }
 

@@ -77,3 +77,59 @@ pub(crate) fn alike<L: Ledger>(
 {
     engine.iff(f, g, steps)
 }
+
+/// The region where the first one is, or both others are.
+pub(crate) fn join_both<L: Ledger>(
+    engine: &mut Engine,
+    f: Ref,
+    g: Ref,
+    h: Ref,
+    steps: &mut Steps<L>,
+) -> Result<Ref, StoreRefusal>
+    requires f { Has (store_of engine.old) f }
+    requires g { Has (store_of engine.old) g }
+    requires h { Has (store_of engine.old) h }
+    ensures region { IfOk result (λ r. IsRegion (store_of engine.new) r (λ bits. value_of (store_of engine.old) f bits || (value_of (store_of engine.old) g bits && value_of (store_of engine.old) h bits))) }
+    ensures held { IfErr result (IsRefusalOf (store_of engine.new)) }
+    ensures keeps { Keeps engine.old engine.new steps.old steps.new }
+    ensures spends { Spends 2 (store_of engine.old) (store_of engine.new) }
+{
+    let both = meet(engine, g, h, steps)?;
+    join(engine, f, both, steps)
+}
+
+/// The region where neither is.
+pub(crate) fn neither<L: Ledger>(
+    engine: &mut Engine,
+    f: Ref,
+    g: Ref,
+    steps: &mut Steps<L>,
+) -> Result<Ref, StoreRefusal>
+    requires f { Has (store_of engine.old) f }
+    requires g { Has (store_of engine.old) g }
+    ensures region { IfOk result (λ r. IsRegion (store_of engine.new) r (λ bits. not (value_of (store_of engine.old) f bits || value_of (store_of engine.old) g bits))) }
+    ensures held { IfErr result (IsRefusalOf (store_of engine.new)) }
+    ensures keeps { Keeps engine.old engine.new steps.old steps.new }
+    ensures spends { Spends 2 (store_of engine.old) (store_of engine.new) }
+{
+    let either = join(engine, f, g, steps)?;
+    outside(engine, either, steps)
+}
+
+/// The region where the first one is and the second one is not.
+pub(crate) fn only<L: Ledger>(
+    engine: &mut Engine,
+    f: Ref,
+    g: Ref,
+    steps: &mut Steps<L>,
+) -> Result<Ref, StoreRefusal>
+    requires f { Has (store_of engine.old) f }
+    requires g { Has (store_of engine.old) g }
+    ensures region { IfOk result (λ r. IsRegion (store_of engine.new) r (λ bits. value_of (store_of engine.old) f bits && not (value_of (store_of engine.old) g bits))) }
+    ensures held { IfErr result (IsRefusalOf (store_of engine.new)) }
+    ensures keeps { Keeps engine.old engine.new steps.old steps.new }
+    ensures spends { Spends 2 (store_of engine.old) (store_of engine.new) }
+{
+    let rest = outside(engine, g, steps)?;
+    meet(engine, f, rest, steps)
+}

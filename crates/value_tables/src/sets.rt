@@ -8,7 +8,7 @@ ghost use Rattle.kripke_model.specs.declared.expressions.Value.{Value as Values}
 ghost use Rattle.kripke_model.specs.Evaluation.{Checked};
 ghost use Rattle.value_tables.specs.Work.{Keeps, Spends};
 ghost use Rattle.value_tables.specs.Cells.{shows, Reads, AreCells};
-ghost use Rattle.value_tables.specs.Tables.{IsProper, IsSingle, all_values, negation, truths, arm_shows, goes_on};
+ghost use Rattle.value_tables.specs.Tables.{IsProper, IsSingle, IsOperand, all_values, negation, truths, guard_of, arm_shows, goes_on};
 
 use crate::cell_lists::CellList;
 use crate::cells::Cell;
@@ -80,7 +80,7 @@ pub(crate) fn negated<L: Ledger>(
 
 /// Adds what one arm of a `case` gives within the region that the arms before it left, and answers with the region
 /// that it leaves: that where its guard is 0.
-pub(crate) fn choose<L: Ledger>(
+fn choose<L: Ledger>(
     engine: &mut Engine,
     guard: &CellList,
     right: &[Cell],
@@ -106,4 +106,32 @@ pub(crate) fn choose<L: Ledger>(
     let yes = meet(engine, guard.region_of(Ok(truth(true))), left, steps)?;
     spread(engine, right, Pick::All, yes, out, steps)?;
     meet(engine, guard.region_of(Ok(truth(false))), left, steps)
+}
+
+/// The same for a guard that is to be 0 or 1.
+pub(crate) fn add_arm<L: Ledger>(
+    alloc: Global,
+    engine: &mut Engine,
+    guard: &Table,
+    right: &[Cell],
+    left: Ref,
+    out: &mut CellList,
+    steps: &mut Steps<L>,
+) -> Result<Ref, StoreRefusal>
+    requires guard { AreCells (store_of engine.old) guard.now.cells.items }
+    requires right { AreCells (store_of engine.old) right.now }
+    requires left { Has (store_of engine.old) left }
+    requires out { AreCells (store_of engine.old) out.old.items }
+    ensures cells { OnOk result (AreCells (store_of engine.new) out.new.items) }
+    ensures has { IfOk result (Has (store_of engine.new)) }
+    ensures shows { OnOk result ((bits : List Bool) (c d : Checked (List Values)) → IsOperand (λ r. value_of (store_of engine.old) r bits) guard.now.cells.items guard.now.single c → Reads (λ r. value_of (store_of engine.old) r bits) right.now d
+        → (k : Checked Values) → shows (λ r. value_of (store_of engine.new) r bits) out.new.items k ≡ (shows (λ r. value_of (store_of engine.old) r bits) out.old.items k || (value_of (store_of engine.old) left bits && arm_shows (guard_of c) d k))) }
+    ensures rest { IfOk result (λ r. (bits : List Bool) (c : Checked (List Values)) → IsOperand (λ q. value_of (store_of engine.old) q bits) guard.now.cells.items guard.now.single c
+        → value_of (store_of engine.new) r bits ≡ (value_of (store_of engine.old) left bits && goes_on (guard_of c))) }
+    ensures held { IfErr result (IsRefusalOf (store_of engine.new)) }
+    ensures keeps { Keeps engine.old engine.new steps.old steps.new }
+    ensures spends { Spends (7 * length guard.now.cells.items + 2 * length right.now + 6) (store_of engine.old) (store_of engine.new) }
+{
+    let boolean = tested(alloc, engine, guard, Test::Boolean, steps)?;
+    choose(engine, &boolean, right, left, out, steps)
 }

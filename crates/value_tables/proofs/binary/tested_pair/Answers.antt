@@ -1,4 +1,6 @@
-use Rattle.value_tables.proofs.RegionLemmas.{AreCells-grows, keeps_join}
+use Rattle.std.proofs.Common.{◌+◌, ◌*◌, length, arith}
+use Rattle.value_tables.proofs.WeightLemmas.{Spends-more}
+use Rattle.value_tables.proofs.RegionLemmas.{AreCells-grows, keeps_join, Spends-then}
 use Rattle.value_tables.proofs.BinaryLemmas.{reads_grows}
 use Rattle.value_tables.proofs.binary.tested_pair.Goals as goal
 
@@ -16,3 +18,24 @@ returns-clause-reads_right g c = λ bits r o. c.in_ok-right.ensures.reads bits r
 
 pub returns-clause-keeps : goal.returns-clause-keeps
 returns-clause-keeps g c = keeps_join c.tested.ensures.keeps c.tested-2.ensures.keeps
+
+pub returns-in_err-right-clause-keeps : goal.returns-in_err-right-clause-keeps
+returns-in_err-right-clause-keeps g c = keeps_join c.tested.ensures.keeps c.tested-2.ensures.keeps
+
+pub returns-in_err-left-clause-spends : goal.returns-in_err-left-clause-spends
+returns-in_err-left-clause-spends g c =
+    let l = length c.args.left.now.cells.items in
+    let r = length c.args.right.now.cells.items in
+    Spends-more c.args.engine.now.store c.tested.new.engine.store (5 * l + 2) (5 * l + 5 * r + 4) (omega arith) c.tested.ensures.spends
+
+pub returns-in_err-right-clause-spends : goal.returns-in_err-right-clause-spends
+returns-in_err-right-clause-spends g c =
+    let l = length c.args.left.now.cells.items in
+    let r = length c.args.right.now.cells.items in
+    Spends-then c.args.engine.now.store c.tested.new.engine.store c.tested-2.new.engine.store (5 * l + 2) (5 * r + 2) (5 * l + 5 * r + 4) c.tested.ensures.keeps.grows.levels (omega arith) c.tested.ensures.spends c.tested-2.ensures.spends
+
+pub returns-clause-spends : goal.returns-clause-spends
+returns-clause-spends g c =
+    let l = length c.args.left.now.cells.items in
+    let r = length c.args.right.now.cells.items in
+    Spends-then c.args.engine.now.store c.tested.new.engine.store c.tested-2.new.engine.store (5 * l + 2) (5 * r + 2) (5 * l + 5 * r + 4) c.tested.ensures.keeps.grows.levels (omega arith) c.tested.ensures.spends c.tested-2.ensures.spends

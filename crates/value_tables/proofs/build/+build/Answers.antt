@@ -4,7 +4,7 @@ use Rattle.bdd_nodes.specs.Store.{value_of, levels_of}
 use Rattle.bdd_ops.specs.Engine.{store_of}
 use Rattle.bit_encode.specs.Code.{bit_count}
 use Rattle.kripke_model.specs.Size.{node_count, element_nodes, arm_nodes}
-use Rattle.bdd_nodes.proofs.Tables.{Grows-then}
+use Rattle.bdd_nodes.proofs.Tables.{Grows-same, Grows-then}
 use Rattle.kripke_model.specs.declared.expressions.Expr.{Expr}
 use Rattle.kripke_model.specs.declared.expressions.Arm.{Arm}
 use Rattle.kripke_model.specs.Term.{Term}
@@ -13,20 +13,19 @@ use Rattle.kripke_model.specs.declared.expressions.Value.{Value}
 use Rattle.kripke_model.specs.Evaluation.{Checked, ◌>>=◌, eval}
 use Rattle.kripke_model.specs.Evaluable.{IsEvaluable, AreEvaluable, AreEvaluableArms}
 use Rattle.kripke_model.proofs.ReadingLemmas.{braces_term, case_term}
-use Rattle.value_tables.specs.declared.pick.Test.{Test}
-use Rattle.value_tables.specs.Cells.{same_reading, any_of, Reads, AreCells}
+use Rattle.value_tables.specs.Cells.{same_reading, any_of, shows, Reads, AreCells}
 use Rattle.value_tables.specs.States.{meaning_of, arms_meaning, elements_meaning, state_shown}
-use Rattle.value_tables.specs.Tables.{guard_of, one_tested, truths, all_values}
+use Rattle.value_tables.specs.Tables.{guard_of, all_values, arm_shows, goes_on}
 use Rattle.value_tables.proofs.RegionLemmas.{any_cell-grows, AreCells-grows, Keeps-same, keeps_join, Spends-same}
-use Rattle.value_tables.proofs.OperatorLemmas.{boolean_tested}
+use Rattle.value_tables.proofs.StepLemmas.{if_ok}
 use Rattle.value_tables.proofs.BinaryLemmas.{reads_grows, reads_as}
 use Rattle.value_tables.proofs.EvalLemmas.{eval_proper, elements_at, elements_past, arms_at, arms_past, values_assoc, values_first, values_last, arm_split}
 use Rattle.value_tables.proofs.BuildLemmas.{operand, term_table, not_table, binary_table, braces_table, IsTable-grows, evaluable_at, arm_evaluable_at, elements_evaluable, nodes_at, arm_nodes_at, no_cells, no_values, no_arms, last_arm}
 use Rattle.value_tables.specs.declared.cells.Cell.{Cell}
 use Rattle.value_tables.specs.Work.{Spends, allowance, list_allowance}
-use Rattle.std.proofs.lemmas.Result.{err_from_is_err_and}
+use Rattle.std.proofs.lemmas.Result.{err_from_is_err_and, on_ok_weaker}
 use Rattle.value_tables.proofs.ReadingCounts.{few_more, none_few, eval_amount, node_count-some, reads-few, table-few}
-use Rattle.value_tables.proofs.GrowthLemmas.{nodes_of, nodes_of_arms, nodes_step, nodes_more_le, nodes_all, arms_step, arms_more_le, arms_all, variable_spends, running_spends, next_spends, not_spends, left_spends, both_spend, binary_spends, element_started, element_spends, list_spends, arm_guard, arm_tested, arm_right, arm_spends, arms_spend}
+use Rattle.value_tables.proofs.GrowthLemmas.{nodes_of, nodes_of_arms, nodes_step, nodes_more_le, nodes_all, arms_step, arms_more_le, arms_all, variable_spends, running_spends, next_spends, not_spends, left_spends, both_spend, binary_spends, element_started, element_spends, list_spends, arm_guard, arm_right, arm_spends, arm_joined, arms_spend}
 use Rattle.value_tables.proofs.build.+build.Goals as goal
 
 pub build-returns-in-Const-clause-table : goal.build-returns-in-Const-clause-table
@@ -117,43 +116,24 @@ build_arms-loop-arm-preserved g t c =
     let arms = c.args.arms.now in
     let n = c.loop-arm.arm-index in
     let a : Arm = c.arm-item.result in
-    let s0 = c.loop-arm.engine.store in
-    let s1 = c.build.new.engine.store in
-    let s2 = c.tested.new.engine.store in
-    let s3 = c.build-in-loop-arm.new.engine.store in
+    let s = c.loop-arm.engine.store in
     let i = c.loop-arm.invariant in
-    let s0_s3 = Grows-then s0 s2 s3 (Grows-then s0 s1 s2 c.build.ensures.keeps.grows c.tested.ensures.keeps.grows) c.build-in-loop-arm.ensures.keeps.grows in
     let f : List Bool → Checked (List Value) = meaning_of lay m c.args.next (term_of a.guard) in
     let d : List Bool → Checked (List Value) = meaning_of lay m c.args.next (term_of a.right) in
-    let good = arm_evaluable_at m arms n a c.loop-arm-test.true c.requires.evaluable in
-    let here : IsEvaluable m (term_of a.guard) = subst (λ (x : Arm). IsEvaluable m (term_of x.guard)) (sym c.arm-item.is) good.0 in
-    let guard : (bits : List Bool) → Reads (λ q. value_of s3 q bits) c.in_ok-guard-2.guard.items (truths (guard_of (f bits))) = λ bits.
-    reads_grows s2 s3 c.build-in-loop-arm.ensures.keeps.grows _ c.in_ok-guard-2.ensures.cells.has bits (truths (guard_of (f bits)))
-    (reads_as _ _ (one_tested Test.Boolean (f bits)) (truths (guard_of (f bits))) (boolean_tested (f bits))
-    (c.in_ok-guard-2.ensures.reads bits (f bits) (c.in_ok-guard.ensures.table.reads bits) (eval_proper m (term_of a.guard) _ _ here) (λ e. c.in_ok-guard.ensures.table.at_most_one e bits))) in
-    let right : (bits : List Bool) → Reads (λ q. value_of s3 q bits) c.deref.result.now (d bits) = λ bits.
-    subst (λ xs. Reads (λ q. value_of s3 q bits) xs (d bits)) (sym c.deref.ensures.value) (c.in_ok-right.ensures.table.reads bits) in
     record {
       cells = c.in_ok-left.ensures.cells;
       left = c.in_ok-left.ensures.has;
       shows = λ bits k.
           let rest : Checked (List Value) = arms_meaning lay m c.args.next (arms_in (drop (n + 1) arms)) bits in
-          arm_split k (guard_of (f bits)) (d bits) rest _ (value_of s3 c.loop-arm.left bits) _ _ _
+          arm_split k (guard_of (f bits)) (d bits) rest _ (value_of s c.loop-arm.left bits) _ _ _
           (i.shows bits k
-          ∙ (λ j. sym (any_cell-grows s0 s3 s0_s3 c.loop-arm.cells.items i.cells.has bits (same_reading k)) j
-          || (sym (s0_s3.value c.loop-arm.left i.left bits) j && any_of (same_reading k) ((arms_at m (state_shown lay c.args.next bits) (state_shown lay true bits) arms n a c.loop-arm-test.true
+          ∙ (λ j. shows (λ r. value_of s r bits) c.loop-arm.cells.items k || (value_of s c.loop-arm.left bits && any_of (same_reading k) ((arms_at m (state_shown lay c.args.next bits) (state_shown lay true bits) arms n a c.loop-arm-test.true
           ∙ ap (λ (x : Arm). guard_of (eval m (term_of x.guard) (state_shown lay c.args.next bits) (state_shown lay true bits)) >>= λ b. cond b (eval m (term_of x.right) (state_shown lay c.args.next bits) (state_shown lay true bits)) rest) (sym c.arm-item.is)) j))))
-          (c.in_ok-left.ensures.shows bits (guard_of (f bits)) (d bits) (guard bits) (right bits) k)
-          (c.in_ok-left.ensures.rest bits (guard_of (f bits)) (guard bits));
-      spends = arm_spends c.args.engine.now.store s0 s1 i.keeps.grows c.build.ensures.keeps.grows (nodes_of_arms (take n arms)) (node_count (term_of a.guard)) (node_count (term_of a.right)) (nodes_of_arms (take (n + 1) arms)) (length c.in_ok-guard.guard.cells.items)
-          (node_count-some (term_of a.guard)) (node_count-some (term_of a.right)) (arms_step arms n a c.loop-arm-test.true c.arm-item.is) i.spends c.build.ensures.spends
-          s2 c.tested.ensures.keeps.grows (table-few s1 c.in_ok-guard.guard.cells.items _ f (node_count (term_of a.guard)) c.in_ok-guard.ensures.table (λ bits. eval_amount m (term_of a.guard) (state_shown lay c.args.next bits) (state_shown lay true bits))) c.tested.ensures.spends
-          s3 c.build-in-loop-arm.ensures.keeps.grows c.build-in-loop-arm.ensures.spends
-          c.choose.new.engine.store (length c.in_ok-guard-2.guard.items) (length c.deref.result.now)
-          c.in_ok-guard-2.ensures.few
-          (subst (λ (xs : List Cell). length xs ≤ node_count (term_of a.right) * 2 ^ levels_of s3) (sym c.deref.ensures.value) (table-few s3 c.in_ok-right.right.cells.items _ d (node_count (term_of a.right)) c.in_ok-right.ensures.table (λ bits. eval_amount m (term_of a.right) (state_shown lay c.args.next bits) (state_shown lay true bits))))
-          c.choose.ensures.spends;
-      keeps = keeps_join (keeps_join (keeps_join (keeps_join i.keeps c.build.ensures.keeps) c.tested.ensures.keeps) c.build-in-loop-arm.ensures.keeps) c.choose.ensures.keeps;
+          (c.in_ok-left.ensures.shows bits k)
+          (c.in_ok-left.ensures.rest bits);
+      spends = arm_joined c.args.engine.now.store s c.build_arm.new.engine.store i.keeps.grows (nodes_of_arms (take n arms)) (node_count (term_of a.guard) + node_count (term_of a.right)) (nodes_of_arms (take (n + 1) arms))
+          (arms_step arms n a c.loop-arm-test.true c.arm-item.is) i.spends c.build_arm.ensures.spends;
+      keeps = keeps_join i.keeps c.build_arm.ensures.keeps;
     }
 
 pub build-build_elements-requires : goal.build-build_elements-requires
@@ -218,45 +198,130 @@ build_arms-loop-arm-init g t c = record {
   keeps = Keeps-same c.args.engine.now c.args.steps.now;
 }
 
-pub build_arms-build-requires : goal.build_arms-build-requires
-build_arms-build-requires g t c =
+pub build_arms-build_arm-requires : goal.build_arms-build_arm-requires
+build_arms-build_arm-requires g t c =
+    let m = c.args.model.now in
+    let arms = c.args.arms.now in
     let a : Arm = c.arm-item.result in
-    let w = arm_nodes_at c.args.arms.now c.loop-arm.arm-index a c.loop-arm-test.true in
-    let u = ap (λ (x : Arm). node_count (term_of x.guard)) c.arm-item.is in
-    let smaller : 2 * node_count (term_of a.guard) < 2 * arm_nodes (arms_in c.args.arms.now) + 1 = omega (arith, w, u) in
-    let good : IsEvaluable c.args.model.now (term_of a.guard) = subst (λ (x : Arm). IsEvaluable c.args.model.now (term_of x.guard)) (sym c.arm-item.is) (arm_evaluable_at c.args.model.now c.args.arms.now c.loop-arm.arm-index a c.loop-arm-test.true c.requires.evaluable).0 in
+    let w = arm_nodes_at arms c.loop-arm.arm-index a c.loop-arm-test.true in
+    let u = ap (λ (x : Arm). node_count (term_of x.guard) + node_count (term_of x.right)) c.arm-item.is in
+    let smaller : 2 * (node_count (term_of a.guard) + node_count (term_of a.right)) < 2 * arm_nodes (arms_in arms) + 1 = omega (arith, w, u) in
+    let good = arm_evaluable_at m arms c.loop-arm.arm-index a c.loop-arm-test.true c.requires.evaluable in
+    let guard : IsEvaluable m (term_of a.guard) = subst (λ (x : Arm). IsEvaluable m (term_of x.guard)) (sym c.arm-item.is) good.0 in
+    let right : IsEvaluable m (term_of a.right) = subst (λ (x : Arm). IsEvaluable m (term_of x.right)) (sym c.arm-item.is) good.1 in
     let deep : levels_of (store_of c.loop-arm.engine) ≡ 2 * bit_count c.args.layout.now.types = c.loop-arm.invariant.keeps.grows.levels ∙ c.requires.levels in
     search rules
 
-pub build_arms-build-requires-in-loop-arm : goal.build_arms-build-requires-in-loop-arm
-build_arms-build-requires-in-loop-arm g t c =
+pub build_arms-returns-in_err-left-clause-keeps : goal.build_arms-returns-in_err-left-clause-keeps
+build_arms-returns-in_err-left-clause-keeps g t c = keeps_join c.loop-arm.invariant.keeps c.build_arm.ensures.keeps
+
+pub build_arms-returns-in_err-left-clause-spends : goal.build_arms-returns-in_err-left-clause-spends
+build_arms-returns-in_err-left-clause-spends g t c =
+    let arms = c.args.arms.now in
+    let n = c.loop-arm.arm-index in
     let a : Arm = c.arm-item.result in
-    let w = arm_nodes_at c.args.arms.now c.loop-arm.arm-index a c.loop-arm-test.true in
-    let u = ap (λ (x : Arm). node_count (term_of x.right)) c.arm-item.is in
-    let smaller : 2 * node_count (term_of a.right) < 2 * arm_nodes (arms_in c.args.arms.now) + 1 = omega (arith, w, u) in
-    let good : IsEvaluable c.args.model.now (term_of a.right) = subst (λ (x : Arm). IsEvaluable c.args.model.now (term_of x.right)) (sym c.arm-item.is) (arm_evaluable_at c.args.model.now c.args.arms.now c.loop-arm.arm-index a c.loop-arm-test.true c.requires.evaluable).1 in
-    let deep : levels_of (store_of c.tested.new.engine) ≡ 2 * bit_count c.args.layout.now.types = c.tested.ensures.keeps.grows.levels ∙ c.build.ensures.keeps.grows.levels ∙ c.loop-arm.invariant.keeps.grows.levels ∙ c.requires.levels in
+    let i = c.loop-arm.invariant in
+    list_spends c.args.engine.now.store c.build_arm.new.engine.store (arm_nodes (arms_in arms)) (1 + arm_nodes (arms_in arms)) refl
+    (arm_joined c.args.engine.now.store c.loop-arm.engine.store c.build_arm.new.engine.store i.keeps.grows (nodes_of_arms (take n arms)) (node_count (term_of a.guard) + node_count (term_of a.right)) (arm_nodes (arms_in arms))
+    (arms_more_le arms n a c.loop-arm-test.true c.arm-item.is) i.spends c.build_arm.ensures.spends)
+
+-- ---- one arm
+
+pub build_arm-build-requires : goal.build_arm-build-requires
+build_arm-build-requires g t c =
+    let a : Arm = c.args.arm.now in
+    let smaller : 2 * node_count (term_of a.guard) < 2 * (node_count (term_of a.guard) + node_count (term_of a.right)) = omega (arith, node_count-some (term_of a.right)) in
     search rules
 
-pub build_arms-choose-requires-clause-guard : goal.build_arms-choose-requires-clause-guard
-build_arms-choose-requires-clause-guard g t c = AreCells-grows c.tested.new.engine.store c.build-in-loop-arm.new.engine.store c.build-in-loop-arm.ensures.keeps.grows _ c.in_ok-guard-2.ensures.cells
+pub build_arm-build-requires-2 : goal.build_arm-build-requires-2
+build_arm-build-requires-2 g t c =
+    let a : Arm = c.args.arm.now in
+    let smaller : 2 * node_count (term_of a.right) < 2 * (node_count (term_of a.guard) + node_count (term_of a.right)) = omega (arith, node_count-some (term_of a.guard)) in
+    let deep : levels_of (store_of c.build.new.engine) ≡ 2 * bit_count c.args.layout.now.types = c.build.ensures.keeps.grows.levels ∙ c.requires.levels in
+    search rules
 
-pub build_arms-choose-requires-clause-out : goal.build_arms-choose-requires-clause-out
-build_arms-choose-requires-clause-out g t c =
-    let s0 = c.loop-arm.engine.store in
-    let s1 = c.build.new.engine.store in
-    let s2 = c.tested.new.engine.store in
-    let s3 = c.build-in-loop-arm.new.engine.store in
-    AreCells-grows s0 s3 (Grows-then s0 s2 s3 (Grows-then s0 s1 s2 c.build.ensures.keeps.grows c.tested.ensures.keeps.grows) c.build-in-loop-arm.ensures.keeps.grows) c.loop-arm.cells.items c.loop-arm.invariant.cells
+pub build_arm-add_arm-requires-clause-guard : goal.build_arm-add_arm-requires-clause-guard
+build_arm-add_arm-requires-clause-guard g t c = AreCells-grows c.build.new.engine.store c.build-2.new.engine.store c.build-2.ensures.keeps.grows _ c.in_ok-guard.ensures.table.regions
 
-pub build_arms-returns-in_err-guard-2-clause-keeps : goal.build_arms-returns-in_err-guard-2-clause-keeps
-build_arms-returns-in_err-guard-2-clause-keeps g t c = keeps_join (keeps_join c.loop-arm.invariant.keeps c.build.ensures.keeps) c.tested.ensures.keeps
+pub build_arm-add_arm-requires-clause-right : goal.build_arm-add_arm-requires-clause-right
+build_arm-add_arm-requires-clause-right g t c = subst (AreCells c.build-2.new.engine.store) (sym c.deref.ensures.value) c.in_ok-right.ensures.table.regions
 
-pub build_arms-returns-in_err-right-clause-keeps : goal.build_arms-returns-in_err-right-clause-keeps
-build_arms-returns-in_err-right-clause-keeps g t c = keeps_join (keeps_join (keeps_join c.loop-arm.invariant.keeps c.build.ensures.keeps) c.tested.ensures.keeps) c.build-in-loop-arm.ensures.keeps
+pub build_arm-add_arm-requires-clause-left : goal.build_arm-add_arm-requires-clause-left
+build_arm-add_arm-requires-clause-left g t c =
+    let k = keeps_join c.build.ensures.keeps c.build-2.ensures.keeps in
+    k.grows.has c.args.left c.requires.left
 
-pub build_arms-returns-in_err-left-clause-keeps : goal.build_arms-returns-in_err-left-clause-keeps
-build_arms-returns-in_err-left-clause-keeps g t c = keeps_join (keeps_join (keeps_join (keeps_join c.loop-arm.invariant.keeps c.build.ensures.keeps) c.tested.ensures.keeps) c.build-in-loop-arm.ensures.keeps) c.choose.ensures.keeps
+pub build_arm-add_arm-requires-clause-out : goal.build_arm-add_arm-requires-clause-out
+build_arm-add_arm-requires-clause-out g t c =
+    let k = keeps_join c.build.ensures.keeps c.build-2.ensures.keeps in
+    AreCells-grows c.args.engine.now.store c.build-2.new.engine.store k.grows c.args.out.now.items c.requires.out
+
+pub build_arm-returns-clause-shows : goal.build_arm-returns-clause-shows
+build_arm-returns-clause-shows g t c =
+    let lay = c.args.layout.now in
+    let m = c.args.model.now in
+    let a : Arm = c.args.arm.now in
+    let s = c.args.engine.now.store in
+    let p = c.build.new.engine.store in
+    let q = c.build-2.new.engine.store in
+    let s_q = Grows-then s p q c.build.ensures.keeps.grows c.build-2.ensures.keeps.grows in
+    let f : List Bool → Checked (List Value) = meaning_of lay m c.args.next (term_of a.guard) in
+    let d : List Bool → Checked (List Value) = meaning_of lay m c.args.next (term_of a.right) in
+    let table = IsTable-grows p q c.build-2.ensures.keeps.grows _ _ f c.in_ok-guard.ensures.table in
+    on_ok_weaker c.add_arm.result (λ shown bits k.
+    shown bits (f bits) (d bits) (operand q _ _ f table (λ xs. eval_proper m (term_of a.guard) _ _ c.requires.guard) bits)
+    (subst (λ xs. Reads (λ r. value_of q r bits) xs (d bits)) (sym c.deref.ensures.value) (c.in_ok-right.ensures.table.reads bits)) k
+    ∙ (λ j. any_cell-grows s q s_q c.args.out.now.items c.requires.out.has bits (same_reading k) j || (s_q.value c.args.left c.requires.left bits j && arm_shows (guard_of (f bits)) (d bits) k)))
+    c.add_arm.ensures.shows
+
+pub build_arm-returns-clause-rest : goal.build_arm-returns-clause-rest
+build_arm-returns-clause-rest g t c =
+    let lay = c.args.layout.now in
+    let m = c.args.model.now in
+    let a : Arm = c.args.arm.now in
+    let s = c.args.engine.now.store in
+    let p = c.build.new.engine.store in
+    let q = c.build-2.new.engine.store in
+    let s_q = Grows-then s p q c.build.ensures.keeps.grows c.build-2.ensures.keeps.grows in
+    let f : List Bool → Checked (List Value) = meaning_of lay m c.args.next (term_of a.guard) in
+    let table = IsTable-grows p q c.build-2.ensures.keeps.grows _ _ f c.in_ok-guard.ensures.table in
+    if_ok c.add_arm.result c.add_arm.ensures.rest (λ r h bits.
+    h bits (f bits) (operand q _ _ f table (λ xs. eval_proper m (term_of a.guard) _ _ c.requires.guard) bits)
+    ∙ (λ j. s_q.value c.args.left c.requires.left bits j && goes_on (guard_of (f bits))))
+
+pub build_arm-returns-in_err-right-clause-keeps : goal.build_arm-returns-in_err-right-clause-keeps
+build_arm-returns-in_err-right-clause-keeps g t c = keeps_join c.build.ensures.keeps c.build-2.ensures.keeps
+
+pub build_arm-returns-clause-keeps : goal.build_arm-returns-clause-keeps
+build_arm-returns-clause-keeps g t c = keeps_join (keeps_join c.build.ensures.keeps c.build-2.ensures.keeps) c.add_arm.ensures.keeps
+
+pub build_arm-returns-in_err-guard-clause-spends : goal.build_arm-returns-in_err-guard-clause-spends
+build_arm-returns-in_err-guard-clause-spends g t c =
+    let a : Arm = c.args.arm.now in
+    let p = c.build.new.engine.store in
+    arm_guard c.args.engine.now.store p p c.build.ensures.keeps.grows (Grows-same p) (node_count (term_of a.guard)) (node_count (term_of a.right)) (node_count-some (term_of a.guard)) (node_count-some (term_of a.right)) c.build.ensures.spends
+
+pub build_arm-returns-in_err-right-clause-spends : goal.build_arm-returns-in_err-right-clause-spends
+build_arm-returns-in_err-right-clause-spends g t c =
+    let a : Arm = c.args.arm.now in
+    arm_right c.args.engine.now.store c.build.new.engine.store c.build-2.new.engine.store c.build.ensures.keeps.grows c.build-2.ensures.keeps.grows (node_count (term_of a.guard)) (node_count (term_of a.right))
+    (node_count-some (term_of a.guard)) (node_count-some (term_of a.right)) c.build.ensures.spends c.build-2.ensures.spends
+
+pub build_arm-returns-clause-spends : goal.build_arm-returns-clause-spends
+build_arm-returns-clause-spends g t c =
+    let lay = c.args.layout.now in
+    let m = c.args.model.now in
+    let a : Arm = c.args.arm.now in
+    let p = c.build.new.engine.store in
+    let q = c.build-2.new.engine.store in
+    let f : List Bool → Checked (List Value) = meaning_of lay m c.args.next (term_of a.guard) in
+    let d : List Bool → Checked (List Value) = meaning_of lay m c.args.next (term_of a.right) in
+    arm_spends c.args.engine.now.store p q c.build.ensures.keeps.grows c.build-2.ensures.keeps.grows (node_count (term_of a.guard)) (node_count (term_of a.right))
+    (node_count-some (term_of a.guard)) (node_count-some (term_of a.right)) c.build.ensures.spends c.build-2.ensures.spends
+    c.add_arm.new.engine.store (length c.in_ok-guard.guard.cells.items) (length c.deref.result.now)
+    (table-few p c.in_ok-guard.guard.cells.items _ f (node_count (term_of a.guard)) c.in_ok-guard.ensures.table (λ bits. eval_amount m (term_of a.guard) (state_shown lay c.args.next bits) (state_shown lay true bits)))
+    (subst (λ (xs : List Cell). length xs ≤ node_count (term_of a.right) * 2 ^ levels_of q) (sym c.deref.ensures.value) (table-few q c.in_ok-right.right.cells.items _ d (node_count (term_of a.right)) c.in_ok-right.ensures.table (λ bits. eval_amount m (term_of a.right) (state_shown lay c.args.next bits) (state_shown lay true bits))))
+    c.add_arm.ensures.spends
 
 pub build_arms-returns-clause-table : goal.build_arms-returns-clause-table
 build_arms-returns-clause-table g t c =
@@ -395,70 +460,6 @@ build_elements-returns-in_err-cells-clause-spends g t c =
     (subst (λ (xs : List Cell). length xs ≤ nodes_of (take n es) * 2 ^ levels_of s) (sym c.deref.ensures.value) (reads-few s c.loop-element.cells.items (nodes_of (take n es)) i.cells (λ bits. let r = i.so_far bits in (r.0, r.1, r.3))))
     (subst (λ (xs : List Cell). length xs ≤ node_count (term_of e) * 2 ^ levels_of b) (sym c.deref-in-loop-element.ensures.value) (table-few b c.in_ok-table.table.cells.items _ f (node_count (term_of e)) c.in_ok-table.ensures.table (λ bits. eval_amount m (term_of e) (state_shown lay c.args.next bits) (state_shown lay true bits))))
 
-pub build_arms-returns-in_err-guard-clause-spends : goal.build_arms-returns-in_err-guard-clause-spends
-build_arms-returns-in_err-guard-clause-spends g t c =
-    let arms = c.args.arms.now in
-    let n = c.loop-arm.arm-index in
-    let a : Arm = c.arm-item.result in
-    let i = c.loop-arm.invariant in
-    list_spends c.args.engine.now.store c.build.new.engine.store (arm_nodes (arms_in arms)) (1 + arm_nodes (arms_in arms)) refl
-    (arm_guard c.args.engine.now.store c.loop-arm.engine.store c.build.new.engine.store i.keeps.grows c.build.ensures.keeps.grows (nodes_of_arms (take n arms)) (node_count (term_of a.guard)) (node_count (term_of a.right)) (arm_nodes (arms_in arms)) 0
-    (node_count-some (term_of a.guard)) (node_count-some (term_of a.right)) (arms_more_le arms n a c.loop-arm-test.true c.arm-item.is) i.spends c.build.ensures.spends)
-
-pub build_arms-returns-in_err-guard-2-clause-spends : goal.build_arms-returns-in_err-guard-2-clause-spends
-build_arms-returns-in_err-guard-2-clause-spends g t c =
-    let lay = c.args.layout.now in
-    let m = c.args.model.now in
-    let arms = c.args.arms.now in
-    let n = c.loop-arm.arm-index in
-    let a : Arm = c.arm-item.result in
-    let i = c.loop-arm.invariant in
-    let s1 = c.build.new.engine.store in
-    let f : List Bool → Checked (List Value) = meaning_of lay m c.args.next (term_of a.guard) in
-    list_spends c.args.engine.now.store c.tested.new.engine.store (arm_nodes (arms_in arms)) (1 + arm_nodes (arms_in arms)) refl
-    (arm_tested c.args.engine.now.store c.loop-arm.engine.store s1 i.keeps.grows c.build.ensures.keeps.grows (nodes_of_arms (take n arms)) (node_count (term_of a.guard)) (node_count (term_of a.right)) (arm_nodes (arms_in arms)) (length c.in_ok-guard.guard.cells.items)
-    (node_count-some (term_of a.guard)) (node_count-some (term_of a.right)) (arms_more_le arms n a c.loop-arm-test.true c.arm-item.is) i.spends c.build.ensures.spends
-    c.tested.new.engine.store c.tested.ensures.keeps.grows (table-few s1 c.in_ok-guard.guard.cells.items _ f (node_count (term_of a.guard)) c.in_ok-guard.ensures.table (λ bits. eval_amount m (term_of a.guard) (state_shown lay c.args.next bits) (state_shown lay true bits))) c.tested.ensures.spends)
-
-pub build_arms-returns-in_err-right-clause-spends : goal.build_arms-returns-in_err-right-clause-spends
-build_arms-returns-in_err-right-clause-spends g t c =
-    let lay = c.args.layout.now in
-    let m = c.args.model.now in
-    let arms = c.args.arms.now in
-    let n = c.loop-arm.arm-index in
-    let a : Arm = c.arm-item.result in
-    let i = c.loop-arm.invariant in
-    let s1 = c.build.new.engine.store in
-    let s3 = c.build-in-loop-arm.new.engine.store in
-    let f : List Bool → Checked (List Value) = meaning_of lay m c.args.next (term_of a.guard) in
-    list_spends c.args.engine.now.store s3 (arm_nodes (arms_in arms)) (1 + arm_nodes (arms_in arms)) refl
-    (arm_right c.args.engine.now.store c.loop-arm.engine.store s1 i.keeps.grows c.build.ensures.keeps.grows (nodes_of_arms (take n arms)) (node_count (term_of a.guard)) (node_count (term_of a.right)) (arm_nodes (arms_in arms)) (length c.in_ok-guard.guard.cells.items)
-    (node_count-some (term_of a.guard)) (node_count-some (term_of a.right)) (arms_more_le arms n a c.loop-arm-test.true c.arm-item.is) i.spends c.build.ensures.spends
-    c.tested.new.engine.store c.tested.ensures.keeps.grows (table-few s1 c.in_ok-guard.guard.cells.items _ f (node_count (term_of a.guard)) c.in_ok-guard.ensures.table (λ bits. eval_amount m (term_of a.guard) (state_shown lay c.args.next bits) (state_shown lay true bits))) c.tested.ensures.spends
-    s3 c.build-in-loop-arm.ensures.keeps.grows c.build-in-loop-arm.ensures.spends)
-
-pub build_arms-returns-in_err-left-clause-spends : goal.build_arms-returns-in_err-left-clause-spends
-build_arms-returns-in_err-left-clause-spends g t c =
-    let lay = c.args.layout.now in
-    let m = c.args.model.now in
-    let arms = c.args.arms.now in
-    let n = c.loop-arm.arm-index in
-    let a : Arm = c.arm-item.result in
-    let i = c.loop-arm.invariant in
-    let s1 = c.build.new.engine.store in
-    let s3 = c.build-in-loop-arm.new.engine.store in
-    let f : List Bool → Checked (List Value) = meaning_of lay m c.args.next (term_of a.guard) in
-    let d : List Bool → Checked (List Value) = meaning_of lay m c.args.next (term_of a.right) in
-    list_spends c.args.engine.now.store c.choose.new.engine.store (arm_nodes (arms_in arms)) (1 + arm_nodes (arms_in arms)) refl
-    (arm_spends c.args.engine.now.store c.loop-arm.engine.store s1 i.keeps.grows c.build.ensures.keeps.grows (nodes_of_arms (take n arms)) (node_count (term_of a.guard)) (node_count (term_of a.right)) (arm_nodes (arms_in arms)) (length c.in_ok-guard.guard.cells.items)
-    (node_count-some (term_of a.guard)) (node_count-some (term_of a.right)) (arms_more_le arms n a c.loop-arm-test.true c.arm-item.is) i.spends c.build.ensures.spends
-    c.tested.new.engine.store c.tested.ensures.keeps.grows (table-few s1 c.in_ok-guard.guard.cells.items _ f (node_count (term_of a.guard)) c.in_ok-guard.ensures.table (λ bits. eval_amount m (term_of a.guard) (state_shown lay c.args.next bits) (state_shown lay true bits))) c.tested.ensures.spends
-    s3 c.build-in-loop-arm.ensures.keeps.grows c.build-in-loop-arm.ensures.spends
-    c.choose.new.engine.store (length c.in_ok-guard-2.guard.items) (length c.deref.result.now)
-    c.in_ok-guard-2.ensures.few
-    (subst (λ (xs : List Cell). length xs ≤ node_count (term_of a.right) * 2 ^ levels_of s3) (sym c.deref.ensures.value) (table-few s3 c.in_ok-right.right.cells.items _ d (node_count (term_of a.right)) c.in_ok-right.ensures.table (λ bits. eval_amount m (term_of a.right) (state_shown lay c.args.next bits) (state_shown lay true bits))))
-    c.choose.ensures.spends)
-
 pub build_arms-returns-in_err-add-clause-spends : goal.build_arms-returns-in_err-add-clause-spends
 build_arms-returns-in_err-add-clause-spends g t c =
     arms_spend c.args.engine.now.store c.loop-arm.engine.store c.add.new.engine.store c.loop-arm.invariant.keeps.grows (nodes_of_arms (take c.loop-arm.arm-index c.args.arms.now)) (arm_nodes (arms_in c.args.arms.now))
@@ -478,17 +479,9 @@ build_elements-united-requires-clause-left g t c =
     let b = c.build.new.engine.store in
     subst (AreCells b) (sym c.deref.ensures.value) (AreCells-grows c.loop-element.engine.store b c.build.ensures.keeps.grows c.loop-element.cells.items c.loop-element.invariant.cells)
 
-pub build_arms-returns-in_err-guard-clause-keeps : goal.build_arms-returns-in_err-guard-clause-keeps
-build_arms-returns-in_err-guard-clause-keeps g t c = keeps_join c.loop-arm.invariant.keeps c.build.ensures.keeps
-
-pub build_arms-returns-in_err-right-clause-held : goal.build_arms-returns-in_err-right-clause-held
-build_arms-returns-in_err-right-clause-held g t c =
-    let p = err_from_is_err_and c.from_residual-in_err-right.result c.from_residual-in_err-right.ensures.1 in
-    rw (p.1, p.2) c.in_err-right.ensures.held
-
 pub build_arms-returns-in_err-left-clause-held : goal.build_arms-returns-in_err-left-clause-held
 build_arms-returns-in_err-left-clause-held g t c =
-    let p = err_from_is_err_and c.from_residual-in_err-left.result c.from_residual-in_err-left.ensures.1 in
+    let p = err_from_is_err_and c.from_residual.result c.from_residual.ensures.1 in
     rw (p.1, p.2) c.in_err-left.ensures.held
 
 pub build_arms-returns-in_err-add-clause-keeps : goal.build_arms-returns-in_err-add-clause-keeps

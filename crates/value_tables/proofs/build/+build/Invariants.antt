@@ -18,6 +18,9 @@ decreases-build g l = 2 * node_count (term_of l.expr.now)
 abbrev pub decreases-build_elements : goal.decreases-build_elements
 decreases-build_elements g l = 2 * element_nodes (terms_in l.elements.now) + 1
 
+abbrev pub decreases-build_arm : goal.decreases-build_arm
+decreases-build_arm g l = 2 * (node_count (term_of l.arm.now.guard) + node_count (term_of l.arm.now.right))
+
 abbrev pub decreases-build_arms : goal.decreases-build_arms
 decreases-build_arms g l = 2 * arm_nodes (arms_in l.arms.now) + 1
 

@@ -64,3 +64,9 @@ returns-clause-spends g c =
     let first = c.faults_of.ensures.keeps.grows.levels in
     Spends-then s m c.decided.new.engine.store (3 * length c.deref.result.now + 3 * length c.deref-2.result.now + 4) 6 _ (c.connected.ensures.keeps.grows.levels ∙ first) (omega (arith, l, r))
     (Spends-then s c.faults_of.new.engine.store m (3 * length c.deref.result.now + 3 * length c.deref-2.result.now + 2) 2 _ first (omega arith) c.faults_of.ensures.spends c.connected.ensures.spends) c.decided.ensures.spends
+
+pub decided-requires-clause-region : goal.decided-requires-clause-region
+decided-requires-clause-region g c = c.connected.ensures.keeps.grows.has _ c.in_ok-faults.ensures.region
+
+pub returns-in_err-hit-clause-keeps : goal.returns-in_err-hit-clause-keeps
+returns-in_err-hit-clause-keeps g c = keeps_join c.faults_of.ensures.keeps c.connected.ensures.keeps

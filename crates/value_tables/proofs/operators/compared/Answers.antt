@@ -57,3 +57,9 @@ returns-clause-spends g c =
     let first = c.faults_of.ensures.keeps.grows.levels in
     Spends-then s m c.decided.new.engine.store (5 * length c.args.left.now + 3 * length c.deref.result.now + 2) 6 _ (c.matched.ensures.keeps.grows.levels ∙ first) (omega (arith, r))
     (Spends-then s c.faults_of.new.engine.store m (3 * length c.args.left.now + 3 * length c.deref.result.now + 2) (2 * length c.args.left.now) _ first (omega arith) c.faults_of.ensures.spends c.matched.ensures.spends) c.decided.ensures.spends
+
+pub decided-requires-clause-region : goal.decided-requires-clause-region
+decided-requires-clause-region g c = c.matched.ensures.keeps.grows.has _ c.in_ok-faults.ensures.region
+
+pub returns-in_err-hit-clause-keeps : goal.returns-in_err-hit-clause-keeps
+returns-in_err-hit-clause-keeps g c = keeps_join c.faults_of.ensures.keeps c.matched.ensures.keeps

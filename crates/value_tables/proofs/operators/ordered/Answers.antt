@@ -2,6 +2,7 @@ use Rattle.std.proofs.Common.{◌+◌, ◌*◌, length, ◌∙◌, arith}
 use Rattle.bdd_nodes.specs.Store.{value_of}
 use Rattle.value_tables.specs.Cells.{same_reading}
 use Rattle.value_tables.specs.Orders.{numbers}
+use Rattle.value_tables.proofs.WeightLemmas.{Spends-more}
 use Rattle.value_tables.proofs.RegionLemmas.{any_cell-grows, has-grows, AreCells-grows, keeps_join, Spends-then}
 use Rattle.value_tables.proofs.StepLemmas.{if_ok}
 use Rattle.value_tables.proofs.OrderLemmas.{ordered_shows, in_order-grows}
@@ -42,3 +43,21 @@ returns-clause-spends g c =
     let first = c.faults_of.ensures.keeps.grows.levels in
     Spends-then s m c.decided.new.engine.store (5 * l + 5 * r + 2) 6 _ (c.related.ensures.keeps.grows.levels ∙ first) (omega arith)
     (Spends-then s c.faults_of.new.engine.store m (3 * l + 3 * r + 2) (2 * l + 2 * r) _ first (omega arith) c.faults_of.ensures.spends c.related.ensures.spends) c.decided.ensures.spends
+
+pub decided-requires-clause-region : goal.decided-requires-clause-region
+decided-requires-clause-region g c = c.related.ensures.keeps.grows.has _ c.in_ok-faults.ensures.region
+
+pub returns-in_err-hit-clause-keeps : goal.returns-in_err-hit-clause-keeps
+returns-in_err-hit-clause-keeps g c = keeps_join c.faults_of.ensures.keeps c.related.ensures.keeps
+
+pub returns-in_err-faults-clause-spends : goal.returns-in_err-faults-clause-spends
+returns-in_err-faults-clause-spends g c =
+    let l = length c.args.left.now in
+    let r = length c.args.right.now in
+    Spends-more c.args.engine.now.store c.faults_of.new.engine.store (3 * l + 3 * r + 2) (5 * l + 5 * r + 8) (omega arith) c.faults_of.ensures.spends
+
+pub returns-in_err-hit-clause-spends : goal.returns-in_err-hit-clause-spends
+returns-in_err-hit-clause-spends g c =
+    let l = length c.args.left.now in
+    let r = length c.args.right.now in
+    Spends-then c.args.engine.now.store c.faults_of.new.engine.store c.related.new.engine.store (3 * l + 3 * r + 2) (2 * l + 2 * r) (5 * l + 5 * r + 8) c.faults_of.ensures.keeps.grows.levels (omega arith) c.faults_of.ensures.spends c.related.ensures.spends

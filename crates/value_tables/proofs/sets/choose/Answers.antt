@@ -4,6 +4,7 @@ use Rattle.bdd_nodes.proofs.Tables.{Grows-then, value_of-false}
 use Rattle.value_tables.specs.declared.pick.Pick.{Pick}
 use Rattle.value_tables.specs.Cells.{same_reading, shows, any_cell, region_at}
 use Rattle.value_tables.specs.Pick.{becomes}
+use Rattle.value_tables.proofs.WeightLemmas.{Spends-more}
 use Rattle.value_tables.proofs.ReadingLists.{reads-any}
 use Rattle.value_tables.proofs.RegionLemmas.{any_cell-grows, has-grows, AreCells-grows, has_region_at, region_at-grows, keeps_join, Spends-then}
 use Rattle.value_tables.proofs.OperatorLemmas.{arm_each, arm_rest}
@@ -94,3 +95,16 @@ returns-clause-spends g c =
     Spends-then s q c.meet-2.new.engine.store (2 * length c.deref.result.now + 2 * length c.args.right.now + 1) 1 _ (c.spread-2.ensures.keeps.grows.levels ∙ second) (omega (arith, few))
     (Spends-then s m q (2 * length c.deref.result.now + 1) (2 * length c.args.right.now) _ second (omega arith)
     (Spends-then s p m (2 * length c.deref.result.now) 1 _ first (omega arith) c.spread.ensures.spends c.meet.ensures.spends) c.spread-2.ensures.spends) c.meet-2.ensures.spends
+
+pub returns-in_err-yes-clause-keeps : goal.returns-in_err-yes-clause-keeps
+returns-in_err-yes-clause-keeps g c = keeps_join c.spread.ensures.keeps c.meet.ensures.keeps
+
+pub returns-in_err-spread-clause-spends : goal.returns-in_err-spread-clause-spends
+returns-in_err-spread-clause-spends g c =
+    let few = ap length c.deref.ensures.value in
+    Spends-more c.args.engine.now.store c.spread.new.engine.store (2 * length c.deref.result.now) _ (omega (arith, few)) c.spread.ensures.spends
+
+pub returns-in_err-yes-clause-spends : goal.returns-in_err-yes-clause-spends
+returns-in_err-yes-clause-spends g c =
+    let few = ap length c.deref.ensures.value in
+    Spends-then c.args.engine.now.store c.spread.new.engine.store c.meet.new.engine.store (2 * length c.deref.result.now) 1 _ c.spread.ensures.keeps.grows.levels (omega (arith, few)) c.spread.ensures.spends c.meet.ensures.spends

@@ -4,7 +4,8 @@ use Rattle.bdd_nodes.proofs.Tables.{value_of-true}
 use Rattle.value_tables.specs.declared.pick.Pick.{Pick}
 use Rattle.value_tables.specs.Cells.{shows, any_cell}
 use Rattle.value_tables.specs.Pick.{becomes}
-use Rattle.value_tables.proofs.RegionLemmas.{Spends-then}
+use Rattle.value_tables.proofs.WeightLemmas.{Spends-more}
+use Rattle.value_tables.proofs.RegionLemmas.{Spends-then, keeps_join}
 use Rattle.value_tables.proofs.OperatorLemmas.{negated_shows}
 use Rattle.value_tables.proofs.sets.negated.Goals as goal
 
@@ -28,3 +29,14 @@ returns-in_err-spread-clause-spends g c =
     let l = ap length c.deref.ensures.value in
     Spends-then c.args.engine.now.store c.tested.new.engine.store c.spread.new.engine.store (5 * length c.args.operand.now.cells.items + 2) (2 * length c.deref.result.now) _ c.tested.ensures.keeps.grows.levels
     (omega (arith, l, c.in_ok-boolean.ensures.few)) c.tested.ensures.spends c.spread.ensures.spends
+
+pub returns-in_err-boolean-clause-spends : goal.returns-in_err-boolean-clause-spends
+returns-in_err-boolean-clause-spends g c =
+    let n = length c.args.operand.now.cells.items in
+    Spends-more c.args.engine.now.store c.tested.new.engine.store (5 * n + 2) (7 * n + 4) (omega arith) c.tested.ensures.spends
+
+pub returns-in_err-spread-clause-keeps : goal.returns-in_err-spread-clause-keeps
+returns-in_err-spread-clause-keeps g c = keeps_join c.tested.ensures.keeps c.spread.ensures.keeps
+
+pub returns-clause-keeps : goal.returns-clause-keeps
+returns-clause-keeps g c = keeps_join c.tested.ensures.keeps c.spread.ensures.keeps

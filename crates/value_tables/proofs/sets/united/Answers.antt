@@ -1,10 +1,11 @@
-use Rattle.std.proofs.Common.{◌∙◌}
+use Rattle.std.proofs.Common.{◌∙◌, ◌+◌, ◌*◌, length, arith}
 use Rattle.bdd_nodes.specs.Store.{value_of}
 use Rattle.bdd_nodes.proofs.Tables.{Grows-then}
 use Rattle.value_tables.specs.declared.pick.Pick.{Pick}
 use Rattle.value_tables.specs.Cells.{same_reading}
 use Rattle.value_tables.specs.Pick.{becomes}
-use Rattle.value_tables.proofs.RegionLemmas.{any_cell-grows, has-grows, AreCells-grows, keeps_join}
+use Rattle.value_tables.proofs.WeightLemmas.{Spends-more}
+use Rattle.value_tables.proofs.RegionLemmas.{any_cell-grows, has-grows, AreCells-grows, keeps_join, Spends-then}
 use Rattle.value_tables.proofs.OperatorLemmas.{united_each}
 use Rattle.value_tables.proofs.sets.united.Goals as goal
 
@@ -56,3 +57,57 @@ returns-clause-reads g c =
           (c.in_ok-sound.ensures.region.value bits)
           (c.in_ok-faults.ensures.value bits r q x y);
     }
+
+pub returns-in_err-sound-clause-keeps : goal.returns-in_err-sound-clause-keeps
+returns-in_err-sound-clause-keeps g c = keeps_join c.faults_of.ensures.keeps c.outside.ensures.keeps
+
+pub returns-in_err-faults-clause-spends : goal.returns-in_err-faults-clause-spends
+returns-in_err-faults-clause-spends g c =
+    let l = length c.args.left.now in
+    let r = length c.args.right.now in
+    Spends-more c.args.engine.now.store c.faults_of.new.engine.store (3 * l + 3 * r + 2) (5 * l + 5 * r + 3) (omega arith) c.faults_of.ensures.spends
+
+pub returns-in_err-sound-clause-spends : goal.returns-in_err-sound-clause-spends
+returns-in_err-sound-clause-spends g c =
+    let l = length c.args.left.now in
+    let r = length c.args.right.now in
+    Spends-then c.args.engine.now.store c.faults_of.new.engine.store c.outside.new.engine.store (3 * l + 3 * r + 2) 1 (5 * l + 5 * r + 3) c.faults_of.ensures.keeps.grows.levels (omega arith) c.faults_of.ensures.spends c.outside.ensures.spends
+
+pub returns-in_err-spread-clause-spends : goal.returns-in_err-spread-clause-spends
+returns-in_err-spread-clause-spends g c =
+    let s = c.args.engine.now.store in
+    let f = c.faults_of.new.engine.store in
+    let o = c.outside.new.engine.store in
+    let l = length c.args.left.now in
+    let r = length c.args.right.now in
+    let first = c.faults_of.ensures.keeps.grows.levels in
+    Spends-then s o c.spread.new.engine.store (3 * l + 3 * r + 3) (2 * l) (5 * l + 5 * r + 3) (c.outside.ensures.keeps.grows.levels ∙ first) (omega arith)
+    (Spends-then s f o (3 * l + 3 * r + 2) 1 (3 * l + 3 * r + 3) first (omega arith) c.faults_of.ensures.spends c.outside.ensures.spends) c.spread.ensures.spends
+
+pub returns-in_err-spread-2-clause-spends : goal.returns-in_err-spread-2-clause-spends
+returns-in_err-spread-2-clause-spends g c =
+    let s = c.args.engine.now.store in
+    let f = c.faults_of.new.engine.store in
+    let o = c.outside.new.engine.store in
+    let p = c.spread.new.engine.store in
+    let l = length c.args.left.now in
+    let r = length c.args.right.now in
+    let first = c.faults_of.ensures.keeps.grows.levels in
+    let second = c.outside.ensures.keeps.grows.levels ∙ first in
+    Spends-then s p c.spread-2.new.engine.store (5 * l + 3 * r + 3) (2 * r) (5 * l + 5 * r + 3) (c.spread.ensures.keeps.grows.levels ∙ second) (omega arith)
+    (Spends-then s o p (3 * l + 3 * r + 3) (2 * l) (5 * l + 3 * r + 3) second (omega arith)
+    (Spends-then s f o (3 * l + 3 * r + 2) 1 (3 * l + 3 * r + 3) first (omega arith) c.faults_of.ensures.spends c.outside.ensures.spends) c.spread.ensures.spends) c.spread-2.ensures.spends
+
+pub returns-clause-spends : goal.returns-clause-spends
+returns-clause-spends g c =
+    let s = c.args.engine.now.store in
+    let f = c.faults_of.new.engine.store in
+    let o = c.outside.new.engine.store in
+    let p = c.spread.new.engine.store in
+    let l = length c.args.left.now in
+    let r = length c.args.right.now in
+    let first = c.faults_of.ensures.keeps.grows.levels in
+    let second = c.outside.ensures.keeps.grows.levels ∙ first in
+    Spends-then s p c.spread-2.new.engine.store (5 * l + 3 * r + 3) (2 * r) (5 * l + 5 * r + 3) (c.spread.ensures.keeps.grows.levels ∙ second) (omega arith)
+    (Spends-then s o p (3 * l + 3 * r + 3) (2 * l) (5 * l + 3 * r + 3) second (omega arith)
+    (Spends-then s f o (3 * l + 3 * r + 2) 1 (3 * l + 3 * r + 3) first (omega arith) c.faults_of.ensures.spends c.outside.ensures.spends) c.spread.ensures.spends) c.spread-2.ensures.spends

@@ -1,4 +1,4 @@
-use Rattle.std.proofs.Common.{◌≡◌, ◌&&◌, ◌||◌, Bool, not, true, false, Ok, pos, sym, ap, ◌∙◌, rules}
+use Rattle.std.proofs.Common.{◌≡◌, ◌&&◌, ◌||◌, Bool, not, true, false, Ok, pos, sym, ap, ◌∙◌, rules, arith}
 use Rattle.bdd_nodes.specs.Store.{value_of}
 use Rattle.kripke_model.specs.declared.expressions.Value.TheVariants.{Number}
 use Rattle.kripke_model.specs.System.{value_in}
@@ -6,7 +6,8 @@ use Rattle.kripke_model.specs.Evaluation.{same, truth, runs}
 use Rattle.value_tables.specs.Cells.{shows, any_of, same_reading}
 use Rattle.value_tables.specs.Pick.{truth_of}
 use Rattle.value_tables.specs.States.{state_shown}
-use Rattle.value_tables.proofs.RegionLemmas.{keeps_join, keeps_quiet}
+use Rattle.value_tables.proofs.WeightLemmas.{Spends-more}
+use Rattle.value_tables.proofs.RegionLemmas.{keeps_join, keeps_quiet, Spends-then}
 use Rattle.value_tables.proofs.BinaryLemmas.{one_truth}
 use Rattle.value_tables.proofs.SelectorLemmas.{two_truths}
 use Rattle.value_tables.proofs.variables.running.Goals as goal
@@ -46,3 +47,42 @@ returns-clause-table g c =
           };
       at_most_one = λ e bits. one_truth (runs c.args.model.now (state_shown lay c.args.next bits) c.args.p);
     }
+
+pub returns-in_err-elsewhere-clause-keeps : goal.returns-in_err-elsewhere-clause-keeps
+returns-in_err-elsewhere-clause-keeps g c = keeps_join (keeps_quiet c.args.steps.now c.selected.ensures.keeps) c.outside.ensures.keeps
+
+pub returns-in_err-here-clause-spends : goal.returns-in_err-here-clause-spends
+returns-in_err-here-clause-spends g c = Spends-more c.args.engine.now.store c.selected.new.engine.store 1 4 (omega arith) c.selected.ensures.spends
+
+pub returns-in_err-elsewhere-clause-spends : goal.returns-in_err-elsewhere-clause-spends
+returns-in_err-elsewhere-clause-spends g c = Spends-then c.args.engine.now.store c.selected.new.engine.store c.outside.new.engine.store 1 1 4 c.selected.ensures.keeps.grows.levels (omega arith) c.selected.ensures.spends c.outside.ensures.spends
+
+pub returns-in_err-add-clause-spends : goal.returns-in_err-add-clause-spends
+returns-in_err-add-clause-spends g c =
+    let s = c.args.engine.now.store in
+    let a = c.selected.new.engine.store in
+    let b = c.outside.new.engine.store in
+    let first = c.selected.ensures.keeps.grows.levels in
+    Spends-then s b c.add.new.engine.store 2 1 4 (c.outside.ensures.keeps.grows.levels ∙ first) (omega arith) (Spends-then s a b 1 1 2 first (omega arith) c.selected.ensures.spends c.outside.ensures.spends) c.add.ensures.spends
+
+pub returns-in_err-add-2-clause-spends : goal.returns-in_err-add-2-clause-spends
+returns-in_err-add-2-clause-spends g c =
+    let s = c.args.engine.now.store in
+    let a = c.selected.new.engine.store in
+    let b = c.outside.new.engine.store in
+    let d = c.add.new.engine.store in
+    let first = c.selected.ensures.keeps.grows.levels in
+    let second = c.outside.ensures.keeps.grows.levels ∙ first in
+    Spends-then s d c.add-2.new.engine.store 3 1 4 (c.add.ensures.keeps.grows.levels ∙ second) (omega arith)
+    (Spends-then s b d 2 1 3 second (omega arith) (Spends-then s a b 1 1 2 first (omega arith) c.selected.ensures.spends c.outside.ensures.spends) c.add.ensures.spends) c.add-2.ensures.spends
+
+pub returns-clause-spends : goal.returns-clause-spends
+returns-clause-spends g c =
+    let s = c.args.engine.now.store in
+    let a = c.selected.new.engine.store in
+    let b = c.outside.new.engine.store in
+    let d = c.add.new.engine.store in
+    let first = c.selected.ensures.keeps.grows.levels in
+    let second = c.outside.ensures.keeps.grows.levels ∙ first in
+    Spends-then s d c.add-2.new.engine.store 3 1 4 (c.add.ensures.keeps.grows.levels ∙ second) (omega arith)
+    (Spends-then s b d 2 1 3 second (omega arith) (Spends-then s a b 1 1 2 first (omega arith) c.selected.ensures.spends c.outside.ensures.spends) c.add.ensures.spends) c.add-2.ensures.spends
