@@ -2,7 +2,7 @@
 -- `z := x; next(y) := {y, 2};`, `INIT y = 0` and `TRANS x -> !next(x)`.
 use Rattle.std.proofs.Common.{◌≡◌, ℕ, zero, suc, false, List, [], ◌∷◌, refl, sym, ap, arith, lit<}
 use Rattle.std.specs.Prelude.{Contains, IsTrue, Ok}
-use Rattle.std.proofs.lemmas.List.Elements.{All-from_recursion}
+use Rattle.std.proofs.lemmas.List.Elements.{All-nil, All-from_recursion}
 use Rattle.kripke_model.specs.declared.expressions.Value.{Value}
 use Rattle.kripke_model.specs.declared.expressions.BinOp.{BinOp}
 use Rattle.kripke_model.specs.declared.models.Part.{Part}
@@ -58,6 +58,7 @@ initially x =
       assigned = All-from_recursion P sections.assigns (λ e. absurd cc, (λ e. absurd cc, tt));
       constrained = All-from_recursion (λ c. Holds sections c.expr s s) sections.inits (refl, tt);
       current = current s refl;
+      invariant = All-nil (λ c. Holds sections c.expr s s);
     }
 
 unlike : (let c : Checked (List Value) = Ok (num 0 ∷ []) in c ≡ Ok (num 1 ∷ [])) → ⊥

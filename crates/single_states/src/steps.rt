@@ -6,7 +6,7 @@ ghost use Rattle.kripke_model.specs.declared.models.Part.{Part};
 ghost use Rattle.kripke_model.specs.Evaluable.{IsEvaluable};
 ghost use Rattle.kripke_model.specs.Evaluation.{Holds, runs};
 ghost use Rattle.kripke_model.specs.Reading.{term_of};
-ghost use Rattle.kripke_model.specs.Step.{IsValueOf, IsCurrent, Assigned, IsDriven, HasNext, Initial, Step};
+ghost use Rattle.kripke_model.specs.Step.{IsValueOf, IsCurrent, IsInvariant, Assigned, IsDriven, HasNext, Initial, Step};
 ghost use Rattle.kripke_model.specs.Path.{IsPath};
 ghost use Rattle.kripke_model.specs.Truth.{IsFair};
 ghost use Rattle.kripke_model.specs.System.{value_in};
@@ -102,13 +102,21 @@ fn all_met(model: &Ruled, part: Part, s: &State) -> bool
     true
 }
 
-/// Whether s meets the initial and current-value assignments and each `INIT`.
+/// Whether each `INVAR` holds at s.
+fn is_invariant(model: &Ruled, s: &State) -> bool
+    ensures { IsTrue result ↔ IsInvariant model.now s.now }
+{
+    all_hold(model, model.invars(), s, s)
+}
+
+/// Whether s meets the initial and current-value assignments, each `INIT` and each `INVAR`.
 pub fn is_initial(model: &Ruled, s: &State) -> bool
     ensures { IsTrue result ↔ Initial model.now s.now }
 {
     all_met(model, Part::Init, s)
         && all_hold(model, model.inits(), s, s)
         && all_met(model, Part::Now, s)
+        && is_invariant(model, s)
 }
 
 fn next_met(model: &Ruled, a: &Assign, s: &State, t: &State) -> bool
@@ -170,7 +178,8 @@ fn all_kept(model: &Ruled, s: &State, t: &State) -> bool
 }
 
 /// Whether the process selected in s can step to t: each of its next-value assignments gives t one of its values, each
-/// other variable with a next value keeps it, each `TRANS` holds, and the current-value assignments hold in both states.
+/// other variable with a next value keeps it, each `TRANS` holds, and the current-value assignments and each `INVAR`
+/// hold in both states.
 pub fn is_step(model: &Ruled, s: &State, t: &State) -> bool
     ensures { IsTrue result ↔ Step model.now s.now t.now }
 {
@@ -179,6 +188,8 @@ pub fn is_step(model: &Ruled, s: &State, t: &State) -> bool
         && all_hold(model, model.trans(), s, t)
         && all_met(model, Part::Now, s)
         && all_met(model, Part::Now, t)
+        && is_invariant(model, s)
+        && is_invariant(model, t)
 }
 
 /// Whether each member is a state of the model and steps to the one that comes next.
