@@ -131,6 +131,7 @@ assigned a = record {
 -- a specification's line is that of its word, any other section's that of its expression
 abbrev pub stated : Condition → ℕ → tree.Tree → Stated
 stated Condition.Init line e = record { kind = Kind.Init; expr = expr e; line = line_of e }
+stated Condition.Invar line e = record { kind = Kind.Invar; expr = expr e; line = line_of e }
 stated Condition.Trans line e = record { kind = Kind.Trans; expr = expr e; line = line_of e }
 stated Condition.Spec line e = record { kind = Kind.Spec; expr = expr e; line = line }
 stated Condition.Fairness line e = record { kind = Kind.Fairness; expr = expr e; line = line_of e }

@@ -1,12 +1,12 @@
 -- What a program is refused for up to its declarations and constants.
-use Rattle.std.specs.Prelude.{◌≡◌, ℕ, ◌+◌, ◌-◌, ◌*◌, ◌<◌, Bool, true, false, ◌&&◌, ◌||◌, not, ltb, List, [], ◌∷◌, ◌++◌, flat_map, length, Some, None, IsTrue, Any, sum_by, is_some, Contains, ◌⊎◌, ◌≢◌}
+use Rattle.std.specs.Prelude.{◌≡◌, ℕ, ◌+◌, ◌-◌, ◌*◌, ◌<◌, Bool, true, false, ◌&&◌, ◌||◌, not, ltb, int_lt, List, [], ◌∷◌, ◌++◌, flat_map, length, Some, None, IsTrue, Any, sum_by, is_some, Contains, ◌⊎◌, ◌≢◌}
 use Rattle.std.specs.List.{list_any}
 use Rattle.kripke_model.specs.Refusing.{Rule, refuse, ◌then◌, First, first_of}
 use Rattle.smv_instances.specs.declared.refusals.Which.{Which}
 use Rattle.smv_instances.specs.declared.refusals.FlatRefusal.{FlatRefusal}
 use Rattle.smv_instances.specs.Program.{Plain, Module, Program}
 use Rattle.smv_instances.specs.Entries.{Entity, Entry, entries, module_named}
-use Rattle.smv_instances.specs.Instances.{Scope, module_of, depth, modules_to, main_name, main_scope, instances, declares_process, atoms_in, type_values, is_symbol}
+use Rattle.smv_instances.specs.Instances.{Scope, module_of, depth, modules_to, main_name, main_scope, instances, declares_process, atoms_in, integer_count, type_values, is_symbol}
 
 abbrev pub Refusal : Type 1
 Refusal = Rule FlatRefusal
@@ -38,7 +38,7 @@ IsSecondMain (Scope.Inside around name process actuals m) e = ⊥
 abbrev pub is_reversed : Plain → Bool
 is_reversed Plain.Boolean = false
 is_reversed (Plain.Enumeration constants) = false
-is_reversed (Plain.Range low high) = ltb high low
+is_reversed (Plain.Range low high) = int_lt high low
 is_reversed (Plain.Array low high element) = ltb high low || is_reversed element
 
 abbrev pub variable_count : Plain → ℕ
@@ -81,7 +81,7 @@ above line which most count = refuse (FlatRefusal.Limit line which (most + 1)) (
 abbrev pub value_count : Plain → ℕ
 value_count Plain.Boolean = 2
 value_count (Plain.Enumeration constants) = length (type_values (atoms_in (Plain.Enumeration constants)) (Plain.Enumeration constants))
-value_count (Plain.Range low high) = high + 1 - low
+value_count (Plain.Range low high) = integer_count low high
 value_count (Plain.Array low high element) = value_count element
 
 abbrev pub declaration_rows : Program → List Entry → Scope → ℕ → Entity → Refusal

@@ -1,5 +1,6 @@
 -- The tree of instances, and the names of what stands in it.
-use Rattle.std.specs.Prelude.{ℕ, zero, suc, ◌+◌, ◌-◌, Bool, true, false, not, length, take, List, [], ◌∷◌, ◌++◌, map, flat_map, filter, filter_map, Option, Some, None, option_map, pos, decimal}
+use Rattle.std.specs.Prelude.{ℕ, zero, suc, ℤ, ◌+ℤ◌, ◌+◌, ◌-◌, Bool, true, false, not, length, take, List, [], ◌∷◌, ◌++◌, map, flat_map, filter, filter_map, Option, Some, None, option_map, pos, decimal}
+use Rattle.std.specs.Int.{int_gap}
 use Rattle.std.specs.List.{list_any, position_or_len, cons_option}
 use Rattle.std.specs.Str.{bytes_eq}
 use Rattle.kripke_model.specs.declared.expressions.Value.{Value}
@@ -152,6 +153,10 @@ rising low (suc n) = low ∷ rising (low + 1) n
 abbrev pub between : ℕ → ℕ → List ℕ
 between low high = rising low (high + 1 - low)
 
+-- how many integers there are from low to high
+abbrev pub integer_count : ℤ → ℤ → ℕ
+integer_count low high = int_gap low (high +ℤ pos 1)
+
 -- `x[i]`
 abbrev pub indexed : Name → ℕ → Name
 indexed x i = x ++ (91 ∷ decimal i) ++ (93 ∷ [])
@@ -176,7 +181,7 @@ value_of names (Constant.Truth b) = truth_value b
 abbrev pub type_values : List Name → Plain → List Value
 type_values names Plain.Boolean = Number (pos 0) ∷ Number (pos 1) ∷ []
 type_values names (Plain.Enumeration constants) = distinct (map (value_of names) constants)
-type_values names (Plain.Range low high) = map (λ n. Number (pos n)) (between low high)
+type_values names (Plain.Range low high) = map (λ k. Number (low +ℤ pos k)) (rising 0 (integer_count low high))
 type_values names (Plain.Array low high element) = type_values names element
 
 -- the flat variables of an entry, where inner gives those of an instance

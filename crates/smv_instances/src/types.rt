@@ -4,6 +4,7 @@ ghost use Rattle.std.specs.Prelude.{◌≡◌, ◌+◌, ◌-◌, ◌||◌, not, 
 ghost use Rattle.smv_instances.specs.Program.{Constant as Written, Plain as Stored};
 ghost use Rattle.smv_instances.specs.Constants.{holds, is_same};
 ghost use Rattle.smv_instances.specs.Plain.{plain_constant, plain_type};
+ghost use Rattle.smv_instances.specs.Instances as tree;
 ghost use Rattle.smv_instances.specs.Declarations as declared;
 
 use crate::names::Names;
@@ -22,8 +23,8 @@ pub fn is_reversed(plain: &Plain) -> bool
     }
 }
 
-// How many numbers stand from one to another.
-fn number_count(low: u32, high: u32) -> u64
+// How many indexes an array has.
+fn index_count(low: u32, high: u32) -> u64
     ensures { result ≡ high + 1 - low }
 {
     (u64::from(high) + 1).saturating_sub(u64::from(low))
@@ -36,9 +37,19 @@ pub fn variable_count(plain: &Plain) -> u64
     match &plain.kind {
         PlainKind::Boolean | PlainKind::Enumeration(_) | PlainKind::Range(_, _) => 1,
         PlainKind::Array(low, high, element) => {
-            number_count(*low, *high).saturating_mul(variable_count(element))
+            index_count(*low, *high).saturating_mul(variable_count(element))
         }
     }
+}
+
+/// How many integers there are from one to another.
+pub fn integer_count(low: i32, high: i32) -> u64
+    ensures { result ≡ tree.integer_count low high }
+{
+    if high < low {
+        return 0;
+    }
+    u64::from(high.abs_diff(low)) + 1
 }
 
 // The number of a truth value.
@@ -86,7 +97,7 @@ pub fn value_count(alloc: Global, plain: &Plain) -> Result<u64, AllocError>
     match &plain.kind {
         PlainKind::Boolean => Ok(2),
         PlainKind::Enumeration(constants) => constant_count(alloc, constants),
-        PlainKind::Range(low, high) => Ok(number_count(*low, *high)),
+        PlainKind::Range(low, high) => Ok(integer_count(*low, *high)),
         PlainKind::Array(_, _, element) => value_count(alloc, element),
     }
 }
