@@ -39,7 +39,7 @@ is_arithmetic (Term.Binary op a b) = is_sum_or_product op && is_arithmetic a && 
 is_arithmetic e = false
 
 abbrev pub no_system : System
-no_system = record { symbols = []; vars = []; selector = false; processes = []; assigns = []; inits = []; trans = []; constraints = []; specs = [] }
+no_system = record { symbols = []; vars = []; selector = false; processes = []; assigns = []; inits = []; invars = []; trans = []; constraints = []; specs = [] }
 
 -- the one value of an expression that asks for no state
 abbrev pub HasValue : Term → ℕ → Type 0

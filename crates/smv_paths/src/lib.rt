@@ -1,21 +1,21 @@
 //! What the paths of a program denote, and what its definitions are refused for.
 #![tactic(auto)]
 
-pub mod arithmetic;
+mod arithmetic;
 pub mod checks;
-pub mod deciding;
-pub mod definitions;
+mod deciding;
+mod definitions;
 pub mod measures;
 pub mod mentions;
-pub mod nodes;
-pub mod numbers;
-pub mod paths;
+mod nodes;
+mod numbers;
+mod paths;
 pub mod resolving;
 pub mod sizes;
-pub mod states;
+mod states;
 pub mod tables;
 pub mod targets;
-pub mod texts;
+mod texts;
 pub mod uses;
 pub mod walk;
 
