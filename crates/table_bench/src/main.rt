@@ -77,6 +77,7 @@ fn model_of(alloc: Global, vars: Vec<FlatVar>) -> std::result::Result<Ruled, All
         processes: vec![in alloc; main]?,
         assigns: Vec::new(alloc),
         inits: Vec::new(alloc),
+        invars: Vec::new(alloc),
         trans: Vec::new(alloc),
         constraints: Vec::new(alloc),
         specs: Vec::new(alloc),

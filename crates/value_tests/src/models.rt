@@ -55,6 +55,7 @@ fn model_of(alloc: Global, symbols: Vec<Name>, vars: Vec<FlatVar>) -> Result<Rul
         processes,
         assigns: Vec::new(alloc),
         inits: Vec::new(alloc),
+        invars: Vec::new(alloc),
         trans: Vec::new(alloc),
         constraints: Vec::new(alloc),
         specs: Vec::new(alloc),
