@@ -176,6 +176,7 @@ fn push_part(
         ModelPart::Assignments => push_assignments(model, answer)?,
         ModelPart::Running => push_running(model, answer)?,
         ModelPart::Specs => push_lines(&model.specs, answer)?,
+        ModelPart::Invars => push_lines(&model.invars, answer)?,
     }
     Ok(())
 }

@@ -15,7 +15,7 @@
 //! | `movers TEXT` | the process of each assignment |
 //! | `assignments TEXT` | each assignment with its variable, its process and its line |
 //! | `running TEXT` | the number of the process of each constraint, which is `running` |
-//! | `specs TEXT` | the line of each specification |
+//! | `specs TEXT`, `invars TEXT` | the line of each specification, and of each `INVAR` |
 //! | `instances TEXT` | how many instances there are, and the numbers of those that are processes |
 //! | `denotes PATH in TEXT` | what the path, which is read in `main`, denotes |
 //! | `known PATH in TEXT` | the number and the size of the definition that the path names |
@@ -40,6 +40,7 @@ pub enum ModelPart {
     Assignments,
     Running,
     Specs,
+    Invars,
 }
 
 /// What is asked of the instances and paths of a program.
@@ -94,6 +95,7 @@ fn asked_of(word: &str) -> Option<Asked> {
         "assignments" => Asked::Model(ModelPart::Assignments),
         "running" => Asked::Model(ModelPart::Running),
         "specs" => Asked::Model(ModelPart::Specs),
+        "invars" => Asked::Model(ModelPart::Invars),
         "instances" => Asked::Path(PathPart::Instances),
         "denotes" => Asked::Path(PathPart::Denotes),
         "known" => Asked::Path(PathPart::Known),

@@ -1,6 +1,6 @@
--- An `INIT`, a `TRANS` and a range: the flat model, with its derivation.
+-- An `INIT`, an `INVAR`, a `TRANS` and a range with a negative end: the flat model, with its derivation.
 use Rattle.std.proofs.Common.{refl, ℕ, zero, suc, List, [], ◌∷◌, false}
-use Rattle.std.specs.Prelude.{pos}
+use Rattle.std.specs.Prelude.{pos, negsuc}
 use Rattle.std.specs.Fmt.{digits}
 use Rattle.kripke_model.specs.declared.expressions.BinOp.{BinOp}
 use Rattle.kripke_model.specs.declared.expressions.PathOp.{PathOp}
@@ -27,10 +27,11 @@ abbrev name_x : Name
 name_x = 120 ∷ []
 
 -- MODULE main
--- VAR x : 0..3;
+-- VAR x : -1..3;
 -- ASSIGN next(x) := x + 1;
 -- INIT x = 0
 -- TRANS next(x) < 3
+-- INVAR x < 3
 -- SPEC AG x < 3
 abbrev bounded : Program
 bounded =
@@ -39,11 +40,12 @@ bounded =
       line = 1;
       formals = ([]);
       sections =
-          (Section.Vars (record { name = name_x; line = 2; form = Form.Stored (Plain.Range 0 3) } ∷ []) ∷
+          (Section.Vars (record { name = name_x; line = 2; form = Form.Stored (Plain.Range (negsuc 0) (pos 3)) } ∷ []) ∷
           Section.Assigns (record { part = Part.Next; left = (Path.Here 3 name_x); left_line = 3; right = (Expr.Binary BinOp.Add (Expr.At (Path.Here 3 name_x)) (Expr.Number 1)); line = 3 } ∷ []) ∷
           Section.States (record { kind = Kind.Init; expr = (Expr.Binary BinOp.Eq (Expr.At (Path.Here 4 name_x)) (Expr.Number 0)); line = 4 }) ∷
           Section.States (record { kind = Kind.Trans; expr = (Expr.Binary BinOp.Lt (Expr.Next (Expr.At (Path.Here 5 name_x))) (Expr.Number 3)); line = 5 }) ∷
-          Section.States (record { kind = Kind.Spec; expr = (Expr.Quant PathOp.AG (Expr.Binary BinOp.Lt (Expr.At (Path.Here 6 name_x)) (Expr.Number 3))); line = 6 }) ∷ []);
+          Section.States (record { kind = Kind.Invar; expr = (Expr.Binary BinOp.Lt (Expr.At (Path.Here 6 name_x)) (Expr.Number 3)); line = 6 }) ∷
+          Section.States (record { kind = Kind.Spec; expr = (Expr.Quant PathOp.AG (Expr.Binary BinOp.Lt (Expr.At (Path.Here 7 name_x)) (Expr.Number 3))); line = 7 }) ∷ []);
     } ∷
     []
 
@@ -53,14 +55,15 @@ bounded_scope k = scope_at k (instances bounded)
 abbrev bounded_flat : System
 bounded_flat = record {
   symbols = ([]);
-  vars = (record { name = (120 ∷ []); values = (Number (pos 0) ∷ Number (pos 1) ∷ Number (pos 2) ∷ Number (pos 3) ∷ []); line = 2 } ∷ []);
+  vars = (record { name = (120 ∷ []); values = (Number (negsuc 0) ∷ Number (pos 0) ∷ Number (pos 1) ∷ Number (pos 2) ∷ Number (pos 3) ∷ []); line = 2 } ∷ []);
   selector = false;
   processes = ((109 ∷ 97 ∷ 105 ∷ 110 ∷ []) ∷ []);
   assigns = (record { part = Part.Next; var = 0; process = 0; right = (Term.Binary BinOp.Add (Term.Var 0) (Term.Const (Number (pos 1)))); line = 3 } ∷ []);
   inits = (record { expr = (Term.Binary BinOp.Eq (Term.Var 0) (Term.Const (Number (pos 0)))); line = 4 } ∷ []);
+  invars = (record { expr = (Term.Binary BinOp.Lt (Term.Var 0) (Term.Const (Number (pos 3)))); line = 6 } ∷ []);
   trans = (record { expr = (Term.Binary BinOp.Lt (Term.Next (Term.Var 0)) (Term.Const (Number (pos 3)))); line = 5 } ∷ []);
   constraints = ([]);
-  specs = (record { expr = (Term.Quant PathOp.AG (Term.Binary BinOp.Lt (Term.Var 0) (Term.Const (Number (pos 3))))); line = 6 } ∷ []);
+  specs = (record { expr = (Term.Quant PathOp.AG (Term.Binary BinOp.Lt (Term.Var 0) (Term.Const (Number (pos 3))))); line = 7 } ∷ []);
 }
 
 bounded_flattens : Flattens bounded bounded_flat
@@ -71,20 +74,24 @@ bounded_flattens = record {
   selector = refl;
   processes = refl;
   assigns = (
-    (refl, (Selects.cell {home = (bounded_scope 0)} {x = name_x} {type = (Plain.Range 0 3)} {indexes = ([])} {ns = ([])} (Denotes.here (Finds.direct refl)) refl AreIndexes.last_index), refl, (Expands.binary (Expands.variable (Selects.cell {home = (bounded_scope 0)} {x = name_x} {type = (Plain.Range 0 3)} {indexes = ([])} {ns = ([])} (Denotes.here (Finds.direct refl)) refl AreIndexes.last_index)) Expands.number), refl),
+    (refl, (Selects.cell {home = (bounded_scope 0)} {x = name_x} {type = (Plain.Range (negsuc 0) (pos 3))} {indexes = ([])} {ns = ([])} (Denotes.here (Finds.direct refl)) refl AreIndexes.last_index), refl, (Expands.binary (Expands.variable (Selects.cell {home = (bounded_scope 0)} {x = name_x} {type = (Plain.Range (negsuc 0) (pos 3))} {indexes = ([])} {ns = ([])} (Denotes.here (Finds.direct refl)) refl AreIndexes.last_index)) Expands.number), refl),
     tt,
   );
   inits = (
-    ((Expands.binary (Expands.variable (Selects.cell {home = (bounded_scope 0)} {x = name_x} {type = (Plain.Range 0 3)} {indexes = ([])} {ns = ([])} (Denotes.here (Finds.direct refl)) refl AreIndexes.last_index)) Expands.number), refl),
+    ((Expands.binary (Expands.variable (Selects.cell {home = (bounded_scope 0)} {x = name_x} {type = (Plain.Range (negsuc 0) (pos 3))} {indexes = ([])} {ns = ([])} (Denotes.here (Finds.direct refl)) refl AreIndexes.last_index)) Expands.number), refl),
+    tt,
+  );
+  invars = (
+    ((Expands.binary (Expands.variable (Selects.cell {home = (bounded_scope 0)} {x = name_x} {type = (Plain.Range (negsuc 0) (pos 3))} {indexes = ([])} {ns = ([])} (Denotes.here (Finds.direct refl)) refl AreIndexes.last_index)) Expands.number), refl),
     tt,
   );
   trans = (
-    ((Expands.binary (Expands.next (Expands.variable (Selects.cell {home = (bounded_scope 0)} {x = name_x} {type = (Plain.Range 0 3)} {indexes = ([])} {ns = ([])} (Denotes.here (Finds.direct refl)) refl AreIndexes.last_index))) Expands.number), refl),
+    ((Expands.binary (Expands.next (Expands.variable (Selects.cell {home = (bounded_scope 0)} {x = name_x} {type = (Plain.Range (negsuc 0) (pos 3))} {indexes = ([])} {ns = ([])} (Denotes.here (Finds.direct refl)) refl AreIndexes.last_index))) Expands.number), refl),
     tt,
   );
   constraints = tt;
   specs = (
-    ((Expands.quantified (Expands.binary (Expands.variable (Selects.cell {home = (bounded_scope 0)} {x = name_x} {type = (Plain.Range 0 3)} {indexes = ([])} {ns = ([])} (Denotes.here (Finds.direct refl)) refl AreIndexes.last_index)) Expands.number)), refl),
+    ((Expands.quantified (Expands.binary (Expands.variable (Selects.cell {home = (bounded_scope 0)} {x = name_x} {type = (Plain.Range (negsuc 0) (pos 3))} {indexes = ([])} {ns = ([])} (Denotes.here (Finds.direct refl)) refl AreIndexes.last_index)) Expands.number)), refl),
     tt,
   );
 }

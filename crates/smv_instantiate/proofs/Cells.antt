@@ -26,6 +26,7 @@ flat_cells = record {
       ∷ record { part = Part.Init; var = 1; process = 0; right = Term.Const (Number (pos 0)); line = 5 }
       ∷ record { part = Part.Next; var = 1; process = 0; right = Term.Not (Term.Var 0); line = 5 } ∷ [];
   inits = [];
+  invars = [];
   trans = [];
   constraints = [];
   specs = record { expr = Term.Quant PathOp.AG (Term.Binary BinOp.Iff (Term.Var 0) (Term.Var 1)); line = 3 } ∷ [];
@@ -82,6 +83,7 @@ flattens = record {
     ),
   );
   inits = tt;
+  invars = tt;
   trans = tt;
   constraints = tt;
   specs = ((Expands.quantified (Expands.parens (Expands.binary (Expands.variable (Selects.cell p_v refl AreIndexes.last_index)) (Expands.variable (Selects.cell q_v refl AreIndexes.last_index)))), refl), tt);

@@ -90,6 +90,7 @@ counter_flat = record {
   processes = ((109 ∷ 97 ∷ 105 ∷ 110 ∷ []) ∷ []);
   assigns = (record { part = Part.Init; var = 0; process = 0; right = (Term.Const (Number (pos 0))); line = 11 } ∷ record { part = Part.Next; var = 0; process = 0; right = (Term.Binary BinOp.Mod (Term.Binary BinOp.Add (Term.Var 0) (Term.Const (Number (pos 1)))) (Term.Const (Number (pos 2)))); line = 12 } ∷ record { part = Part.Init; var = 1; process = 0; right = (Term.Const (Number (pos 0))); line = 11 } ∷ record { part = Part.Next; var = 1; process = 0; right = (Term.Binary BinOp.Mod (Term.Binary BinOp.Add (Term.Var 1) (Term.Binary BinOp.And (Term.Var 0) (Term.Const (Number (pos 1))))) (Term.Const (Number (pos 2)))); line = 12 } ∷ record { part = Part.Init; var = 2; process = 0; right = (Term.Const (Number (pos 0))); line = 11 } ∷ record { part = Part.Next; var = 2; process = 0; right = (Term.Binary BinOp.Mod (Term.Binary BinOp.Add (Term.Var 2) (Term.Binary BinOp.And (Term.Var 1) (Term.Binary BinOp.And (Term.Var 0) (Term.Const (Number (pos 1)))))) (Term.Const (Number (pos 2)))); line = 12 } ∷ []);
   inits = ([]);
+  invars = ([]);
   trans = ([]);
   constraints = ([]);
   specs = (record { expr = (Term.Quant PathOp.AG (Term.Quant PathOp.AF (Term.Binary BinOp.And (Term.Var 2) (Term.Binary BinOp.And (Term.Var 1) (Term.Binary BinOp.And (Term.Var 0) (Term.Const (Number (pos 1)))))))); line = 6 } ∷ []);
@@ -122,6 +123,7 @@ counter_flattens = record {
     ),
   );
   inits = tt;
+  invars = tt;
   trans = tt;
   constraints = tt;
   specs = (

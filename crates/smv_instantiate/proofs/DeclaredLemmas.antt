@@ -1,6 +1,6 @@
 -- What silence about the declarations of a written program gives: distinct names of the right form, and few of them.
 use Rattle.std.proofs.Common.{◌≡◌, refl, sym, ◌∙◌, ap, subst, ℕ, zero, suc, ◌<◌, ◌≤◌, ◌+◌, ◌-◌, ◌*◌, arith, List, [], ◌∷◌, ◌++◌, length, take, drop, Bool, true, false, cond, Some, None, Option, ◌⊎◌, inl, inr, append-nil}
-use Rattle.std.specs.Prelude.{map, flat_map, filter, option_map, All, pos, sum_by, ◌||◌, not}
+use Rattle.std.specs.Prelude.{map, flat_map, filter, option_map, All, ℤ, pos, ◌+ℤ◌, sum_by, ◌||◌, not}
 use Rattle.std.specs.List.{cons_option, list_any}
 use Rattle.std.proofs.lemmas.Bool.{false≢true, cases_lt}
 use Rattle.kripke_model.specs.declared.expressions.Value.{Value}
@@ -14,7 +14,7 @@ use Rattle.smv_instances.specs.declared.refusals.FlatRefusal.{FlatRefusal}
 use Rattle.smv_instances.specs.declared.refusals.Which.{Which}
 use Rattle.smv_instances.specs.Program.{Name, Expr, Constant, Plain, Module, Program}
 use Rattle.smv_instances.specs.Entries.{Entity, Entry, entries, module_named}
-use Rattle.smv_instances.specs.Instances.{Scope, module_of, depth, child, children, instances_from, instances, main_name, greatest_depth, all_entries, spelled, processes, process_name, is_process, process_entries, has_selector, declares_process, selector_name, selector_variables, variables, variables_from, symbols, atoms_of, atoms_in, atom, rising, element_names, entry_variables, type_values, place_of, value_of}
+use Rattle.smv_instances.specs.Instances.{Scope, module_of, depth, child, children, instances_from, instances, main_name, greatest_depth, all_entries, spelled, processes, process_name, is_process, process_entries, has_selector, declares_process, selector_name, selector_variables, variables, variables_from, symbols, atoms_of, atoms_in, atom, rising, integer_count, element_names, entry_variables, type_values, place_of, value_of}
 use Rattle.smv_instances.specs.Declarations.{refused_declarations, PlacedEntry, entries_of, declaration, body, variables_in, instances_in, one_if, is_reversed, value_count}
 use Rattle.smv_instantiate.specs.Bodies.{front}
 use Rattle.smv_instantiate.specs.Written.{IsWrittenType, IsWrittenConstant, IsWritten}
@@ -198,14 +198,14 @@ in_values v [] i = i
 in_values v (w ∷ ws) In.first = In.first
 in_values v (w ∷ ws) (In.later i) = In.later (in_values v ws (in_filter_back (λ u. not (same w u)) (distinct ws) i).0)
 
-numbers_known : (m : System) (low n : ℕ) → All (IsKnown m) (map (λ k. Number (pos k)) (rising low n))
-numbers_known m low n = all_from (IsKnown m) (map (λ k. Number (pos k)) (rising low n)) (λ w j. let b = in_map_back (λ k. Number (pos k)) (rising low n) j in subst (IsKnown m) (sym b.2) tt)
+numbers_known : (m : System) (f : ℕ → ℤ) (low n : ℕ) → All (IsKnown m) (map (λ k. Number (f k)) (rising low n))
+numbers_known m f low n = all_from (IsKnown m) (map (λ k. Number (f k)) (rising low n)) (λ w j. let b = in_map_back (λ k. Number (f k)) (rising low n) j in subst (IsKnown m) (sym b.2) tt)
 
 type_known : (m : System) (names : List Name) (type : Plain) → length names ≡ length m.symbols → ((c : Constant) → In c (constants_of type) → HasAtom names c) → All (IsKnown m) (type_values names type)
-type_known m names Plain.Boolean same has = numbers_known m 0 2
+type_known m names Plain.Boolean same has = numbers_known m pos 0 2
 type_known m names (Plain.Enumeration constants) same has = all_from (IsKnown m) (distinct (map (value_of names) constants))
     (λ v i. let b = in_map_back (value_of names) constants (in_values v (map (value_of names) constants) i) in subst (IsKnown m) (sym b.2) (constant_known m names b.0 same (has b.0 b.1)))
-type_known m names (Plain.Range low high) same has = numbers_known m low (high + 1 - low)
+type_known m names (Plain.Range low high) same has = numbers_known m (λ k. low +ℤ pos k) 0 (integer_count low high)
 type_known m names (Plain.Array low high element) same has = type_known m names element same has
 
 atom_written : (c : Constant) (x : Name) → IsWrittenConstant c → atom c ≡ Some x → IsAtom x
@@ -535,7 +535,7 @@ module _ (p : Program) (silent : Silent (refused_declarations p)) (written : IsW
         omega (arith, n, process_count),
         omega (arith, n, one),
         subst Distinct (sym s.1) (numbers_distinct 0 (length (processes p))),
-        subst (All (IsKnown m)) (sym s.1) (all_from (IsKnown m) (map (λ k. Number (pos k)) (rising 0 (length (processes p)))) (λ w j. let b = in_map_back (λ k. Number (pos k)) (rising 0 (length (processes p))) j in subst (IsKnown m) (sym b.2) tt)),
+        subst (All (IsKnown m)) (sym s.1) (numbers_known m pos 0 (length (processes p))),
       )
 
   body_names : Distinct (names_of body_variables)

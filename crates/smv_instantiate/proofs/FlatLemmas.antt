@@ -91,11 +91,15 @@ module _ (p : Program) (silent : Silent (Refuses p)) (written : IsWritten p) whe
         by (s, Item.States b) c i j = f (s, Item.States b) c.expr i j.0
 
     each_expression : (Q : Term → Type 0) → ((x : Placed) (t : Term) → In x (all_items p) → Expands p x.0 (expression x.1) t → Q t) → All Q (expressions m)
-    each_expression Q f = all_of_each Q (expressions m) (each_append Q (map (λ a. a.right) m.assigns) (map (λ c. c.expr) (m.inits ++ m.trans ++ m.constraints ++ m.specs))
+    each_expression Q f = all_of_each Q (expressions m) (each_append Q (map (λ a. a.right) m.assigns) (map (λ c. c.expr) (m.inits ++ m.invars ++ m.trans ++ m.constraints ++ m.specs))
         (each_map Q (λ (a : Assignment). a.right) m.assigns (assigned (λ a. Q a.right) (λ s a b i h. f (s, Item.Assigns a) b.right i h.3)))
-        (each_map Q (λ (c : Condition). c.expr) (m.inits ++ m.trans ++ m.constraints ++ m.specs)
-        (each_append (λ (c : Condition). Q c.expr) (m.inits ++ m.trans ++ m.constraints) m.specs
-        (each_append (λ (c : Condition). Q c.expr) (m.inits ++ m.trans) m.constraints (each_append (λ (c : Condition). Q c.expr) m.inits m.trans (stated Q Kind.Init m.inits f flat.inits) (stated Q Kind.Trans m.trans f flat.trans)) (stated Q Kind.Fairness m.constraints f flat.constraints))
+        (each_map Q (λ (c : Condition). c.expr) (m.inits ++ m.invars ++ m.trans ++ m.constraints ++ m.specs)
+        (each_append (λ (c : Condition). Q c.expr) (m.inits ++ m.invars ++ m.trans ++ m.constraints) m.specs
+        (each_append (λ (c : Condition). Q c.expr) (m.inits ++ m.invars ++ m.trans) m.constraints
+        (each_append (λ (c : Condition). Q c.expr) (m.inits ++ m.invars) m.trans
+        (each_append (λ (c : Condition). Q c.expr) m.inits m.invars (stated Q Kind.Init m.inits f flat.inits) (stated Q Kind.Invar m.invars f flat.invars))
+        (stated Q Kind.Trans m.trans f flat.trans))
+        (stated Q Kind.Fairness m.constraints f flat.constraints))
         (stated Q Kind.Spec m.specs f flat.specs))))
 
     has_names : HasNames p kept m

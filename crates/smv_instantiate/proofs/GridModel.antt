@@ -44,7 +44,7 @@ grid =
       line = 1;
       formals = ([]);
       sections =
-          (Section.Vars (record { name = name_g; line = 1; form = Form.Stored (Plain.Array 0 1 (Plain.Array 2 3 Plain.Boolean)) } ∷ record { name = name_x; line = 1; form = Form.Stored (Plain.Range 1 2) } ∷ []) ∷
+          (Section.Vars (record { name = name_g; line = 1; form = Form.Stored (Plain.Array 0 1 (Plain.Array 2 3 Plain.Boolean)) } ∷ record { name = name_x; line = 1; form = Form.Stored (Plain.Range (pos 1) (pos 2)) } ∷ []) ∷
           Section.Defines (record { name = name_one; line = 1; body = (Expr.Binary BinOp.Sub (Expr.Number 3) (Expr.Number 2)) } ∷ []) ∷
           Section.Assigns (record { part = Part.Next; left = (Path.Index (Path.Index (Path.Here 2 name_g) (Expr.At (Path.Here 2 name_one))) (Expr.Binary BinOp.Add (Expr.Number 2) (Expr.At (Path.Here 2 name_d)))); left_line = 2; right = (Expr.At (Path.Index (Path.Index (Path.Here 2 name_g) (Expr.Number 0)) (Expr.Binary BinOp.Add (Expr.At (Path.Here 2 name_one)) (Expr.Number 1)))); line = 2 } ∷ []) ∷
           Section.Defines (record { name = name_d; line = 2; body = (Expr.At (Path.Here 2 name_one)) } ∷ []) ∷
@@ -64,6 +64,7 @@ grid_flat = record {
   processes = ((109 ∷ 97 ∷ 105 ∷ 110 ∷ []) ∷ []);
   assigns = (record { part = Part.Next; var = 3; process = 0; right = (Term.Var 0); line = 2 } ∷ []);
   inits = (record { expr = (Term.Binary BinOp.Eq (Term.Var 4) (Term.Binary BinOp.Sub (Term.Const (Number (pos 3))) (Term.Const (Number (pos 2))))); line = 2 } ∷ []);
+  invars = ([]);
   trans = ([]);
   constraints = ([]);
   specs = (record { expr = (Term.Quant PathOp.AG (Term.Var 3)); line = 2 } ∷ []);
@@ -81,9 +82,10 @@ grid_flattens = record {
     tt,
   );
   inits = (
-    ((Expands.binary (Expands.variable (Selects.cell {home = (grid_scope 0)} {x = name_x} {type = (Plain.Range 1 2)} {indexes = ([])} {ns = ([])} (Denotes.here (Finds.direct refl)) refl AreIndexes.last_index)) (Expands.read {home = (grid_scope 0)} {e = (Expr.Binary BinOp.Sub (Expr.Number 3) (Expr.Number 2))} (Denotes.here (Finds.direct refl)) (Expands.binary Expands.number Expands.number))), refl),
+    ((Expands.binary (Expands.variable (Selects.cell {home = (grid_scope 0)} {x = name_x} {type = (Plain.Range (pos 1) (pos 2))} {indexes = ([])} {ns = ([])} (Denotes.here (Finds.direct refl)) refl AreIndexes.last_index)) (Expands.read {home = (grid_scope 0)} {e = (Expr.Binary BinOp.Sub (Expr.Number 3) (Expr.Number 2))} (Denotes.here (Finds.direct refl)) (Expands.binary Expands.number Expands.number))), refl),
     tt,
   );
+  invars = tt;
   trans = tt;
   constraints = tt;
   specs = (

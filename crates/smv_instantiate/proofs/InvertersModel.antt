@@ -86,6 +86,7 @@ inverters_flat = record {
   processes = ((109 ∷ 97 ∷ 105 ∷ 110 ∷ []) ∷ (103 ∷ 97 ∷ 116 ∷ 101 ∷ 49 ∷ []) ∷ (103 ∷ 97 ∷ 116 ∷ 101 ∷ 50 ∷ []) ∷ (103 ∷ 97 ∷ 116 ∷ 101 ∷ 51 ∷ []) ∷ []);
   assigns = (record { part = Part.Init; var = 1; process = 1; right = (Term.Const (Number (pos 0))); line = 11 } ∷ record { part = Part.Next; var = 1; process = 1; right = (Term.Not (Term.Var 3)); line = 12 } ∷ record { part = Part.Init; var = 2; process = 2; right = (Term.Const (Number (pos 0))); line = 11 } ∷ record { part = Part.Next; var = 2; process = 2; right = (Term.Not (Term.Var 1)); line = 12 } ∷ record { part = Part.Init; var = 3; process = 3; right = (Term.Const (Number (pos 0))); line = 11 } ∷ record { part = Part.Next; var = 3; process = 3; right = (Term.Not (Term.Var 2)); line = 12 } ∷ []);
   inits = ([]);
+  invars = ([]);
   trans = ([]);
   constraints = (record { expr = (Term.Running 1); line = 13 } ∷ record { expr = (Term.Running 2); line = 13 } ∷ record { expr = (Term.Running 3); line = 13 } ∷ []);
   specs = (record { expr = (Term.Binary BinOp.And (Term.Quant PathOp.AG (Term.Quant PathOp.AF (Term.Var 1))) (Term.Quant PathOp.AG (Term.Quant PathOp.AF (Term.Not (Term.Var 1))))); line = 6 } ∷ []);
@@ -118,6 +119,7 @@ inverters_flattens = record {
     ),
   );
   inits = tt;
+  invars = tt;
   trans = tt;
   constraints = (
     (Expands.running, refl),

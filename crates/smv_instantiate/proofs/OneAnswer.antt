@@ -55,6 +55,7 @@ one_of_counts : (upto : List Placed) (line : ℕ) (e : Expr) (k : Kind) → Give
 one_of_counts upto line e Kind.Spec = one_refusal _ _
 one_of_counts upto line e Kind.Fairness = one_refusal _ _
 one_of_counts upto line e Kind.Init = one_nothing
+one_of_counts upto line e Kind.Invar = one_nothing
 one_of_counts upto line e Kind.Trans = one_nothing
 
 one_of_sizes : (p : Program) (upto : List Placed) (i : Placed) → GivesOne (size_rows p upto i)
@@ -110,15 +111,17 @@ conditions_one p xs ys zs h k = matches_one (condition_one p) xs ys zs h k
 pub flattens_one : (p : Program) (m n : System) → Flattens p m → Flattens p n → m ≡ n
 flattens_one p m n f g =
     ap (λ w. record m { symbols = w }) (f.symbols ∙ sym g.symbols)
-    ∙ ap (λ w. record { symbols = n.symbols; vars = w; selector = m.selector; processes = m.processes; assigns = m.assigns; inits = m.inits; trans = m.trans; constraints = m.constraints; specs = m.specs }) (f.vars ∙ sym g.vars)
-    ∙ ap (λ w. record { symbols = n.symbols; vars = n.vars; selector = w; processes = m.processes; assigns = m.assigns; inits = m.inits; trans = m.trans; constraints = m.constraints; specs = m.specs }) (f.selector ∙ sym g.selector)
-    ∙ ap (λ w. record { symbols = n.symbols; vars = n.vars; selector = n.selector; processes = w; assigns = m.assigns; inits = m.inits; trans = m.trans; constraints = m.constraints; specs = m.specs }) (f.processes ∙ sym g.processes)
-    ∙ ap (λ w. record { symbols = n.symbols; vars = n.vars; selector = n.selector; processes = n.processes; assigns = w; inits = m.inits; trans = m.trans; constraints = m.constraints; specs = m.specs })
+    ∙ ap (λ w. record { symbols = n.symbols; vars = w; selector = m.selector; processes = m.processes; assigns = m.assigns; inits = m.inits; invars = m.invars; trans = m.trans; constraints = m.constraints; specs = m.specs }) (f.vars ∙ sym g.vars)
+    ∙ ap (λ w. record { symbols = n.symbols; vars = n.vars; selector = w; processes = m.processes; assigns = m.assigns; inits = m.inits; invars = m.invars; trans = m.trans; constraints = m.constraints; specs = m.specs }) (f.selector ∙ sym g.selector)
+    ∙ ap (λ w. record { symbols = n.symbols; vars = n.vars; selector = n.selector; processes = w; assigns = m.assigns; inits = m.inits; invars = m.invars; trans = m.trans; constraints = m.constraints; specs = m.specs }) (f.processes ∙ sym g.processes)
+    ∙ ap (λ w. record { symbols = n.symbols; vars = n.vars; selector = n.selector; processes = n.processes; assigns = w; inits = m.inits; invars = m.invars; trans = m.trans; constraints = m.constraints; specs = m.specs })
     (matches_one (assignment_one p) (assignments p) m.assigns n.assigns f.assigns g.assigns)
-    ∙ ap (λ w. record { symbols = n.symbols; vars = n.vars; selector = n.selector; processes = n.processes; assigns = n.assigns; inits = w; trans = m.trans; constraints = m.constraints; specs = m.specs })
+    ∙ ap (λ w. record { symbols = n.symbols; vars = n.vars; selector = n.selector; processes = n.processes; assigns = n.assigns; inits = w; invars = m.invars; trans = m.trans; constraints = m.constraints; specs = m.specs })
     (conditions_one p (items_of Kind.Init p) m.inits n.inits f.inits g.inits)
-    ∙ ap (λ w. record { symbols = n.symbols; vars = n.vars; selector = n.selector; processes = n.processes; assigns = n.assigns; inits = n.inits; trans = w; constraints = m.constraints; specs = m.specs })
+    ∙ ap (λ w. record { symbols = n.symbols; vars = n.vars; selector = n.selector; processes = n.processes; assigns = n.assigns; inits = n.inits; invars = w; trans = m.trans; constraints = m.constraints; specs = m.specs })
+    (conditions_one p (items_of Kind.Invar p) m.invars n.invars f.invars g.invars)
+    ∙ ap (λ w. record { symbols = n.symbols; vars = n.vars; selector = n.selector; processes = n.processes; assigns = n.assigns; inits = n.inits; invars = n.invars; trans = w; constraints = m.constraints; specs = m.specs })
     (conditions_one p (items_of Kind.Trans p) m.trans n.trans f.trans g.trans)
-    ∙ ap (λ w. record { symbols = n.symbols; vars = n.vars; selector = n.selector; processes = n.processes; assigns = n.assigns; inits = n.inits; trans = n.trans; constraints = w; specs = m.specs })
+    ∙ ap (λ w. record { symbols = n.symbols; vars = n.vars; selector = n.selector; processes = n.processes; assigns = n.assigns; inits = n.inits; invars = n.invars; trans = n.trans; constraints = w; specs = m.specs })
     (conditions_one p (items_of Kind.Fairness p) m.constraints n.constraints f.constraints g.constraints)
     ∙ ap (λ w. record n { specs = w }) (conditions_one p (items_of Kind.Spec p) m.specs n.specs f.specs g.specs)

@@ -63,6 +63,7 @@ rises_flat = record {
   processes = ((109 ∷ 97 ∷ 105 ∷ 110 ∷ []) ∷ []);
   assigns = (record { part = Part.Init; var = 0; process = 0; right = (Term.Const (Number (pos 0))); line = 4 } ∷ record { part = Part.Next; var = 0; process = 0; right = (Term.Case (Arms.arm (Term.Var 1) (Term.Const (Number (pos 1))) (Arms.arm (Term.Const (Number (pos 1))) (Term.Var 0) Arms.esac))); line = 5 } ∷ []);
   inits = ([]);
+  invars = ([]);
   trans = ([]);
   constraints = (record { expr = (Term.Var 1); line = 6 } ∷ record { expr = (Term.Const (Number (pos 1))); line = 7 } ∷ []);
   specs = (record { expr = (Term.Quant PathOp.AF (Term.Var 0)); line = 8 } ∷ []);
@@ -83,6 +84,7 @@ rises_flattens = record {
     ),
   );
   inits = tt;
+  invars = tt;
   trans = tt;
   constraints = (
     ((Expands.variable (Selects.cell {home = (rises_scope 0)} {x = name_go} {type = Plain.Boolean} {indexes = ([])} {ns = ([])} (Denotes.here (Finds.direct refl)) refl AreIndexes.last_index)), refl),

@@ -1,5 +1,5 @@
 -- Small programs, on which the proofs try the definitions.
-use Rattle.std.specs.Prelude.{true, false, [], ◌∷◌}
+use Rattle.std.specs.Prelude.{pos, true, false, [], ◌∷◌}
 use Rattle.kripke_model.specs.declared.expressions.BinOp.{BinOp}
 use Rattle.kripke_model.specs.declared.expressions.PathOp.{PathOp}
 use Rattle.kripke_model.specs.declared.models.Part.{Part}
@@ -115,7 +115,7 @@ reversed =
       line = 1;
       formals = ([]);
       sections =
-          (Section.Vars (record { name = name_x; line = 1; form = Form.Stored (Plain.Range 3 1) } ∷ []) ∷
+          (Section.Vars (record { name = name_x; line = 1; form = Form.Stored (Plain.Range (pos 3) (pos 1)) } ∷ []) ∷
           Section.States (record { kind = Kind.Spec; expr = (Expr.Quant PathOp.AG (Expr.Number 1)); line = 1 }) ∷ []);
     } ∷
     []
@@ -239,7 +239,7 @@ too_many_values =
       line = 1;
       formals = ([]);
       sections =
-          (Section.Vars (record { name = name_a; line = 1; form = Form.Stored (Plain.Array 0 256 (Plain.Range 0 1024)) } ∷ []) ∷
+          (Section.Vars (record { name = name_a; line = 1; form = Form.Stored (Plain.Array 0 256 (Plain.Range (pos 0) (pos 1024))) } ∷ []) ∷
           Section.States (record { kind = Kind.Spec; expr = (Expr.Quant PathOp.AG (Expr.Number 1)); line = 1 }) ∷ []);
     } ∷
     []

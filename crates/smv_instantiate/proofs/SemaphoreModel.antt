@@ -112,6 +112,7 @@ semaphore_flat = record {
   processes = ((109 ∷ 97 ∷ 105 ∷ 110 ∷ []) ∷ (112 ∷ 114 ∷ 111 ∷ 99 ∷ 49 ∷ []) ∷ (112 ∷ 114 ∷ 111 ∷ 99 ∷ 50 ∷ []) ∷ []);
   assigns = (record { part = Part.Init; var = 1; process = 0; right = (Term.Const (Number (pos 0))); line = 7 } ∷ record { part = Part.Init; var = 2; process = 1; right = (Term.Const (Symbol 0)); line = 14 } ∷ record { part = Part.Next; var = 2; process = 1; right = (Term.Case (Arms.arm (Term.Binary BinOp.Eq (Term.Var 2) (Term.Const (Symbol 0))) (Term.Braces (Terms.more (Term.Const (Symbol 0)) (Terms.more (Term.Const (Symbol 1)) Terms.none))) (Arms.arm (Term.Binary BinOp.And (Term.Binary BinOp.Eq (Term.Var 2) (Term.Const (Symbol 1))) (Term.Not (Term.Var 1))) (Term.Const (Symbol 2)) (Arms.arm (Term.Binary BinOp.Eq (Term.Var 2) (Term.Const (Symbol 2))) (Term.Braces (Terms.more (Term.Const (Symbol 2)) (Terms.more (Term.Const (Symbol 3)) Terms.none))) (Arms.arm (Term.Binary BinOp.Eq (Term.Var 2) (Term.Const (Symbol 3))) (Term.Const (Symbol 0)) (Arms.arm (Term.Const (Number (pos 1))) (Term.Var 2) Arms.esac)))))); line = 15 } ∷ record { part = Part.Next; var = 1; process = 1; right = (Term.Case (Arms.arm (Term.Binary BinOp.Eq (Term.Var 2) (Term.Const (Symbol 1))) (Term.Const (Number (pos 1))) (Arms.arm (Term.Binary BinOp.Eq (Term.Var 2) (Term.Const (Symbol 3))) (Term.Const (Number (pos 0))) (Arms.arm (Term.Const (Number (pos 1))) (Term.Var 1) Arms.esac)))); line = 22 } ∷ record { part = Part.Init; var = 3; process = 2; right = (Term.Const (Symbol 0)); line = 14 } ∷ record { part = Part.Next; var = 3; process = 2; right = (Term.Case (Arms.arm (Term.Binary BinOp.Eq (Term.Var 3) (Term.Const (Symbol 0))) (Term.Braces (Terms.more (Term.Const (Symbol 0)) (Terms.more (Term.Const (Symbol 1)) Terms.none))) (Arms.arm (Term.Binary BinOp.And (Term.Binary BinOp.Eq (Term.Var 3) (Term.Const (Symbol 1))) (Term.Not (Term.Var 1))) (Term.Const (Symbol 2)) (Arms.arm (Term.Binary BinOp.Eq (Term.Var 3) (Term.Const (Symbol 2))) (Term.Braces (Terms.more (Term.Const (Symbol 2)) (Terms.more (Term.Const (Symbol 3)) Terms.none))) (Arms.arm (Term.Binary BinOp.Eq (Term.Var 3) (Term.Const (Symbol 3))) (Term.Const (Symbol 0)) (Arms.arm (Term.Const (Number (pos 1))) (Term.Var 3) Arms.esac)))))); line = 15 } ∷ record { part = Part.Next; var = 1; process = 2; right = (Term.Case (Arms.arm (Term.Binary BinOp.Eq (Term.Var 3) (Term.Const (Symbol 1))) (Term.Const (Number (pos 1))) (Arms.arm (Term.Binary BinOp.Eq (Term.Var 3) (Term.Const (Symbol 3))) (Term.Const (Number (pos 0))) (Arms.arm (Term.Const (Number (pos 1))) (Term.Var 1) Arms.esac)))); line = 22 } ∷ []);
   inits = ([]);
+  invars = ([]);
   trans = ([]);
   constraints = (record { expr = (Term.Running 1); line = 27 } ∷ record { expr = (Term.Running 2); line = 27 } ∷ []);
   specs = (record { expr = (Term.Quant PathOp.AG (Term.Not (Term.Binary BinOp.And (Term.Binary BinOp.Eq (Term.Var 2) (Term.Const (Symbol 2))) (Term.Binary BinOp.Eq (Term.Var 3) (Term.Const (Symbol 2)))))); line = 8 } ∷ record { expr = (Term.Quant PathOp.AG (Term.Binary BinOp.Implies (Term.Binary BinOp.Eq (Term.Var 2) (Term.Const (Symbol 1))) (Term.Quant PathOp.AF (Term.Binary BinOp.Eq (Term.Var 2) (Term.Const (Symbol 2)))))); line = 9 } ∷ []);
@@ -147,6 +148,7 @@ semaphore_flattens = record {
     ),
   );
   inits = tt;
+  invars = tt;
   trans = tt;
   constraints = (
     (Expands.running, refl),

@@ -58,39 +58,43 @@ add_term p i items t rest count x h e = record { terms = t ∷ h.terms; are = (x
 
 -- the terms of the items, from what the flat model has of each kind
 abbrev TermsOf : Program → List Placed → Type 0
-TermsOf p items = (bs : List Assignment) (is ts fs ss : List Condition)
+TermsOf p items = (bs : List Assignment) (is vs ts fs ss : List Condition)
     → Matches (IsAssignment p) (filter (λ i. is_assignment i.1) items) bs
     → Matches (IsCondition p) (filter (λ i. is_of Kind.Init i.1) items) is
+    → Matches (IsCondition p) (filter (λ i. is_of Kind.Invar i.1) items) vs
     → Matches (IsCondition p) (filter (λ i. is_of Kind.Trans i.1) items) ts
     → Matches (IsCondition p) (filter (λ i. is_of Kind.Fairness i.1) items) fs
     → Matches (IsCondition p) (filter (λ i. is_of Kind.Spec i.1) items) ss
-    → HasTerms p items (total right_nodes bs + (total condition_nodes is + (total condition_nodes ts + (total condition_nodes fs + total condition_nodes ss))))
+    → HasTerms p items (total right_nodes bs + (total condition_nodes is + (total condition_nodes vs + (total condition_nodes ts + (total condition_nodes fs + (total condition_nodes ss))))))
 
 terms_of_none : (p : Program) → TermsOf p []
-terms_of_none p [] [] [] [] [] a i t f s = record { terms = []; are = tt; nodes = refl }
-terms_of_none p (x ∷ xs) is ts fs ss a i t f s = absurd a
-terms_of_none p [] (x ∷ xs) ts fs ss a i t f s = absurd i
-terms_of_none p [] [] (x ∷ xs) fs ss a i t f s = absurd t
-terms_of_none p [] [] [] (x ∷ xs) ss a i t f s = absurd f
-terms_of_none p [] [] [] [] (x ∷ xs) a i t f s = absurd s
+terms_of_none p [] [] [] [] [] [] a i v t f s = record { terms = []; are = tt; nodes = refl }
+terms_of_none p (x ∷ xs) is vs ts fs ss a i v t f s = absurd a
+terms_of_none p [] (x ∷ xs) vs ts fs ss a i v t f s = absurd i
+terms_of_none p [] [] (x ∷ xs) ts fs ss a i v t f s = absurd v
+terms_of_none p [] [] [] (x ∷ xs) fs ss a i v t f s = absurd t
+terms_of_none p [] [] [] [] (x ∷ xs) ss a i v t f s = absurd f
+terms_of_none p [] [] [] [] [] (x ∷ xs) a i v t f s = absurd s
 
 terms_with_assignment : (p : Program) (home : Scope) (b : Assigned) (items : List Placed) → TermsOf p items → TermsOf p ((home, Item.Assigns b) ∷ items)
-terms_with_assignment p home b items rest [] is ts fs ss a i t f s = absurd a
-terms_with_assignment p home b items rest (x ∷ xs) is ts fs ss a i t f s =
-    add_term p (home, Item.Assigns b) items x.right _ _ a.0.3 (rest xs is ts fs ss a.1 i t f s) (omega arith)
+terms_with_assignment p home b items rest [] is vs ts fs ss a i v t f s = absurd a
+terms_with_assignment p home b items rest (x ∷ xs) is vs ts fs ss a i v t f s =
+    add_term p (home, Item.Assigns b) items x.right _ _ a.0.3 (rest xs is vs ts fs ss a.1 i v t f s) (omega arith)
 
 abbrev stated : Kind → Expr → ℕ → Item
 stated k e l = Item.States (record { kind = k; expr = e; line = l })
 
 terms_with_state : (p : Program) (home : Scope) (k : Kind) (e : Expr) (l : ℕ) (items : List Placed) → TermsOf p items → TermsOf p ((home, stated k e l) ∷ items)
-terms_with_state p home Kind.Init e l items rest bs [] ts fs ss a i t f s = absurd i
-terms_with_state p home Kind.Init e l items rest bs (x ∷ xs) ts fs ss a i t f s = add_term p (home, stated Kind.Init e l) items x.expr _ _ i.0.0 (rest bs xs ts fs ss a i.1 t f s) (omega arith)
-terms_with_state p home Kind.Trans e l items rest bs is [] fs ss a i t f s = absurd t
-terms_with_state p home Kind.Trans e l items rest bs is (x ∷ xs) fs ss a i t f s = add_term p (home, stated Kind.Trans e l) items x.expr _ _ t.0.0 (rest bs is xs fs ss a i t.1 f s) (omega arith)
-terms_with_state p home Kind.Fairness e l items rest bs is ts [] ss a i t f s = absurd f
-terms_with_state p home Kind.Fairness e l items rest bs is ts (x ∷ xs) ss a i t f s = add_term p (home, stated Kind.Fairness e l) items x.expr _ _ f.0.0 (rest bs is ts xs ss a i t f.1 s) (omega arith)
-terms_with_state p home Kind.Spec e l items rest bs is ts fs [] a i t f s = absurd s
-terms_with_state p home Kind.Spec e l items rest bs is ts fs (x ∷ xs) a i t f s = add_term p (home, stated Kind.Spec e l) items x.expr _ _ s.0.0 (rest bs is ts fs xs a i t f s.1) (omega arith)
+terms_with_state p home Kind.Init e l items rest bs [] vs ts fs ss a i v t f s = absurd i
+terms_with_state p home Kind.Init e l items rest bs (x ∷ xs) vs ts fs ss a i v t f s = add_term p (home, stated Kind.Init e l) items x.expr _ _ i.0.0 (rest bs xs vs ts fs ss a i.1 v t f s) (omega arith)
+terms_with_state p home Kind.Invar e l items rest bs is [] ts fs ss a i v t f s = absurd v
+terms_with_state p home Kind.Invar e l items rest bs is (x ∷ xs) ts fs ss a i v t f s = add_term p (home, stated Kind.Invar e l) items x.expr _ _ v.0.0 (rest bs is xs ts fs ss a i v.1 t f s) (omega arith)
+terms_with_state p home Kind.Trans e l items rest bs is vs [] fs ss a i v t f s = absurd t
+terms_with_state p home Kind.Trans e l items rest bs is vs (x ∷ xs) fs ss a i v t f s = add_term p (home, stated Kind.Trans e l) items x.expr _ _ t.0.0 (rest bs is vs xs fs ss a i v t.1 f s) (omega arith)
+terms_with_state p home Kind.Fairness e l items rest bs is vs ts [] ss a i v t f s = absurd f
+terms_with_state p home Kind.Fairness e l items rest bs is vs ts (x ∷ xs) ss a i v t f s = add_term p (home, stated Kind.Fairness e l) items x.expr _ _ f.0.0 (rest bs is vs ts xs ss a i v t f.1 s) (omega arith)
+terms_with_state p home Kind.Spec e l items rest bs is vs ts fs [] a i v t f s = absurd s
+terms_with_state p home Kind.Spec e l items rest bs is vs ts fs (x ∷ xs) a i v t f s = add_term p (home, stated Kind.Spec e l) items x.expr _ _ s.0.0 (rest bs is vs ts fs xs a i v t f s.1) (omega arith)
 
 terms_of : (p : Program) (items : List Placed) → TermsOf p items
 terms_of p [] = terms_of_none p
@@ -124,22 +128,23 @@ few_nodes p e = after_all (λ b i. Silent (item p b i)) (FewNodes p) (λ b i h f
 
 pub node_limit : (p : Program) (m : System) → EachAfter (λ b i. Silent (item p b i)) [] (all_items p) → Flattens p m → sum_by node_count (expressions m) ≤ 200000
 node_limit p m e flat =
-    let h = terms_of p (all_items p) m.assigns m.inits m.trans m.constraints m.specs flat.assigns flat.inits flat.trans flat.constraints flat.specs in
+    let h = terms_of p (all_items p) m.assigns m.inits m.invars m.trans m.constraints m.specs flat.assigns flat.inits flat.invars flat.trans flat.constraints flat.specs in
     let few : sum_by node_count h.terms ≤ 200000 = few_nodes p e h.terms h.are in
-    let sums : sum_by node_count h.terms ≡ total right_nodes m.assigns + (total condition_nodes m.inits + (total condition_nodes m.trans + (total condition_nodes m.constraints + total condition_nodes m.specs))) = sum_is_total node_count h.terms ∙ h.nodes in
-    let all : sum_by node_count (expressions m) ≡ total right_nodes m.assigns + (total condition_nodes m.inits + (total condition_nodes m.trans + (total condition_nodes m.constraints + total condition_nodes m.specs))) = by m in
+    let sums : sum_by node_count h.terms ≡ total right_nodes m.assigns + (total condition_nodes m.inits + (total condition_nodes m.invars + (total condition_nodes m.trans + (total condition_nodes m.constraints + total condition_nodes m.specs)))) = sum_is_total node_count h.terms ∙ h.nodes in
+    let all : sum_by node_count (expressions m) ≡ total right_nodes m.assigns + (total condition_nodes m.inits + (total condition_nodes m.invars + (total condition_nodes m.trans + (total condition_nodes m.constraints + total condition_nodes m.specs)))) = by m in
     omega (arith, few, sums, all)
   where
-    by : (n : System) → sum_by node_count (expressions n) ≡ total right_nodes n.assigns + (total condition_nodes n.inits + (total condition_nodes n.trans + (total condition_nodes n.constraints + total condition_nodes n.specs)))
+    by : (n : System) → sum_by node_count (expressions n) ≡ total right_nodes n.assigns + (total condition_nodes n.inits + (total condition_nodes n.invars + (total condition_nodes n.trans + (total condition_nodes n.constraints + total condition_nodes n.specs))))
     by n =
-        let a : total node_count (expressions n) ≡ total node_count (map (λ a. a.right) n.assigns) + total node_count (map (λ c. c.expr) (n.inits ++ n.trans ++ n.constraints ++ n.specs)) = total-append node_count (map (λ a. a.right) n.assigns) _ in
+        let a : total node_count (expressions n) ≡ total node_count (map (λ a. a.right) n.assigns) + total node_count (map (λ c. c.expr) (n.inits ++ n.invars ++ n.trans ++ n.constraints ++ n.specs)) = total-append node_count (map (λ a. a.right) n.assigns) _ in
         let b : total node_count (map (λ a. a.right) n.assigns) ≡ total right_nodes n.assigns = total-map node_count (λ a. a.right) n.assigns in
-        let c : total node_count (map (λ c. c.expr) (n.inits ++ n.trans ++ n.constraints ++ n.specs)) ≡ total condition_nodes (n.inits ++ n.trans ++ n.constraints ++ n.specs) = total-map node_count (λ c. c.expr) (n.inits ++ n.trans ++ n.constraints ++ n.specs) in
-        let d : total condition_nodes (n.inits ++ n.trans ++ n.constraints ++ n.specs) ≡ total condition_nodes (n.inits ++ n.trans ++ n.constraints) + total condition_nodes n.specs = total-append condition_nodes (n.inits ++ n.trans ++ n.constraints) n.specs in
-        let f : total condition_nodes (n.inits ++ n.trans ++ n.constraints) ≡ total condition_nodes (n.inits ++ n.trans) + total condition_nodes n.constraints = total-append condition_nodes (n.inits ++ n.trans) n.constraints in
-        let g : total condition_nodes (n.inits ++ n.trans) ≡ total condition_nodes n.inits + total condition_nodes n.trans = total-append condition_nodes n.inits n.trans in
+        let c : total node_count (map (λ c. c.expr) (n.inits ++ n.invars ++ n.trans ++ n.constraints ++ n.specs)) ≡ total condition_nodes (n.inits ++ n.invars ++ n.trans ++ n.constraints ++ n.specs) = total-map node_count (λ c. c.expr) (n.inits ++ n.invars ++ n.trans ++ n.constraints ++ n.specs) in
+        let d : total condition_nodes (n.inits ++ n.invars ++ n.trans ++ n.constraints ++ n.specs) ≡ total condition_nodes (n.inits ++ n.invars ++ n.trans ++ n.constraints) + total condition_nodes n.specs = total-append condition_nodes (n.inits ++ n.invars ++ n.trans ++ n.constraints) n.specs in
+        let f : total condition_nodes (n.inits ++ n.invars ++ n.trans ++ n.constraints) ≡ total condition_nodes (n.inits ++ n.invars ++ n.trans) + total condition_nodes n.constraints = total-append condition_nodes (n.inits ++ n.invars ++ n.trans) n.constraints in
+        let g : total condition_nodes (n.inits ++ n.invars ++ n.trans) ≡ total condition_nodes (n.inits ++ n.invars) + total condition_nodes n.trans = total-append condition_nodes (n.inits ++ n.invars) n.trans in
+        let h : total condition_nodes (n.inits ++ n.invars) ≡ total condition_nodes n.inits + total condition_nodes n.invars = total-append condition_nodes n.inits n.invars in
         let z : sum_by node_count (expressions n) ≡ total node_count (expressions n) = sum_is_total node_count (expressions n) in
-        omega (arith, a, b, c, d, f, g, z)
+        omega (arith, a, b, c, d, f, g, h, z)
 
 -- ---- nesting
 
@@ -169,6 +174,7 @@ not_counted k b i e =
 
 spec_kept : (p : Program) (b : List Placed) (s : Scope) (k : Kind) (e : Expr) (l : ℕ) → Silent (item p b (s, stated k e l)) → count_of Kind.Spec b ≤ 256 → count_of Kind.Spec (b ++ ((s, stated k e l) ∷ [])) ≤ 256
 spec_kept p b s Kind.Init e l h few = subst (λ n. n ≤ 256) (sym (not_counted Kind.Spec b (s, stated Kind.Init e l) refl)) few
+spec_kept p b s Kind.Invar e l h few = subst (λ n. n ≤ 256) (sym (not_counted Kind.Spec b (s, stated Kind.Invar e l) refl)) few
 spec_kept p b s Kind.Trans e l h few = subst (λ n. n ≤ 256) (sym (not_counted Kind.Spec b (s, stated Kind.Trans e l) refl)) few
 spec_kept p b s Kind.Fairness e l h few = subst (λ n. n ≤ 256) (sym (not_counted Kind.Spec b (s, stated Kind.Fairness e l) refl)) few
 spec_kept p b s Kind.Spec e l h few = not_above _ _ (λ more. silent_first (silent_second h) (FlatRefusal.Limit l Which.Specifications 257) (refl, more))
@@ -179,6 +185,7 @@ specs_kept p b (s, Item.States c) h few = spec_kept p b s c.kind c.expr c.line h
 
 constraint_kept : (p : Program) (b : List Placed) (s : Scope) (k : Kind) (e : Expr) (l : ℕ) → Silent (item p b (s, stated k e l)) → count_of Kind.Fairness b ≤ 64 → count_of Kind.Fairness (b ++ ((s, stated k e l) ∷ [])) ≤ 64
 constraint_kept p b s Kind.Init e l h few = subst (λ n. n ≤ 64) (sym (not_counted Kind.Fairness b (s, stated Kind.Init e l) refl)) few
+constraint_kept p b s Kind.Invar e l h few = subst (λ n. n ≤ 64) (sym (not_counted Kind.Fairness b (s, stated Kind.Invar e l) refl)) few
 constraint_kept p b s Kind.Trans e l h few = subst (λ n. n ≤ 64) (sym (not_counted Kind.Fairness b (s, stated Kind.Trans e l) refl)) few
 constraint_kept p b s Kind.Spec e l h few = subst (λ n. n ≤ 64) (sym (not_counted Kind.Fairness b (s, stated Kind.Spec e l) refl)) few
 constraint_kept p b s Kind.Fairness e l h few = not_above _ _ (λ more. silent_first (silent_second h) (FlatRefusal.Limit l Which.Constraints 65) (refl, more))

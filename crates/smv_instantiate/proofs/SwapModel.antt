@@ -63,6 +63,7 @@ swap_flat = record {
   processes = ((109 ∷ 97 ∷ 105 ∷ 110 ∷ []) ∷ []);
   assigns = (record { part = Part.Init; var = 0; process = 0; right = (Term.Const (Number (pos 0))); line = 6 } ∷ record { part = Part.Init; var = 1; process = 0; right = (Term.Const (Number (pos 1))); line = 7 } ∷ record { part = Part.Next; var = 0; process = 0; right = (Term.Var 1); line = 8 } ∷ record { part = Part.Next; var = 1; process = 0; right = (Term.Var 0); line = 9 } ∷ []);
   inits = ([]);
+  invars = ([]);
   trans = ([]);
   constraints = ([]);
   specs = (record { expr = (Term.Quant PathOp.AG (Term.Binary BinOp.Or (Term.Var 0) (Term.Var 1))); line = 10 } ∷ []);
@@ -89,6 +90,7 @@ swap_flattens = record {
     ),
   );
   inits = tt;
+  invars = tt;
   trans = tt;
   constraints = tt;
   specs = (

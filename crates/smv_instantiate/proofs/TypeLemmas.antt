@@ -1,14 +1,17 @@
 -- The values of a type: none twice, at least one, and as many whatever the symbols are numbered by.
 use Rattle.std.proofs.Common.{◌≡◌, refl, sym, ◌∙◌, ap, subst, ℕ, zero, suc, ◌<◌, ◌≤◌, ◌+◌, ◌-◌, arith, List, [], ◌∷◌, length, get_or, Bool, true, false, cond}
-use Rattle.std.specs.Prelude.{filter_map, map, filter, not, ◌||◌, ◌==◌, pos, ltb}
+use Rattle.std.specs.Prelude.{filter_map, map, filter, not, ◌||◌, ◌==◌, ℤ, pos, negsuc, ◌+ℤ◌, int_lt, ltb}
+use Rattle.std.specs.Int.{int_gap}
 use Rattle.std.specs.Str.{bytes_eq}
-use Rattle.std.proofs.lemmas.Bool.{false≢true, eqb-true, eq-eqb, false_from_ne_true, ltb-false}
+use Rattle.std.proofs.lemmas.Bool.{false≢true, eqb-true, eq-eqb, false_from_ne_true}
+use Rattle.std.proofs.lemmas.Int.{ints}
+use borrow.Author.Differences.{up, down}
 use Rattle.kripke_model.specs.declared.expressions.Value.{Value}
 use Rattle.kripke_model.specs.declared.expressions.Value.TheVariants.{Number}
 use Rattle.kripke_model.specs.Evaluation.{same, distinct}
 use Rattle.kripke_model.proofs.ValueLemmas.{same_self, same-true}
 use Rattle.smv_instances.specs.Program.{Name, Constant, Plain}
-use Rattle.smv_instances.specs.Instances.{place_of, rising, between, value_of, type_values, distinct_names, atom, atoms_in}
+use Rattle.smv_instances.specs.Instances.{place_of, rising, integer_count, value_of, type_values, distinct_names, atom, atoms_in}
 use Rattle.smv_instances.specs.Declarations.{is_reversed, value_count}
 use Rattle.smv_instantiate.specs.Written.{IsWrittenType}
 use Rattle.smv_instantiate.proofs.Members.{In, Distinct, in_filter, in_filter_map, in_filter_back, distinct_filter, distinct_map}
@@ -75,18 +78,38 @@ pub values_distinct : (vs : List Value) → Distinct (distinct vs)
 values_distinct [] = tt
 values_distinct (v ∷ vs) = (distinct_value v (distinct vs), distinct_filter (λ w. not (same v w)) (distinct vs) (values_distinct vs))
 
-number_in : Value → ℕ
-number_in (Number (pos n)) = n
-number_in v = 0
+number_in : Value → ℤ
+number_in (Number z) = z
+number_in v = pos 0
+
+mapped_distinct : (f : ℕ → ℤ) → ((j k : ℕ) → f j ≡ f k → j ≡ k) → (low n : ℕ) → Distinct (map (λ k. Number (f k)) (rising low n))
+unfolding number_in
+mapped_distinct f apart low n = distinct_map (λ k. Number (f k)) (rising low n) (λ x y i j e. apart x y (ap number_in e)) (rising_distinct low n)
 
 pub numbers_distinct : (low n : ℕ) → Distinct (map (λ k. Number (pos k)) (rising low n))
-unfolding number_in
-numbers_distinct low n = distinct_map (λ k. Number (pos k)) (rising low n) (λ x y i j e. ap number_in e) (rising_distinct low n)
+numbers_distinct low n = mapped_distinct pos (λ j k e. pos_apart e) low n
+  where
+    pos_apart : {j k : ℕ} → pos j ≡ pos k → j ≡ k
+    pos_apart e = cc
+
+-- ---- integers that rise
+
+gap_is : (a b : ℤ) → int_gap a b ≡ (up b + down a) - (up a + down b)
+gap_is (pos a) (pos b) = omega arith
+gap_is (pos a) (negsuc b) = omega arith
+gap_is (negsuc a) (pos b) = omega arith
+gap_is (negsuc a) (negsuc b) = omega arith
+
+some_integer : (low high : ℤ) → int_lt high low ≡ false → 0 < integer_count low high
+some_integer low high h = omega (arith, ints, h, gap_is low (high +ℤ pos 1))
+
+integers_apart : (low : ℤ) (j k : ℕ) → low +ℤ pos j ≡ low +ℤ pos k → j ≡ k
+integers_apart low j k e = omega (arith, ints, e)
 
 pub type_distinct : (names : List Name) (type : Plain) → Distinct (type_values names type)
 type_distinct names Plain.Boolean = numbers_distinct 0 2
 type_distinct names (Plain.Enumeration constants) = values_distinct (map (value_of names) constants)
-type_distinct names (Plain.Range low high) = numbers_distinct low (high + 1 - low)
+type_distinct names (Plain.Range low high) = mapped_distinct (λ k. low +ℤ pos k) (integers_apart low) 0 (integer_count low high)
 type_distinct names (Plain.Array low high element) = type_distinct names element
 
 pub length_rising : (low n : ℕ) → length (rising low n) ≡ n
@@ -186,7 +209,7 @@ constants_of (Plain.Array low high element) = constants_of element
 pub type_count : (names : List Name) (type : Plain) → ((c : Constant) → In c (constants_of type) → HasAtom names c) → length (type_values names type) ≡ value_count type
 type_count names Plain.Boolean has = refl
 type_count names (Plain.Enumeration constants) has = enumeration_count names (filter_map atom constants) constants (λ c i. (has c i, own_atom c constants i))
-type_count names (Plain.Range low high) has = length_map (λ n. Number (pos n)) (between low high) ∙ length_rising low (high + 1 - low)
+type_count names (Plain.Range low high) has = length_map (λ k. Number (low +ℤ pos k)) (rising 0 (integer_count low high)) ∙ length_rising 0 (integer_count low high)
 type_count names (Plain.Array low high element) has = type_count names element has
 
 pub some_value : (names : List Name) (type : Plain) → IsWrittenType type → (is_reversed type ≡ true → ⊥) → 0 < length (type_values names type)
@@ -194,9 +217,7 @@ some_value names Plain.Boolean w fine = omega arith
 some_value names (Plain.Enumeration []) w fine = absurd (omega (arith, w.0))
 some_value names (Plain.Enumeration (c ∷ cs)) w fine = omega arith
 some_value names (Plain.Range low high) w fine =
-    let up : low ≤ high = ltb-false high low (false_from_ne_true (ltb high low) fine) in
-    let n : length (type_values names (Plain.Range low high)) ≡ high + 1 - low = type_count names (Plain.Range low high) (λ c i. elim i [ ]) in
-    omega (arith, up, n)
+    subst (λ n. 0 < n) (sym (type_count names (Plain.Range low high) (λ c i. elim i [ ]))) (some_integer low high (false_from_ne_true (int_lt high low) fine))
 some_value names (Plain.Array low high element) w fine = some_value names element w.2 (λ e. fine (or_right_true (ltb high low) e))
   where
     or_right_true : (b : Bool) {c : Bool} → c ≡ true → (b || c) ≡ true

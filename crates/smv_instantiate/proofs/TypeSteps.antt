@@ -1,7 +1,7 @@
 -- What one more number, constant or element adds.
-use Rattle.std.proofs.Common.{◌≡◌, refl, sym, ◌∙◌, ap, subst, ℕ, zero, suc, ◌<◌, ◌≤◌, ◌+◌, ◌-◌, arith, List, [], ◌∷◌, ◌++◌, length, get_or, take, Bool, true, false, cond, not, ◌||◌, append-nil, append_assoc, inl, inr}
+use Rattle.std.proofs.Common.{◌≡◌, refl, sym, ◌∙◌, ap, subst, ℕ, zero, suc, ◌<◌, ◌≤◌, ◌+◌, ◌-◌, arith, List, [], ◌∷◌, ◌++◌, length, get_or, take, Bool, true, false, cond, not, ◌||◌, append-nil, append_assoc}
 use Rattle.std.specs.Prelude.{map, flat_map, filter, All, if◌then◌else◌}
-use Rattle.std.proofs.lemmas.Bool.{false≢true, cases_lt}
+use Rattle.std.proofs.lemmas.Bool.{false≢true}
 use Rattle.std.proofs.lemmas.List.{take_more}
 use Rattle.std.proofs.lemmas.List.Elements.{filter-append}
 use Rattle.std.proofs.lemmas.List.Concat.{flat_map-append}
@@ -26,14 +26,6 @@ rising_next low k from =
     let more : k + 1 - low ≡ suc (k - low) = omega (arith, from) in
     let last : low + (k - low) ≡ k = omega (arith, from) in
     ap (rising low) more ∙ rising-push low (k - low) ∙ ap (λ j. rising low (k - low) ++ (j ∷ [])) last
-
--- a loop from low up to an end that may lie below it
-pub ended : (low end k : ℕ) → low ≤ k → end ≤ k → (low ≤ end → k ≤ end) → (end < low → k ≡ low) → k - low ≡ end - low
-ended low end k from past within none = elim (cases_lt end low) [ inl below ↦ (let e : k ≡ low = none below in omega (arith, e, below)) | inr above ↦ (let l : k ≤ end = within above in omega (arith, l, past)) ]
-
-pub mapped_next : {A : Type 0} (f : ℕ → A) (low k : ℕ) (out new : List A) → low ≤ k → out ≡ map f (rising low (k - low)) → new ≡ out ++ (f k ∷ []) → new ≡ map f (rising low (k + 1 - low))
-mapped_next f low k out new from so_far e =
-    e ∙ ap (λ o. o ++ (f k ∷ [])) so_far ∙ sym (map-append f (rising low (k - low)) (k ∷ [])) ∙ ap (map f) (sym (rising_next low k from))
 
 pub joined_next : {A : Type 0} (f : ℕ → List A) (low k : ℕ) (first out new : List A) → low ≤ k → out ≡ first ++ flat_map f (rising low (k - low)) → new ≡ out ++ f k → new ≡ first ++ flat_map f (rising low (k + 1 - low))
 joined_next f low k first out new from so_far e =

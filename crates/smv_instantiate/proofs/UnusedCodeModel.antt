@@ -67,6 +67,7 @@ unused_code_flat = record {
   processes = ((109 ∷ 97 ∷ 105 ∷ 110 ∷ []) ∷ []);
   assigns = ([]);
   inits = ([]);
+  invars = ([]);
   trans = ([]);
   constraints = ([]);
   specs = (record { expr = (Term.Quant PathOp.AG (Term.Binary BinOp.Member (Term.Var 0) (Term.Binary BinOp.Union (Term.Braces (Terms.more (Term.Const (Symbol 0)) (Terms.more (Term.Const (Symbol 1)) Terms.none))) (Term.Braces (Terms.more (Term.Const (Symbol 2)) Terms.none))))); line = 3 } ∷ record { expr = (Term.Quant PathOp.EG (Term.Binary BinOp.Eq (Term.Var 1) (Term.Const (Symbol 3)))); line = 4 } ∷ []);
@@ -81,6 +82,7 @@ unused_code_flattens = record {
   processes = refl;
   assigns = tt;
   inits = tt;
+  invars = tt;
   trans = tt;
   constraints = tt;
   specs = (

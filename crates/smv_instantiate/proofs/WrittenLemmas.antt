@@ -1,6 +1,6 @@
 -- What is derived from the tokens of a text is written.
-use Rattle.std.proofs.Common.{◌≡◌, refl, sym, subst, ℕ, ◌<◌, ◌≤◌, ◌+◌, arith, List, [], ◌∷◌, ◌++◌, length, Bool, false, Some, None, Option, ◌⊎◌, inl, inr}
-use Rattle.std.specs.Prelude.{map, All}
+use Rattle.std.proofs.Common.{◌≡◌, refl, sym, subst, ℕ, zero, suc, ◌<◌, ◌≤◌, ◌+◌, arith, List, [], ◌∷◌, ◌++◌, length, Bool, false, Some, None, Option, ◌⊎◌, inl, inr}
+use Rattle.std.specs.Prelude.{map, All, ℤ, pos, negsuc, neg_ℤ, unsigned_abs}
 use Rattle.kripke_model.specs.Names.{IsAtom}
 use Rattle.smv_lexer.specs.Text.{Kind, Placed, Piece, Spells, Cuts, IsSmall, AllSmall, tokens_of, placed, line_feeds, Lexes}
 use Rattle.smv_parser.specs.declared.expressions.PrefixOperator.{PrefixOperator}
@@ -11,10 +11,10 @@ use Rattle.smv_parser.specs.Program as parsed
 use Rattle.smv_parser.specs.Words.{Is, Lone}
 use Rattle.smv_parser.specs.Grammar.{Derives, Forms, DerivesPath, DerivesParts, DerivesSome, DerivesOthers, DerivesArms}
 use Rattle.smv_parser.specs.Programs as grammar
-use Rattle.smv_parser.specs.Programs.{OnLine, Commas, AfterComma, Parameters, DerivesName, DerivesConstant, DerivesRange, DerivesPlain, PlainForms, DerivesType, DerivesDeclaration, DerivesLeft, DerivesAssignment, DerivesDefinition, DerivesCondition, DerivesSection, DerivesModule, DerivesProgram}
+use Rattle.smv_parser.specs.Programs.{OnLine, Commas, AfterComma, Parameters, DerivesName, DerivesConstant, DerivesRange, DerivesEnd, DerivesEnds, DerivesPlain, PlainForms, DerivesType, DerivesDeclaration, DerivesLeft, DerivesAssignment, DerivesDefinition, DerivesCondition, DerivesSection, DerivesModule, DerivesProgram}
 use Rattle.smv_instances.specs.Abstract as plain
 use Rattle.smv_instances.specs.Program.{Name, Expr, Path}
-use Rattle.smv_instantiate.specs.Written.{IsWrittenNumber, IsWrittenExpr, AreWritten, AreWrittenArms, IsWrittenPath, IsWrittenConstant, IsWrittenType, IsWrittenForm, IsWrittenDeclaration, IsWrittenDefinition, IsWrittenAssignment, IsWrittenSection, IsWrittenModule, IsWritten}
+use Rattle.smv_instantiate.specs.Written.{IsWrittenNumber, IsWrittenEnd, IsWrittenExpr, AreWritten, AreWrittenArms, IsWrittenPath, IsWrittenConstant, IsWrittenType, IsWrittenForm, IsWrittenDeclaration, IsWrittenDefinition, IsWrittenAssignment, IsWrittenSection, IsWrittenModule, IsWritten}
 use Rattle.smv_instantiate.proofs.Members.{Each, In, each_map, all_of_each, in_left, in_right, in_split}
 
 -- ---- tokens
@@ -22,7 +22,7 @@ use Rattle.smv_instantiate.proofs.Members.{Each, In, each_map, all_of_each, in_l
 -- a word is an atom, and a number no larger than the greatest
 abbrev IsFineKind : Kind → Type 0
 IsFineKind (Kind.word w) = IsAtom w
-IsFineKind (Kind.number n) = n ≤ 2147483647
+IsFineKind (Kind.number n) = unsigned_abs n ≤ 2147483647
 IsFineKind (Kind.key k) = Unit {0}
 IsFineKind (Kind.mark s) = Unit {0}
 
@@ -47,13 +47,13 @@ right_fine a b f t i = f t (in_right a b i)
 word_atom : (n : Name) (t : Placed) → Is (Kind.word n) t → IsFineKind t.kind → IsAtom n
 word_atom n t is f = subst IsFineKind is f
 
-number_small : (n : ℕ) (t : Placed) → Is (Kind.number n) t → IsFineKind t.kind → IsWrittenNumber n
+number_small : (n : ℕ) (t : Placed) → Is (Kind.number (pos n)) t → IsFineKind t.kind → IsWrittenNumber n
 number_small n t is f = subst IsFineKind is f
 
 lone_atom : (n : Name) (ts : List Placed) → Lone (Kind.word n) ts → AreFine ts → IsAtom n
 lone_atom n ts d f = word_atom n d.0 d.2 (first_fine d.0 [] (same_fine d.1 f))
 
-lone_small : (n : ℕ) (ts : List Placed) → Lone (Kind.number n) ts → AreFine ts → IsWrittenNumber n
+lone_small : (n : ℕ) (ts : List Placed) → Lone (Kind.number (pos n)) ts → AreFine ts → IsWrittenNumber n
 lone_small n ts d f = number_small n d.0 d.2 (first_fine d.0 [] (same_fine d.1 f))
 
 -- ---- expressions
@@ -171,6 +171,21 @@ range_written ts low high d f =
     let fine : AreFine (d.0 ∷ d.1 ∷ d.2 ∷ []) = same_fine d.3 f in
     (number_small low d.0 d.4 (fine d.0 In.first), number_small high d.2 d.6 (fine d.2 (In.later (In.later In.first))))
 
+end_written : (ts : List Placed) (e : ℤ) → DerivesEnd ts e → AreFine ts → IsWrittenEnd e
+end_written ts e (inl d) f = subst IsWrittenEnd (sym d.1) (lone_small d.0 ts d.2 f)
+end_written ts e (inr d) f =
+    let fine : AreFine (d.2 ∷ d.3 ∷ []) = same_fine d.4 f in
+    subst IsWrittenEnd (sym d.1) (opposite_small d.0 (number_small d.0 d.3 d.6 (fine d.3 (In.later In.first))))
+  where
+    opposite_small : (n : ℕ) → IsWrittenNumber n → IsWrittenEnd (neg_ℤ (pos n))
+    opposite_small zero h = h
+    opposite_small (suc n) h = h
+
+ends_written : (ts : List Placed) (low high : ℤ) → DerivesEnds ts low high → AreFine ts → IsWrittenEnd low × IsWrittenEnd high
+ends_written ts low high d f =
+    let fine : AreFine (d.1 ++ (d.0 ∷ d.2)) = same_fine d.3 f in
+    (end_written d.1 low d.4 (left_fine d.1 _ fine), end_written d.2 high d.6 (tail_fine d.0 d.2 (right_fine d.1 _ fine)))
+
 length_mapped : {A B : Type 0} (g : A → B) (xs : List A) → 0 < length xs → 0 < length (map g xs)
 length_mapped g [] h = absurd (omega (arith, h))
 length_mapped g (x ∷ xs) h = omega arith
@@ -184,7 +199,7 @@ mutual
   plain_form_written ts (parsed.PlainForm.enumeration constants) d f =
       let h = commas_written (OnLine DerivesConstant) (λ c. IsWrittenConstant (plain.constant c)) constant_written d.2 constants d.6 (left_fine d.2 _ (tail_fine d.0 _ (same_fine d.3 f))) in
       (length_mapped plain.constant constants h.0, mapped IsWrittenConstant plain.constant constants h.1)
-  plain_form_written ts (parsed.PlainForm.range low high) d f = range_written ts low high d f
+  plain_form_written ts (parsed.PlainForm.range low high) d f = ends_written ts low high d f
   plain_form_written ts (parsed.PlainForm.array low high element) d f =
       let fine : AreFine (d.2 ++ (d.1 ∷ d.3)) = tail_fine d.0 _ (same_fine d.4 f) in
       let bounds = range_written d.2 low high d.7 (left_fine d.2 _ fine) in
@@ -231,6 +246,7 @@ definition_written ts x d f =
 
 stated_written : (c : Condition) (line : ℕ) (e : tree.Tree) → IsWrittenExpr (plain.expr e) → IsWrittenExpr (plain.stated c line e).expr
 stated_written Condition.Init line e w = w
+stated_written Condition.Invar line e w = w
 stated_written Condition.Trans line e w = w
 stated_written Condition.Spec line e w = w
 stated_written Condition.Fairness line e w = w
@@ -266,8 +282,9 @@ piece_fine : (text : List ℕ) (kind : Option Kind) (at end line : ℕ) → Spel
 piece_fine text None at end line s small t i = elim i [ ]
 piece_fine text (Some (Kind.word w)) at end line s small t In.first = subst IsAtom s.0 s.1
 piece_fine text (Some (Kind.word w)) at end line s small t (In.later i) = elim i [ ]
-piece_fine text (Some (Kind.number n)) at end line s small t In.first = small
-piece_fine text (Some (Kind.number n)) at end line s small t (In.later i) = elim i [ ]
+piece_fine text (Some (Kind.number (pos n))) at end line s small t In.first = small
+piece_fine text (Some (Kind.number (pos n))) at end line s small t (In.later i) = elim i [ ]
+piece_fine text (Some (Kind.number (negsuc n))) at end line s small t i = absurd s
 piece_fine text (Some (Kind.key k)) at end line s small t In.first = tt
 piece_fine text (Some (Kind.key k)) at end line s small t (In.later i) = elim i [ ]
 piece_fine text (Some (Kind.mark k)) at end line s small t In.first = tt

@@ -7,7 +7,7 @@ use Rattle.smv_paths.specs.Expands.{Expands, Selects}
 
 -- ---- items
 
--- an assignment, or an `INIT`, `TRANS`, `SPEC` or `FAIRNESS`
+-- an assignment, or an `INIT`, `INVAR`, `TRANS`, `SPEC` or `FAIRNESS`
 pub data Item : Type 0 where
   Assigns : (a : Assigned) → Item
   States : (c : Stated) → Item
@@ -28,6 +28,7 @@ all_items p = flat_map (λ s. map (λ i. (s, i)) (flat_map section_items (module
 
 abbrev pub same_kind : Kind → Kind → Bool
 same_kind Kind.Init Kind.Init = true
+same_kind Kind.Invar Kind.Invar = true
 same_kind Kind.Trans Kind.Trans = true
 same_kind Kind.Spec Kind.Spec = true
 same_kind Kind.Fairness Kind.Fairness = true
@@ -71,6 +72,7 @@ pub record Flattens (p : Program) (m : System) : Type 0 where
   pub processes : m.processes ≡ processes p
   pub assigns : Matches (IsAssignment p) (assignments p) m.assigns
   pub inits : Matches (IsCondition p) (items_of Kind.Init p) m.inits
+  pub invars : Matches (IsCondition p) (items_of Kind.Invar p) m.invars
   pub trans : Matches (IsCondition p) (items_of Kind.Trans p) m.trans
   pub constraints : Matches (IsCondition p) (items_of Kind.Fairness p) m.constraints
   pub specs : Matches (IsCondition p) (items_of Kind.Spec p) m.specs

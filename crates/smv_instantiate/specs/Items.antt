@@ -21,12 +21,14 @@ plain_item (held.States condition expr line) = Item.States (plain.stated conditi
 -- the line of a condition, of the lines of its expression and of its section
 abbrev pub stated_line : Condition → ℕ → ℕ → ℕ
 stated_line Condition.Init expr section = expr
+stated_line Condition.Invar expr section = expr
 stated_line Condition.Trans expr section = expr
 stated_line Condition.Spec expr section = section
 stated_line Condition.Fairness expr section = expr
 
 abbrev pub kind_of : Condition → Kind
 kind_of Condition.Init = Kind.Init
+kind_of Condition.Invar = Kind.Invar
 kind_of Condition.Trans = Kind.Trans
 kind_of Condition.Spec = Kind.Spec
 kind_of Condition.Fairness = Kind.Fairness

@@ -41,6 +41,7 @@ count_rows upto c = rows c.kind
     rows Kind.Spec = above c.line Which.Specifications 256 (count_of Kind.Spec upto)
     rows Kind.Fairness = above c.line Which.Constraints 64 (count_of Kind.Fairness upto)
     rows Kind.Init = nothing
+    rows Kind.Invar = nothing
     rows Kind.Trans = nothing
 
 abbrev pub item_rows : Program → List Placed → Scope → Item → Refusal

@@ -1,11 +1,15 @@
--- What every parsed program keeps: its names are atoms, its numbers end at 2,147,483,647, no braces, no types and no `case` are empty.
-use Rattle.std.specs.Prelude.{ℕ, ◌<◌, ◌≤◌, length, All}
+-- What every parsed program keeps: its names are atoms, its numbers end at 2,147,483,647 and ends of ranges begin at -2,147,483,647, no braces, no types and no `case` are empty.
+use Rattle.std.specs.Prelude.{ℕ, ℤ, ◌<◌, ◌≤◌, unsigned_abs, length, All}
 use Rattle.kripke_model.specs.Names.{IsAtom}
 use Rattle.smv_instances.specs.Program.{Expr, Exprs, Path, Constant, Plain, Form, Declaration, Definition, Assigned, Stated, Section, Formal, Module, Program}
 use Rattle.smv_instances.specs.Program
 
 abbrev pub IsWrittenNumber : ℕ → Type 0
 IsWrittenNumber n = n ≤ 2147483647
+
+-- an end of a range
+abbrev pub IsWrittenEnd : ℤ → Type 0
+IsWrittenEnd z = unsigned_abs z ≤ 2147483647
 
 -- ---- expressions and paths
 
@@ -49,7 +53,7 @@ IsWrittenConstant (Constant.Truth b) = Unit {0}
 abbrev pub IsWrittenType : Plain → Type 0
 IsWrittenType Plain.Boolean = Unit {0}
 IsWrittenType (Plain.Enumeration constants) = (0 < length constants) × All IsWrittenConstant constants
-IsWrittenType (Plain.Range low high) = IsWrittenNumber low × IsWrittenNumber high
+IsWrittenType (Plain.Range low high) = IsWrittenEnd low × IsWrittenEnd high
 IsWrittenType (Plain.Array low high element) = IsWrittenNumber low × IsWrittenNumber high × IsWrittenType element
 
 abbrev pub IsWrittenForm : Form → Type 0

@@ -13,7 +13,7 @@ use smv_parser::{Assignment, Condition, Expr, Module, Path, Section, SectionKind
 use smv_paths::mentions::{Mention, push_index_mentions, push_mentions};
 use std::alloc::{AllocError, Global};
 
-/// An assignment, or the expression of an `INIT`, `TRANS`, `SPEC` or `FAIRNESS`.
+/// An assignment, or the expression of an `INIT`, `INVAR`, `TRANS`, `SPEC` or `FAIRNESS`.
 #[derive(Clone, Copy)]
 pub enum Item<'p> {
     Assigns(&'p Assignment),
@@ -57,7 +57,7 @@ fn condition_line(condition: Condition, expr: u32, section: u32) -> u32
 {
     match condition {
         Condition::Spec => section,
-        Condition::Init | Condition::Trans | Condition::Fairness => expr,
+        Condition::Init | Condition::Invar | Condition::Trans | Condition::Fairness => expr,
     }
 }
 

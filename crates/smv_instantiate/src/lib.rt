@@ -1,20 +1,20 @@
 //! From a parsed program to its flat model.
 #![tactic(auto)]
 
-pub mod bodies;
-pub mod checks;
-pub mod expansion;
-pub mod fronts;
-pub mod items;
-pub mod models;
+mod bodies;
+mod checks;
+mod expansion;
+mod fronts;
+mod items;
+mod models;
 pub mod names;
-pub mod operators;
-pub mod parts;
-pub mod passes;
-pub mod processes;
-pub mod totals;
-pub mod types;
-pub mod variables;
+mod operators;
+mod parts;
+mod passes;
+mod processes;
+mod totals;
+mod types;
+mod variables;
 
 ghost use Rattle.std.specs.Prelude.{◌≡◌, ◌≤◌, length};
 ghost use Rattle.kripke_model.specs.Flat.{IsFlat};
@@ -38,8 +38,8 @@ pub fn one_answer()
     ensures refused { (p : Program) (r q : FlatRefusal) → Refuses p r → Refuses p q → r ≡ q }
 {}
 
-/// A program that the parser gives for what the lexer gave has atoms as its names, numbers up to 2,147,483,647, and
-/// no empty braces, types or `case`.
+/// A program that the parser gives for what the lexer gave has atoms as its names, numbers up to 2,147,483,647, ends
+/// of ranges from -2,147,483,647, and no empty braces, types or `case`.
 pub fn written()
     ensures { (p : parsed.Program) → IsParsed p → IsWritten (program p) }
 {}

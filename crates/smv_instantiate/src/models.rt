@@ -85,6 +85,7 @@ fn model_of<'p>(
     let Parts {
         assigns,
         inits,
+        invars,
         trans,
         constraints,
         specs,
@@ -96,6 +97,7 @@ fn model_of<'p>(
         processes,
         assigns,
         inits,
+        invars,
         trans,
         constraints,
         specs,

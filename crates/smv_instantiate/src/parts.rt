@@ -31,6 +31,7 @@ use std::alloc::{AllocError, Global};
 pub struct Parts {
     pub assigns: Vec<Assign>,
     pub inits: Vec<FlatItem>,
+    pub invars: Vec<FlatItem>,
     pub trans: Vec<FlatItem>,
     pub constraints: Vec<FlatItem>,
     pub specs: Vec<FlatItem>,
@@ -107,6 +108,10 @@ fn push_condition(condition: Condition, flat: FlatItem, parts: &mut Parts) -> Re
             parts.inits.push(flat)?;
             Ok(())
         }
+        Condition::Invar => {
+            parts.invars.push(flat)?;
+            Ok(())
+        }
         Condition::Trans => {
             parts.trans.push(flat)?;
             Ok(())
@@ -178,6 +183,7 @@ fn no_parts(alloc: Global) -> Parts
     Parts {
         assigns: Vec::new(alloc),
         inits: Vec::new(alloc),
+        invars: Vec::new(alloc),
         trans: Vec::new(alloc),
         constraints: Vec::new(alloc),
         specs: Vec::new(alloc),

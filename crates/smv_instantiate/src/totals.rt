@@ -88,7 +88,7 @@ pub fn count_condition(
     ensures { (items : List Placed) (s : Scope) (c : Stated) → c.kind ≡ kind_of condition → c.line ≡ line → AreCounts totals.now items → Counts totals.now items (s, States c) (count_rows (items ++ (s, States c) ∷ []) c) result }
 {
     match condition {
-        Condition::Init | Condition::Trans => Ok(*totals),
+        Condition::Init | Condition::Invar | Condition::Trans => Ok(*totals),
         Condition::Spec => count_specification(line, totals),
         Condition::Fairness => count_constraint(line, totals),
     }

@@ -1,9 +1,10 @@
 //! The values of types, and the names of the elements of arrays.
 
-ghost use Rattle.std.specs.Prelude.{◌≡◌, ◌<◌, ◌≤◌, ◌+◌, ◌-◌, ◌^◌, ◌++◌, ◌∷◌, [], pos, map, length, not, All, IfOk, if◌then◌else◌, string_bytes};
+ghost use Rattle.std.specs.Prelude.{◌≡◌, ◌<◌, ◌≤◌, ◌+ℤ◌, ◌≤ℤ◌, ◌^◌, ◌++◌, ◌∷◌, [], pos, map, length, not, All, IfOk, if◌then◌else◌, string_bytes};
 ghost use Rattle.kripke_model.specs.Evaluation.{among, distinct};
 ghost use Rattle.kripke_model.specs.declared.expressions.Value.TheVariants.{Number};
 ghost use Rattle.smv_instances.specs.Plain.{plain_constant, plain_type};
+ghost use Rattle.smv_instances.specs.Instances as tree;
 ghost use Rattle.smv_instances.specs.Instances.{value_of, type_values, rising, indexed, element_names};
 ghost use Rattle.smv_instantiate.specs.Written.{IsWrittenConstant, IsWrittenType};
 ghost use Rattle.smv_instantiate.specs.Types.{IsNamed, AreNamed};
@@ -11,6 +12,7 @@ ghost use Rattle.smv_instantiate.specs.Types.{IsNamed, AreNamed};
 use kripke_model::Name;
 use kripke_model::expressions::Value;
 use smv_instances::names::Names;
+use smv_instances::types::integer_count;
 use smv_parser::{Constant, ConstantKind, Plain, PlainKind};
 use std::alloc::{AllocError, Global};
 
@@ -70,13 +72,20 @@ pub fn number_value(number: u32) -> Value
     Value::Number(number as i32)
 }
 
-fn range_values(alloc: Global, low: u32, high: u32) -> Result<Vec<Value>, AllocError>
-    requires { high ≤ 2147483647 }
-    ensures { IfOk result (λ values. values.items ≡ map (λ n. Number (pos n)) (rising low (high + 1 - low))) }
+/// The value that is so many above a number.
+fn value_above(low: i32, steps: u64) -> Value
+    requires { (low +ℤ pos steps) ≤ℤ pos 2147483647 }
+    ensures { result ≡ Number (low +ℤ pos steps) }
+{
+    Value::Number((i64::from(low) + steps as i64) as i32)
+}
+
+fn range_values(alloc: Global, low: i32, high: i32) -> Result<Vec<Value>, AllocError>
+    ensures { IfOk result (λ values. values.items ≡ map (λ k. Number (low +ℤ pos k)) (rising 0 (tree.integer_count low high))) }
 {
     let mut values = Vec::new(alloc);
-    for number in low..high + 1 {
-        values.push(number_value(number))?;
+    for steps in 0..integer_count(low, high) {
+        values.push(value_above(low, steps))?;
     }
     Ok(values)
 }

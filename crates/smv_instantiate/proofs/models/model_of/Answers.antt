@@ -25,6 +25,7 @@ returns c = λ p all vars parts.
           (subst (λ (ns : List ℕ). Pairs (λ n d. slice_get (instances p) n ≡ Some d) ns (filter is_process (instances p))) (sym c.deref-2.ensures.value) all.entered);
       assigns = parts.assigns;
       inits = parts.inits;
+      invars = parts.invars;
       trans = parts.trans;
       constraints = parts.constraints;
       specs = parts.specs;
