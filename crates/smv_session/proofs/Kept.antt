@@ -65,7 +65,7 @@ module _ (s : Session) (text : List ℕ) (status : Status) (foreseen : Foresees 
   own_grew : (fault : Fault) (name : List ℕ) → Came fault name s.contents s.file_faults s.file_faults_after → FilesGrew s → Grew s fault
   own_grew LoadFailed name came (inl grew) = grew
   own_grew LoadFailed name came (inr grew) = absurd (omega (arith, grew, came.1))
-  own_grew LoadMissing name came (inl grew) = absurd (omega (arith, grew, came.1.0))
+  own_grew LoadMissing name came (inl grew) = absurd (omega (arith, grew, came.1))
   own_grew LoadMissing name came (inr grew) = grew
 
   -- a fault line that was put has come
