@@ -1,14 +1,13 @@
 -- The fair paths of a model, and all its paths, as paths that are fair to numbered constraints.
-use Rattle.std.proofs.Common.{ℕ, ◌<◌, ◌≤◌, length, get_or, subst, arith, Any}
+use Rattle.std.proofs.Common.{ℕ, ◌<◌, length, get_or, subst, arith, Any}
 use Rattle.std.proofs.lemmas.List.{get_or_default}
 use Rattle.kripke_model.specs.Term.{Term}
 use Rattle.kripke_model.specs.Ctl.{formula_of}
 use Rattle.kripke_model.specs.System.{System, State, Condition}
 use Rattle.kripke_model.specs.Path.{Lasso, IsPath}
 use Rattle.kripke_model.specs.Truth.{FreeSat, IsFair}
-use Rattle.kripke_model.specs.Walk.{IsFairWalk}
 use Rattle.path_laws.specs.Fairness.{ConstraintHolds}
-use Rattle.path_laws.specs.Fairness.{IsFairOver, IsWalkOver}
+use Rattle.path_laws.specs.Fairness.{IsFairOver}
 
 absent : Condition
 absent = record { expr = Term.Running 0; line = 0 }

@@ -63,17 +63,22 @@ module _ (m : System) (visited avoided : List StateSet) (sets : AreConstraintSet
       let b = fair_set_sound m (length m.constraints) (ConstraintHolds m) visited avoided sets set reaches fair s is_state inside in
       (b.0, to_fair m b.0 b.1, b.2, b.3)
 
-  -- where a fair set and nonfair layers together have every state, the fair set is where fair paths begin
-  pub fair_exact : (layers : List Layer) → AreNonfair m avoided layers → (set : StateSet) (reaches : List (List StateSet)) → IsFairSet m visited set reaches
-      → ((s : State) → IsState m s → (s ∈ set) ⊎ InSomeLayer layers s)
-      → (s : State) → IsState m s → (s ∈ set) ↔ ((p : Lasso) × IsFair m p × (at p 0 ≡ s))
-  fair_exact layers nonfair set reaches fair cover s is_state = (
+  -- where a fair set and nonfair layers together have a state, a fair path begins there exactly where it is in the fair set
+  pub fair_exact_at : (layers : List Layer) → AreNonfair m avoided layers → (set : StateSet) (reaches : List (List StateSet)) → IsFairSet m visited set reaches
+      → (s : State) → IsState m s → (s ∈ set) ⊎ InSomeLayer layers s → (s ∈ set) ↔ ((p : Lasso) × IsFair m p × (at p 0 ≡ s))
+  fair_exact_at layers nonfair set reaches fair s is_state cover = (
     λ inside. let b = fair_path set reaches fair s is_state inside in (b.0, b.1, b.2),
-    λ (p, is_fair, starts). elim (cover s is_state) [
+    λ (p, is_fair, starts). elim cover [
       | inl inside ↦ inside
       | inr lost ↦ absurd (no_fair_path layers nonfair s lost p is_fair starts)
     ],
   )
+
+  -- so where they have every state, the fair set is where fair paths begin
+  pub fair_exact : (layers : List Layer) → AreNonfair m avoided layers → (set : StateSet) (reaches : List (List StateSet)) → IsFairSet m visited set reaches
+      → ((s : State) → IsState m s → (s ∈ set) ⊎ InSomeLayer layers s)
+      → (s : State) → IsState m s → (s ∈ set) ↔ ((p : Lasso) × IsFair m p × (at p 0 ≡ s))
+  fair_exact layers nonfair set reaches fair cover s is_state = fair_exact_at layers nonfair set reaches fair s is_state (cover s is_state)
 
 -- the same over all paths: no constraint, so all states are visited
 module _ (m : System) (C : ℕ → State → Type 0) (visited avoided : List StateSet) (sets : AreConstraintSets m 0 C visited avoided) where

@@ -1,15 +1,14 @@
 -- Truth over fair lassos is truth over all fair walks.
-use Rattle.std.proofs.Common.{◌≡◌, ℕ, true, false, Option, Some, None, IfSome, length, sym, subst, arith}
+use Rattle.std.proofs.Common.{◌≡◌, ℕ, true, false, Option, Some, None, IfSome, sym, subst, arith}
 use Rattle.kripke_model.specs.declared.expressions.PathOp.{PathOp}
 use Rattle.kripke_model.specs.Ctl.{Ctl}
 use Rattle.kripke_model.specs.System.{System, State}
 use Rattle.kripke_model.specs.Path.{Lasso, at}
 use Rattle.kripke_model.specs.Truth.{IsFair, Sat}
 use Rattle.kripke_model.specs.Walk.{IsFairWalk}
-use Rattle.path_laws.specs.Fairness.{ConstraintHolds}
 use Rattle.fair_rules.specs.WalkConditions.{AgreesWith}
 use Rattle.path_laws.proofs.FairLasso.{fair_lasso_of}
-use Rattle.path_laws.proofs.WalkLasso.{Follows, walk_lasso}
+use Rattle.path_laws.proofs.WalkLasso.{Follows}
 
 module _ (m : System) (w : ℕ → State) (fair : IsFairWalk m w) where
   lasso : (far : ℕ) → (p : Lasso) × IsFair m p × Follows p w far

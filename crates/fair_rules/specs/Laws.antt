@@ -1,6 +1,5 @@
 -- What the rules prove, as statements on a model.
-use Rattle.std.specs.Prelude.{◌≡◌, ◌⊎◌, ◌↔◌, ℕ, ◌<◌, ◌≤◌, true, false, List, length, All, slice_index_or, []}
-use Rattle.kripke_model.specs.Term.{has_path_operator}
+use Rattle.std.specs.Prelude.{◌≡◌, ◌⊎◌, ◌↔◌, ℕ, true, false, List, length}
 use Rattle.kripke_model.specs.Ctl.{Ctl}
 use Rattle.kripke_model.specs.System.{System, State}
 use Rattle.kripke_model.specs.Step.{IsState}
@@ -65,7 +64,3 @@ FreeProofsSound m = (proofs : ℕ → Proof) → AreFreeProofs m proofs → AreM
 -- a formula that a fair path falsifies is false where the path begins
 abbrev pub FalsifiedFalse : System → Type 0
 FalsifiedFalse m = (p : Lasso) → IsFair m p → (f : Ctl) → FalsifiesFrom m (at p) f 0 → Sat m f (at p 0) → ⊥
-
--- constraints without path operators
-abbrev pub HasLeafConstraints : System → Type 0
-HasLeafConstraints m = All (λ c. has_path_operator c.expr ≡ false) m.constraints

@@ -1,5 +1,5 @@
 -- Lists of sets of states, read by place, and what a state's next states have.
-use Rattle.std.specs.Prelude.{ℕ, ◌<◌, Bool, true, false, List, slice_index_or}
+use Rattle.std.specs.Prelude.{ℕ, ◌<◌, true, false, List, slice_index_or}
 use Rattle.kripke_model.specs.System.{System, State}
 use Rattle.kripke_model.specs.Step.{IsState, Step}
 use Rattle.path_laws.specs.StateSet.{StateSet, ◌∈◌}

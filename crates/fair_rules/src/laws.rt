@@ -1,9 +1,10 @@
 //! Laws of the definitions. The functions compute nothing.
 
 ghost use Rattle.std.specs.Prelude.{IfSome, IsSome};
-ghost use Rattle.fair_rules.specs.Laws.{AreModelSets, BlocksSound, ClaimsSound, FairSetExact, FairSetSound, FalsifiedFalse, FreeProofsSound, HasLeafConstraints, NonfairSound, ProofsExact, ProofsSound};
+ghost use Rattle.fair_rules.specs.Laws.{AreModelSets, BlocksSound, ClaimsSound, FairSetExact, FairSetSound, FalsifiedFalse, FreeProofsSound, NonfairSound, ProofsExact, ProofsSound};
 ghost use Rattle.fair_rules.specs.LeafConstraints.{avoided_sets, visited_sets};
 ghost use Rattle.fair_rules.specs.WalkConditions.{AgreesWith, node_at};
+ghost use Rattle.kripke_model.specs.Leaves.{HasLeafConstraints};
 ghost use Rattle.kripke_model.specs.WellFormed.{ctl_of};
 ghost use Rattle.kripke_model.specs.Walk.{IsFairWalk};
 

@@ -1,7 +1,7 @@
 -- The leaves of an accepted model's formulas have values.
-use Rattle.std.proofs.Common.{◌≡◌, refl, sym, subst, Bool, true, false, inl, inr, get_or}
-use Rattle.std.specs.Prelude.{not, cond, if◌then◌else◌, Any, IsFalse}
-use Rattle.std.proofs.lemmas.Bool.{and_parts, and_from}
+use Rattle.std.proofs.Common.{◌≡◌, refl, sym, subst, List, Bool, true, false, inl, inr, get_or}
+use Rattle.std.specs.Prelude.{not, cond, if◌then◌else◌, All, Any, IsFalse}
+use Rattle.std.proofs.lemmas.Bool.{and_parts}
 use Rattle.kripke_model.specs.declared.expressions.BinOp.{BinOp}
 use Rattle.kripke_model.specs.declared.refusals.StaticRefusal.{StaticRefusal}
 use Rattle.kripke_model.specs.Term.{Term, has_path_operator}
@@ -11,9 +11,9 @@ use Rattle.kripke_model.specs.Evaluable.{IsEvaluable}
 use Rattle.kripke_model.specs.Flat.{IsFlat, IsSound}
 use Rattle.kripke_model.specs.Leaves.{IsLeafOf, IsModelLeaf}
 use Rattle.kripke_model.specs.Refusing.{Silent}
-use Rattle.kripke_model.specs.Static.{HasFormula, is_formula, formula_not_allowed}
-use Rattle.kripke_model.proofs.SoundLemmas.{evaluable, left_false, right_false}
-use Rattle.kripke_model.proofs.RuledLemmas.{silent_first, silent_second, never_in, constraints_sound, specs_sound, untrue}
+use Rattle.kripke_model.specs.Static.{is_formula, formula_not_allowed, refused_condition}
+use Rattle.kripke_model.proofs.SoundLemmas.{evaluable}
+use Rattle.kripke_model.proofs.RuledLemmas.{silent_first, silent_second, never_in, constraints_sound, specs_sound}
 
 -- a leaf of `leaf_or e f` is e, where that has no path operator, or one of f
 either_leaf : (m : System) (t e : Term) (f : Ctl) → IsSound m e → (IsLeafOf t f → IsEvaluable m t) → IsLeafOf t (leaf_or e f) → IsEvaluable m t
@@ -72,57 +72,17 @@ leaf_known m t (Term.Until all a b) sound allowed h =
     let p = and_parts (is_formula a) (is_formula b) allowed in
     elim h [ inl x ↦ leaf_known m t a sound.0 p.0 x | inr y ↦ leaf_known m t b sound.1 p.1 y ]
 
-negated : (b : Bool) → b ≡ false → not b ≡ true
-negated false h = refl
-negated true h = absurd (subst (λ (b : Bool). cond b (Unit {0}) ⊥) h tt)
-
--- what has no path operator is a formula
-clear_formula : (e : Term) → has_path_operator e ≡ false → is_formula e ≡ true
-clear_formula (Term.Const v) clear = refl
-clear_formula (Term.Var x) clear = refl
-clear_formula (Term.Running p) clear = refl
-clear_formula (Term.Next e) clear = negated (has_path_operator e) clear
-clear_formula (Term.Braces es) clear = negated (has_path_operator (Term.Braces es)) clear
-clear_formula (Term.Case arms) clear = negated (has_path_operator (Term.Case arms)) clear
-clear_formula (Term.Not e) clear = clear_formula e clear
-clear_formula (Term.Binary BinOp.And a b) clear = and_from (is_formula a) (is_formula b) (clear_formula a (left_false (has_path_operator a) (has_path_operator b) clear)) (clear_formula b (right_false (has_path_operator a) (has_path_operator b) clear))
-clear_formula (Term.Binary BinOp.Or a b) clear = and_from (is_formula a) (is_formula b) (clear_formula a (left_false (has_path_operator a) (has_path_operator b) clear)) (clear_formula b (right_false (has_path_operator a) (has_path_operator b) clear))
-clear_formula (Term.Binary BinOp.Implies a b) clear = and_from (is_formula a) (is_formula b) (clear_formula a (left_false (has_path_operator a) (has_path_operator b) clear)) (clear_formula b (right_false (has_path_operator a) (has_path_operator b) clear))
-clear_formula (Term.Binary BinOp.Iff a b) clear = and_from (is_formula a) (is_formula b) (clear_formula a (left_false (has_path_operator a) (has_path_operator b) clear)) (clear_formula b (right_false (has_path_operator a) (has_path_operator b) clear))
-clear_formula (Term.Binary BinOp.Mul a b) clear = negated (has_path_operator (Term.Binary BinOp.Mul a b)) clear
-clear_formula (Term.Binary BinOp.Div a b) clear = negated (has_path_operator (Term.Binary BinOp.Div a b)) clear
-clear_formula (Term.Binary BinOp.Add a b) clear = negated (has_path_operator (Term.Binary BinOp.Add a b)) clear
-clear_formula (Term.Binary BinOp.Sub a b) clear = negated (has_path_operator (Term.Binary BinOp.Sub a b)) clear
-clear_formula (Term.Binary BinOp.Mod a b) clear = negated (has_path_operator (Term.Binary BinOp.Mod a b)) clear
-clear_formula (Term.Binary BinOp.Union a b) clear = negated (has_path_operator (Term.Binary BinOp.Union a b)) clear
-clear_formula (Term.Binary BinOp.Member a b) clear = negated (has_path_operator (Term.Binary BinOp.Member a b)) clear
-clear_formula (Term.Binary BinOp.Eq a b) clear = negated (has_path_operator (Term.Binary BinOp.Eq a b)) clear
-clear_formula (Term.Binary BinOp.Lt a b) clear = negated (has_path_operator (Term.Binary BinOp.Lt a b)) clear
-clear_formula (Term.Binary BinOp.Gt a b) clear = negated (has_path_operator (Term.Binary BinOp.Gt a b)) clear
-clear_formula (Term.Binary BinOp.Le a b) clear = negated (has_path_operator (Term.Binary BinOp.Le a b)) clear
-clear_formula (Term.Binary BinOp.Ge a b) clear = negated (has_path_operator (Term.Binary BinOp.Ge a b)) clear
-clear_formula (Term.Quant op e) clear = absurd (subst (λ (b : Bool). cond b (Unit {0}) ⊥) clear tt)
-clear_formula (Term.Until all a b) clear = absurd (subst (λ (b : Bool). cond b (Unit {0}) ⊥) clear tt)
-
 not_false : (b : Bool) → (IsFalse b → ⊥) → b ≡ true
 not_false true never = refl
 not_false false never = absurd (never refl)
 
 module _ (m : System) (flat : IsFlat m) (allowed : Silent (formula_not_allowed m)) where
-  in_constraint : (t : Term) → Any (λ c. IsLeafOf t (formula_of c.expr)) m.constraints → IsEvaluable m t
-  in_constraint t h =
-      let clear = untrue (has_path_operator (get_or m.constraints h.0 h.1).expr)
-      (never_in (λ (c : Condition). StaticRefusal.FormulaNotAllowed c.line) (λ (c : Condition). HasFormula c.expr) m.constraints (silent_first (silent_second (silent_second (silent_second (silent_second allowed))))) h.0 h.1 h.2) in
-      leaf_known m t (get_or m.constraints h.0 h.1).expr (constraints_sound m flat h.0 h.1 h.2) (clear_formula (get_or m.constraints h.0 h.1).expr clear)
-      (subst (λ (c : Condition). IsLeafOf t (formula_of c.expr)) (sym h.3) h.4)
-
-  in_spec : (t : Term) → Any (λ c. IsLeafOf t (formula_of c.expr)) m.specs → IsEvaluable m t
-  in_spec t h =
-      let formula = not_false (is_formula (get_or m.specs h.0 h.1).expr)
-      (never_in (λ (c : Condition). StaticRefusal.FormulaNotAllowed c.line) (λ (c : Condition). IsFalse (is_formula c.expr)) m.specs (silent_second (silent_second (silent_second (silent_second (silent_second allowed))))) h.0 h.1 h.2) in
-      leaf_known m t (get_or m.specs h.0 h.1).expr (specs_sound m flat h.0 h.1 h.2) formula
-      (subst (λ (c : Condition). IsLeafOf t (formula_of c.expr)) (sym h.3) h.4)
+  in_formula : (cs : List Condition) → All (λ c. IsSound m c.expr) cs → Silent (refused_condition StaticRefusal.FormulaNotAllowed (λ e. IsFalse (is_formula e)) cs)
+      → (t : Term) → Any (λ c. IsLeafOf t (formula_of c.expr)) cs → IsEvaluable m t
+  in_formula cs sound silent t h =
+      let formula = not_false (is_formula (get_or cs h.0 h.1).expr) (never_in (λ (c : Condition). StaticRefusal.FormulaNotAllowed c.line) (λ (c : Condition). IsFalse (is_formula c.expr)) cs silent h.0 h.1 h.2) in
+      leaf_known m t (get_or cs h.0 h.1).expr (sound h.0 h.1 h.2) formula (subst (λ (c : Condition). IsLeafOf t (formula_of c.expr)) (sym h.3) h.4)
 
   pub leaf_evaluable : (t : Term) → IsModelLeaf m t → IsEvaluable m t
-  leaf_evaluable t (inl h) = in_constraint t h
-  leaf_evaluable t (inr h) = in_spec t h
+  leaf_evaluable t (inl h) = in_formula m.constraints (constraints_sound m flat) (silent_first (silent_second (silent_second (silent_second (silent_second allowed))))) t h
+  leaf_evaluable t (inr h) = in_formula m.specs (specs_sound m flat) (silent_second (silent_second (silent_second (silent_second (silent_second allowed))))) t h

@@ -99,6 +99,9 @@ module _ (m : System) (flat : IsFlat m) where
   conditions_evaluable cs sound silent k d below =
       evaluable m (get_or cs k d).expr (sound k d below) (untrue (has_path_operator (get_or cs k d).expr) (never_in (λ (c : Condition). StaticRefusal.FormulaNotAllowed c.line) (λ (c : Condition). HasFormula c.expr) cs silent k d below))
 
+  pub constraints_evaluable : All (λ c. has_path_operator c.expr ≡ false → IsEvaluable m c.expr) m.constraints
+  constraints_evaluable k d below clear = evaluable m (get_or m.constraints k d).expr (constraints_sound k d below) clear
+
   module _ (allowed : Silent (formula_not_allowed m)) where
     pub rights_evaluable : All (λ a. IsEvaluable m a.right) m.assigns
     rights_evaluable k d below =
@@ -113,6 +116,3 @@ module _ (m : System) (flat : IsFlat m) where
 
     pub trans_evaluable : All (λ c. IsEvaluable m c.expr) m.trans
     trans_evaluable = conditions_evaluable m.trans trans_sound (silent_first (silent_second (silent_second (silent_second allowed))))
-
-    pub constraints_evaluable : All (λ c. IsEvaluable m c.expr) m.constraints
-    constraints_evaluable = conditions_evaluable m.constraints constraints_sound (silent_first (silent_second (silent_second (silent_second (silent_second allowed)))))

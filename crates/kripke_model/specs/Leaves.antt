@@ -1,6 +1,6 @@
 -- The leaves of a model's formulas.
-use Rattle.std.specs.Prelude.{◌≡◌, ◌⊎◌, Any}
-use Rattle.kripke_model.specs.Term.{Term}
+use Rattle.std.specs.Prelude.{◌≡◌, ◌⊎◌, false, All, Any}
+use Rattle.kripke_model.specs.Term.{Term, has_path_operator}
 use Rattle.kripke_model.specs.Ctl.{Ctl, formula_of}
 use Rattle.kripke_model.specs.System.{System}
 
@@ -17,3 +17,7 @@ IsLeafOf t (Ctl.Until all f g) = IsLeafOf t f ⊎ IsLeafOf t g
 -- the expression is a leaf of a constraint or of a specification
 abbrev pub IsModelLeaf : System → Term → Type 0
 IsModelLeaf m t = Any (λ c. IsLeafOf t (formula_of c.expr)) m.constraints ⊎ Any (λ c. IsLeafOf t (formula_of c.expr)) m.specs
+
+-- each constraint is a leaf
+abbrev pub HasLeafConstraints : System → Type 0
+HasLeafConstraints m = All (λ c. has_path_operator c.expr ≡ false) m.constraints

@@ -1,6 +1,7 @@
 //! Looping paths, copies and readers, on the model in which x rises when go is 1.
 
 ghost use Rattle.std.specs.Prelude.{◌≡◌};
+ghost use Rattle.kripke_model.specs.Leaves.{HasLeafConstraints};
 ghost use Rattle.kripke_model.specs.Reading.{term_of};
 ghost use Rattle.kripke_model.specs.Term.{Term};
 ghost use Rattle.kripke_model.specs.declared.expressions.Value.TheVariants.{Number};
@@ -12,7 +13,7 @@ use kripke_model::states::{Lasso, State};
 use kripke_model::walks::lasso_law;
 use sample_models::small::RISES;
 use single_states::evaluation::{is_state, runs};
-use single_states::steps::{holds, is_fair_path, item_holds};
+use single_states::steps::{has_leaf_constraints, holds, is_fair_path, is_path, item_holds};
 use std::alloc::{AllocError, Global};
 use std::test::Fail;
 
@@ -50,14 +51,21 @@ fn counts(model: &Ruled) -> [usize; 5] {
     ]
 }
 
-/// Whether each constraint holds at s.
-fn constraints_hold(model: &Ruled, s: &State) -> bool {
+/// Whether each constraint, which holds no path operator, holds at s.
+fn constraints_hold(model: &Ruled, s: &State) -> bool
+    requires { HasLeafConstraints model.now }
+{
     for item in model.constraints() {
         if !item_holds(model, item, s, s) {
             return false;
         }
     }
     true
+}
+
+/// Whether each constraint is a leaf and holds at s.
+fn leaf_constraints_hold(model: &Ruled, s: &State) -> bool {
+    has_leaf_constraints(model) && constraints_hold(model, s)
 }
 
 /// Whether 1 is a value of each variable.
@@ -70,7 +78,8 @@ fn all_have_one(model: &Ruled) -> bool {
     true
 }
 
-/// Go is 1 for ever on the fair path, and x is 1 from the second state on. On the other one go is never 1.
+/// Go is 1 for ever on the fair path, and x is 1 from the second state on. On the unfair one go is never 1. The broken one
+/// leaves x at 0 where go is 1.
 #[test]
 fn paths_copies_and_readers(rt: HostRuntime) -> Result<(), Fail> {
     let alloc = rt.alloc();
@@ -79,9 +88,15 @@ fn paths_copies_and_readers(rt: HostRuntime) -> Result<(), Fail> {
     };
     let outside = state(alloc, 2, 0)?;
     assert!(rt; !is_state(&model, &outside));
+    if !has_leaf_constraints(&model) {
+        return Err(Fail::new("a constraint holds a path operator"));
+    }
     let s = state(alloc, 0, 1)?;
     let unfair = lasso(alloc, Vec::new(alloc), 0, 0)?;
+    assert!(rt; is_path(&model, &unfair));
     assert!(rt; !is_fair_path(&model, &unfair));
+    let broken = lasso(alloc, vec![in alloc; s.copy(alloc)?]?, 0, 0)?;
+    assert!(rt; !is_path(&model, &broken));
     let fair = lasso(alloc, vec![in alloc; s.copy(alloc)?]?, 1, 1)?;
     assert!(rt; is_fair_path(&model, &fair));
     lasso_law(&model, &fair);
@@ -91,7 +106,7 @@ fn paths_copies_and_readers(rt: HostRuntime) -> Result<(), Fail> {
         [
             model.has_selector(),
             runs(&model, &s, 0),
-            constraints_hold(&model, &s),
+            leaf_constraints_hold(&model, &s),
             all_have_one(&model),
             holds(&model, &number(1), &s, &s)
         ],

@@ -3,6 +3,7 @@ use Rattle.std.specs.Prelude.{◌≡◌, ◌⊎◌, ℕ, ◌+◌, ◌-◌, ◌<�
 use Rattle.std.specs.List.{position}
 use Rattle.kripke_model.specs.System.{System, State, Variable}
 use Rattle.kripke_model.specs.declared.expressions.Value.{Value}
+use Rattle.kripke_model.specs.Term.{has_path_operator}
 use Rattle.kripke_model.specs.Evaluation.{Holds, same}
 use Rattle.path_laws.specs.StateSet.{StateSet}
 use Rattle.region_sets.specs.declared.pins.Pin.{Pin}
@@ -91,6 +92,10 @@ IsCount pins live = (slots : List ℕ) × AreDistinct slots × (length slots ≡
 -- where no constraint is declared there is one
 abbrev pub constraint_count : System → ℕ
 constraint_count m = max 1 (length m.constraints)
+
+-- constraint k, counted from 1, holds no path operator
+abbrev pub IsLeafConstraint : System → ℕ → Type 0
+IsLeafConstraint m k = MatchOption (slice_get m.constraints (k - 1)) (Unit {0}) (λ c. has_path_operator c.expr ≡ false)
 
 -- constraint k, counted from 1, is true
 abbrev pub MeetsConstraint : System → ℕ → State → Type 0

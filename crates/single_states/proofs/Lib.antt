@@ -9,3 +9,4 @@ mod StepLemmas
 mod PushLemmas
 mod OutcomeLemmas
 mod Sections
+mod FormulaLemmas

@@ -1,14 +1,14 @@
 -- The definitions on a model with a set-valued next value, a current value, an `INIT` and a `TRANS`:
 -- `z := x; next(y) := {y, 2};`, `INIT y = 0` and `TRANS x -> !next(x)`.
-use Rattle.std.proofs.Common.{◌≡◌, ℕ, zero, suc, false, List, [], ◌∷◌, refl, sym, ap, arith, lit<}
+use Rattle.std.proofs.Common.{◌≡◌, ℕ, zero, suc, false, List, [], ◌∷◌, refl, ap, arith, lit<}
 use Rattle.std.specs.Prelude.{Contains, IsTrue, Ok}
 use Rattle.std.proofs.lemmas.List.Elements.{All-nil, All-from_recursion}
 use Rattle.kripke_model.specs.declared.expressions.Value.{Value}
 use Rattle.kripke_model.specs.declared.expressions.BinOp.{BinOp}
 use Rattle.kripke_model.specs.declared.models.Part.{Part}
 use Rattle.kripke_model.specs.Term.{Term, none, more}
-use Rattle.kripke_model.specs.System.{System, Variable, Assignment, Condition, State, value_in}
-use Rattle.kripke_model.specs.Evaluation.{Checked, eval, runs, Holds}
+use Rattle.kripke_model.specs.System.{System, Assignment, Condition, State, value_in}
+use Rattle.kripke_model.specs.Evaluation.{Checked, runs, Holds}
 use Rattle.kripke_model.specs.Step.{Step, Initial, IsValueOf, IsCurrent, IsDriven, HasNext}
 use Rattle.kripke_model.proofs.Latch.{num, bit, Contains-only}
 use Rattle.kripke_model.proofs.Examples.{constant, main_name, is_only}

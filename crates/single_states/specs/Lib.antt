@@ -1,3 +1,4 @@
 pub mod Braces
 pub mod Summary
 pub mod Outcomes
+pub mod Formulas

@@ -5,16 +5,19 @@ ghost use Rattle.kripke_model.specs.declared.expressions.Value.{Value};
 ghost use Rattle.kripke_model.specs.declared.models.Part.{Part};
 ghost use Rattle.kripke_model.specs.Evaluable.{IsEvaluable};
 ghost use Rattle.kripke_model.specs.Evaluation.{Holds, runs};
+ghost use Rattle.kripke_model.specs.Leaves.{HasLeafConstraints};
 ghost use Rattle.kripke_model.specs.Reading.{term_of};
 ghost use Rattle.kripke_model.specs.Step.{IsValueOf, IsCurrent, IsInvariant, Assigned, IsDriven, HasNext, Initial, Step};
 ghost use Rattle.kripke_model.specs.Path.{IsPath};
 ghost use Rattle.kripke_model.specs.Truth.{IsFair};
 ghost use Rattle.kripke_model.specs.System.{value_in};
+ghost use Rattle.kripke_model.specs.WellFormed.{ctl_of};
 ghost use Rattle.single_states.specs.Braces.{IsFilled};
+ghost use Rattle.single_states.specs.Formulas.{is_leaf};
 
 use crate::evaluation::{is_state, runs, single_of};
 use crate::valuation::{has, summarize};
-use kripke_model::expressions::{Expr, Value};
+use kripke_model::expressions::{Expr, Formula, Value};
 use kripke_model::models::{Assign, Item, Part, Ruled};
 use kripke_model::states::{Lasso, State};
 
@@ -192,8 +195,9 @@ pub fn is_step(model: &Ruled, s: &State, t: &State) -> bool
         && is_invariant(model, t)
 }
 
-/// Whether each member is a state of the model and steps to the one that comes next.
-fn is_path(model: &Ruled, lasso: &Lasso) -> bool
+/// Whether the lasso is an infinite path of the model: the cycle is not empty, and each member is a state and steps to
+/// the one that comes next, which after the last one is the cycle's first. Constraints are not asked for.
+pub fn is_path(model: &Ruled, lasso: &Lasso) -> bool
     ensures { IsTrue result ↔ IsPath model.now lasso.now }
 {
     if !lasso.has_cycle() {
@@ -238,9 +242,31 @@ fn all_visited(model: &Ruled, items: &[Item], states: &[State]) -> bool
     true
 }
 
+/// Whether each formula is a leaf.
+fn are_leaves(formulas: &[Formula]) -> bool
+    ensures { IsTrue result ↔ All (λ f. IsTrue (is_leaf (ctl_of f))) formulas.now }
+{
+    for formula in formulas {
+        if !matches!(formula, Formula::Leaf(_)) {
+            return false;
+        }
+    }
+    true
+}
+
+/// Whether no constraint of the model holds a path operator, as `is_fair_path` asks for.
+pub fn has_leaf_constraints(model: &Ruled) -> bool
+    ensures { IsTrue result ↔ HasLeafConstraints model.now }
+{
+    model.rules_law();
+    are_leaves(model.fair())
+}
+
 /// Whether the lasso is an infinite path of the model, with a cycle that is not empty, on which each constraint holds
-/// somewhere on the cycle, and so infinitely often.
+/// somewhere on the cycle, and so infinitely often. A constraint with a path operator can't be tested at one state, so
+/// there may be none.
 pub fn is_fair_path(model: &Ruled, lasso: &Lasso) -> bool
+    requires leaves { HasLeafConstraints model.now }
     ensures { IsTrue result ↔ IsFair model.now lasso.now }
 {
     is_path(model, lasso) && all_visited(model, model.constraints(), lasso.cycle())

@@ -121,34 +121,6 @@ joined_by false false op a b c d k f g =
 pub joined_is : (op : BinOp) (a b : Term) → is_connective op ≡ true → is_formula a ≡ true → is_formula b ≡ true → joined op (formula_of a) (formula_of b) ≡ formula_of (Term.Binary op a b)
 joined_is op a b k f g = joined_by (has_path_operator a) (has_path_operator b) op a b refl refl k f g
 
-left_false : (a b : Bool) → (a || b) ≡ false → a ≡ false
-left_false false b e = refl
-left_false true b e = absurd (differ (sym e))
-
-right_false : (a b : Bool) → (a || b) ≡ false → b ≡ false
-right_false false b e = e
-right_false true b e = absurd (differ (sym e))
-
-binary_formula : (op : BinOp) (a b : Term) → has_path_operator (Term.Binary op a b) ≡ false → is_formula a ≡ true → is_formula b ≡ true → is_formula (Term.Binary op a b) ≡ true
-binary_formula BinOp.And a b c f g = λ i. f i && g i
-binary_formula BinOp.Or a b c f g = λ i. f i && g i
-binary_formula BinOp.Implies a b c f g = λ i. f i && g i
-binary_formula BinOp.Iff a b c f g = λ i. f i && g i
-binary_formula op a b c f g = ap not c
-
--- an expression without path operators is a formula
-pub plain_formula : (e : Term) → has_path_operator e ≡ false → is_formula e ≡ true
-plain_formula (Term.Const v) c = refl
-plain_formula (Term.Var x) c = refl
-plain_formula (Term.Running p) c = refl
-plain_formula (Term.Next e) c = ap not c
-plain_formula (Term.Not e) c = plain_formula e c
-plain_formula (Term.Binary op a b) c = binary_formula op a b c (plain_formula a (left_false _ _ c)) (plain_formula b (right_false (has_path_operator a) _ c))
-plain_formula (Term.Braces es) c = ap not c
-plain_formula (Term.Case arms) c = ap not c
-plain_formula (Term.Quant op e) c = absurd (differ (sym c))
-plain_formula (Term.Until all a b) c = absurd (differ (sym c))
-
 and_parts : (a b : Bool) → (a && b) ≡ true → (a ≡ true) × (b ≡ true)
 and_parts true b e = (refl, e)
 and_parts false b e = absurd (differ e)

@@ -12,10 +12,10 @@ use Rattle.smv_static.specs.declared.sections.Section.{Section}
 abbrev pub IsWrong : ItemRule → Section → Term → Type 0
 IsWrong ItemRule.Next Section.State e = HasNext e
 IsWrong ItemRule.Next Section.Step e = HasNextInNext e
-IsWrong ItemRule.Next Section.Specification e = HasNext e
+IsWrong ItemRule.Next Section.Formula e = HasNext e
 IsWrong ItemRule.Formula Section.State e = HasFormula e
 IsWrong ItemRule.Formula Section.Step e = HasFormula e
-IsWrong ItemRule.Formula Section.Specification e = IsFalse (is_formula e)
+IsWrong ItemRule.Formula Section.Formula e = IsFalse (is_formula e)
 
 -- what it refuses in an assignment
 abbrev pub IsWrongIn : ItemRule → Assignment → Type 0
@@ -38,5 +38,5 @@ items_rule rule m = assignments_rule rule m.assigns
     then conditions_rule rule Section.State m.inits
     then conditions_rule rule Section.State m.invars
     then conditions_rule rule Section.Step m.trans
-    then conditions_rule rule Section.State m.constraints
-    then conditions_rule rule Section.Specification m.specs
+    then conditions_rule rule Section.Formula m.constraints
+    then conditions_rule rule Section.Formula m.specs

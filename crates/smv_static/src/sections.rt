@@ -26,11 +26,12 @@ pub enum ItemRule {
 /// What an item speaks of.
 #[derive(Clone, Copy)]
 pub enum Section {
-    /// A state: `INIT`, `INVAR` and the constraints.
+    /// A state: `INIT` and `INVAR`.
     State,
     /// A step: `TRANS`.
     Step,
-    Specification,
+    /// A formula: the constraints and the specifications.
+    Formula,
 }
 
 fn holds_next(expr: &Expr) -> bool
@@ -51,7 +52,7 @@ fn stands_wrong(section: Section, expr: &Expr) -> bool
     match section {
         Section::State => holds_next(expr),
         Section::Step => holds_inner_next(expr),
-        Section::Specification => holds_next(expr),
+        Section::Formula => holds_next(expr),
     }
 }
 
@@ -61,7 +62,7 @@ fn operates_wrong(section: Section, expr: &Expr) -> bool
     match section {
         Section::State => uses_path_operator(expr),
         Section::Step => uses_path_operator(expr),
-        Section::Specification => !is_formula(expr),
+        Section::Formula => !is_formula(expr),
     }
 }
 
@@ -135,6 +136,6 @@ pub fn check_items(flat: &FlatModel, rule: ItemRule) -> Result<(), StaticRefusal
     refuse_items(inits_of(flat), rule, Section::State)?;
     refuse_items(invars_of(flat), rule, Section::State)?;
     refuse_items(trans_of(flat), rule, Section::Step)?;
-    refuse_items(constraints_of(flat), rule, Section::State)?;
-    refuse_items(specs_of(flat), rule, Section::Specification)
+    refuse_items(constraints_of(flat), rule, Section::Formula)?;
+    refuse_items(specs_of(flat), rule, Section::Formula)
 }

@@ -1,2 +1,3 @@
 mod RunPins
 mod SpecLeaves
+mod ConstraintLeaves

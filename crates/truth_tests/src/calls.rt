@@ -4,7 +4,7 @@ ghost use Rattle.std.specs.Prelude.{◌≡◌, [], All};
 ghost use Rattle.kripke_model.specs.Leaves.{IsModelLeaf};
 ghost use Rattle.kripke_model.specs.Reading.{term_of};
 ghost use Rattle.kripke_model.specs.Step.{IsState};
-ghost use Rattle.region_sets.specs.Sets.{Adds, IsCall, IsLive, pin_slots};
+ghost use Rattle.region_sets.specs.Sets.{Adds, IsCall, IsLeafConstraint, IsLive, pin_slots};
 
 use crate::members::members;
 use kripke_model::expressions::Expr;
@@ -16,7 +16,7 @@ pub enum Base {
     Full,
     Empty,
     Initial,
-    /// The states that meet the first constraint.
+    /// The states that meet the first constraint, which holds no path operator.
     Constraint,
     /// The states where the leaf is 1.
     Leaf,
@@ -42,7 +42,8 @@ pub enum Call {
 pub type Seen = (u32, Option<usize>, Option<usize>, bool);
 
 fn base_set<S: StateSets>(sets: &mut S, leaf: &Expr, base: &Base) -> Result<Pin, SetRefusal>
-    requires { IsModelLeaf (S.seen sets.old).over (term_of leaf.now) }
+    requires leaf { IsModelLeaf (S.seen sets.old).over (term_of leaf.now) }
+    requires constraint { IsLeafConstraint (S.seen sets.old).over 1 }
     ensures { IsCall 1 (S.seen sets.old) (S.seen sets.new) (pin_slots result) result }
 {
     match base {
@@ -79,6 +80,7 @@ fn paired_with_base<S: StateSets>(
     pin: &Pin,
 ) -> Result<Pin, SetRefusal>
     requires leaf { IsModelLeaf (S.seen sets.old).over (term_of leaf.now) }
+    requires constraint { IsLeafConstraint (S.seen sets.old).over 1 }
     requires live { IsLive (S.seen sets.old) pin.now.slot }
     ensures { Adds (S.seen sets.old) (S.seen sets.new) (pin_slots result) }
 {
@@ -95,6 +97,7 @@ fn called<S: StateSets>(
     pin: &Pin,
 ) -> Result<Pin, SetRefusal>
     requires leaf { IsModelLeaf (S.seen sets.old).over (term_of leaf.now) }
+    requires constraint { IsLeafConstraint (S.seen sets.old).over 1 }
     requires live { IsLive (S.seen sets.old) pin.now.slot }
     ensures { Adds (S.seen sets.old) (S.seen sets.new) (pin_slots result) }
 {
@@ -112,7 +115,8 @@ fn made<S: StateSets>(
     base: &Base,
     calls: &[Call],
 ) -> Result<Pin, SetRefusal>
-    requires { IsModelLeaf (S.seen sets.old).over (term_of leaf.now) }
+    requires leaf { IsModelLeaf (S.seen sets.old).over (term_of leaf.now) }
+    requires constraint { IsLeafConstraint (S.seen sets.old).over 1 }
     ensures { Adds (S.seen sets.old) (S.seen sets.new) (pin_slots result) }
 {
     let mut pin = base_set(sets, leaf, base)?;
@@ -172,6 +176,7 @@ pub fn seen_of_calls<S: StateSets>(
     states: &[State],
 ) -> Result<Seen, SetRefusal>
     requires leaf { IsModelLeaf (S.seen sets.old).over (term_of leaf.now) }
+    requires constraint { IsLeafConstraint (S.seen sets.old).over 1 }
     requires states { All (λ s. IsState (S.seen sets.old).over s) states.now }
 {
     let pin = made(sets, leaf, base, calls)?;

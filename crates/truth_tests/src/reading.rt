@@ -1,14 +1,16 @@
 //! From a text to its model, and to the formula of its specification.
 
-ghost use Rattle.std.specs.Prelude.{◌≡◌, All, IfOk, IfSome};
+ghost use Rattle.std.specs.Prelude.{◌≡◌, All, IfOk, IfSome, IsTrue};
 ghost use Rattle.kripke_model.specs.Leaves.{IsLeafOf, IsModelLeaf};
 ghost use Rattle.kripke_model.specs.Reading.{term_of};
 ghost use Rattle.kripke_model.specs.WellFormed.{ctl_of};
+ghost use Rattle.region_sets.specs.Sets.{IsLeafConstraint};
 ghost use Rattle.fair_fixpoint.specs.Walks.{HasModelLeaves};
 
 use fair_fixpoint::laws::leaves_law;
 use kripke_model::expressions::{Expr, Formula};
 use kripke_model::models::Ruled;
+use single_states::steps::has_leaf_constraints;
 use smv_instantiate::flatten;
 use smv_lexer::lex;
 use smv_parser::parse;
@@ -36,6 +38,13 @@ pub fn model_of(alloc: Global, text: &str) -> Result<Ruled, Fail> {
         Some(model) => Ok(model),
         None => Err(Fail::new("a text has no model")),
     }
+}
+
+/// Whether no constraint holds a path operator, so that the states of the first one can be asked for.
+pub fn has_leaf_first(model: &Ruled) -> bool
+    ensures { IsTrue result → IsLeafConstraint model.now 1 }
+{
+    has_leaf_constraints(model)
 }
 
 /// The formulas of the specifications, which have the model's leaves alone.

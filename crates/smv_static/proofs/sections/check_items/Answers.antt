@@ -55,7 +55,7 @@ returns-in_err-refuse_items-4-clause-err c =
           silent_conditions r Section.State _ _ c.invars_of.ensures c.in_ok-refuse_items-2.ensures.ok,
           inr (
             silent_conditions r Section.Step _ _ c.trans_of.ensures c.in_ok-refuse_items-3.ensures.ok,
-            inl (subst (λ (xs : List Condition). conditions_rule r Section.State xs p.0) c.constraints_of.ensures (subst (λ (y : StaticRefusal). conditions_rule r Section.State c.constraints_of.result.now y) (sym p.2) c.in_err-refuse_items-4.ensures.err)),
+            inl (subst (λ (xs : List Condition). conditions_rule r Section.Formula xs p.0) c.constraints_of.ensures (subst (λ (y : StaticRefusal). conditions_rule r Section.Formula c.constraints_of.result.now y) (sym p.2) c.in_err-refuse_items-4.ensures.err)),
           ),
         ),
       ),
@@ -69,8 +69,8 @@ returns-clause-ok c =
     (silent_then (silent_conditions r Section.State _ _ c.inits_of.ensures c.in_ok-refuse_items.ensures.ok)
     (silent_then (silent_conditions r Section.State _ _ c.invars_of.ensures c.in_ok-refuse_items-2.ensures.ok)
     (silent_then (silent_conditions r Section.Step _ _ c.trans_of.ensures c.in_ok-refuse_items-3.ensures.ok)
-    (silent_then (silent_conditions r Section.State _ _ c.constraints_of.ensures c.in_ok-refuse_items-4.ensures.ok)
-    (silent_conditions r Section.Specification _ _ c.specs_of.ensures s))))))
+    (silent_then (silent_conditions r Section.Formula _ _ c.constraints_of.ensures c.in_ok-refuse_items-4.ensures.ok)
+    (silent_conditions r Section.Formula _ _ c.specs_of.ensures s))))))
     c.refuse_items-5.ensures.ok
 
 pub returns-clause-err : goal.returns-clause-err
@@ -86,8 +86,8 @@ returns-clause-err c =
           inr (
             silent_conditions r Section.Step _ _ c.trans_of.ensures c.in_ok-refuse_items-3.ensures.ok,
             inr (
-              silent_conditions r Section.State _ _ c.constraints_of.ensures c.in_ok-refuse_items-4.ensures.ok,
-              subst (λ (xs : List Condition). conditions_rule r Section.Specification xs e) c.specs_of.ensures h,
+              silent_conditions r Section.Formula _ _ c.constraints_of.ensures c.in_ok-refuse_items-4.ensures.ok,
+              subst (λ (xs : List Condition). conditions_rule r Section.Formula xs e) c.specs_of.ensures h,
             ),
           ),
         ),
