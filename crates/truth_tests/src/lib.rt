@@ -10,6 +10,8 @@ mod calls;
 #[cfg(test)]
 mod export_tests;
 #[cfg(test)]
+mod fair_tests;
+#[cfg(test)]
 mod kinds;
 #[cfg(test)]
 mod members;
