@@ -1,6 +1,6 @@
 -- The small models of the tests are ones that a program can have, and they break no rule.
-use Rattle.std.proofs.Common.{◌≡◌, ◌≢◌, ℕ, ◌<◌, ◌≤◌, Bool, true, false, List, [], ◌∷◌, length, map, refl, sym, ◌∙◌, ap, subst, arith, lit<, lit≤}
-use Rattle.std.specs.Prelude.{All, AllPairs, IsTrue, not, ◌&&◌, cond, pos}
+use Rattle.std.proofs.Common.{◌≡◌, ◌≢◌, ℕ, ◌<◌, ◌≤◌, Bool, true, false, List, [], ◌∷◌, length, map, refl, sym, subst, arith, lit<, lit≤}
+use Rattle.std.specs.Prelude.{All, not, ◌&&◌, cond, pos}
 use Rattle.std.specs.List.{list_all}
 use Rattle.std.specs.Str.{bytes_eq}
 use Rattle.std.proofs.lemmas.List.Elements.{All-nil, All-cons, All-from_recursion}
@@ -13,8 +13,8 @@ use Rattle.kripke_model.specs.declared.refusals.StaticRefusal.{StaticRefusal}
 use Rattle.kripke_model.specs.Evaluation.{same}
 use Rattle.kripke_model.specs.Evaluable.{IsKnown}
 use Rattle.kripke_model.specs.Names.{IsAtom, IsVariableName, IsProcessName}
-use Rattle.kripke_model.specs.System.{System, Variable, Assignment}
-use Rattle.kripke_model.specs.Flat.{IsFlat, AreDistinct, IsWellTyped, HasNumbers, IsSound, expressions}
+use Rattle.kripke_model.specs.System.{System, Variable}
+use Rattle.kripke_model.specs.Flat.{IsFlat, AreDistinct, IsWellTyped, HasNumbers, IsSound}
 use Rattle.kripke_model.specs.Size.{nesting}
 use Rattle.kripke_model.specs.Term.{Term}
 use Rattle.kripke_model.specs.WellFormed.{IsRuled}

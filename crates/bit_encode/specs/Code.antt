@@ -1,6 +1,6 @@
 -- Which bits stand for a state. The code of a value is its place in its variable's type, and the codes of the
 -- variables' values stand one after the other in a given order of the variables.
-use Rattle.std.specs.Prelude.{◌≡◌, ℕ, ◌+◌, ◌<◌, ◌≤◌, ◌==◌, Bool, List, [], length, map, take, drop, sum_by, count_by, All, Contains}
+use Rattle.std.specs.Prelude.{◌≡◌, ℕ, zero, suc, ◌+◌, ◌<◌, ◌≤◌, ◌==◌, Bool, List, [], ◌∷◌, ◌++◌, length, map, take, drop, sum_by, count_by, All, Contains}
 use Rattle.std.specs.List.{slice_index_or, flat_map, position_or_len, before_first}
 use Rattle.kripke_model.specs.declared.expressions.Value.{Value}
 use Rattle.kripke_model.specs.System.{System, State, value_in}
@@ -28,10 +28,19 @@ width_of types x = width (length (values_of types x))
 abbrev pub bit_count : List (List Value) → ℕ
 bit_count types = sum_by (λ values. width (length values)) types
 
+-- how many bits a state of the model has
+abbrev pub state_bits : System → ℕ
+state_bits m = bit_count (types_of m)
+
 -- the order names each of n variables once, and nothing else
 pub record IsOrder (n : ℕ) (order : List ℕ) : Type 0 where
   pub known : All (λ x. x < n) order
   pub once : (x : ℕ) → x < n → count_by (λ y. y == x) order ≡ 1
+
+-- the declared order of n variables is 0, 1, .., n - 1
+abbrev pub declared : ℕ → List ℕ
+declared zero = []
+declared (suc n) = declared n ++ n ∷ []
 
 -- no type has a value twice
 abbrev pub AllDistinct : List (List Value) → Type 0

@@ -5,7 +5,7 @@ mod binary;
 mod domains;
 pub mod laws;
 pub mod layout;
-mod orders;
+pub mod orders;
 
 /// The most bits that the states of a model may have.
 pub const MAX_STATE_BITS: u32 = 128;

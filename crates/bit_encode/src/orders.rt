@@ -1,7 +1,7 @@
 //! Orders of the variables, and where each variable's bits begin.
 
-ghost use Rattle.std.specs.Prelude.{◌≡◌, ◌↔◌, ◌<◌, ◌^◌, ℕ, All, true, IsTrue, IfOk, length, slice_index};
-ghost use Rattle.bit_encode.specs.Code.{IsOrder, bit_count, first_bit};
+ghost use Rattle.std.specs.Prelude.{◌≡◌, ◌↔◌, ◌<◌, ◌≤◌, ◌^◌, ℕ, All, true, IsTrue, IfOk, length, slice_index};
+ghost use Rattle.bit_encode.specs.Code.{IsOrder, bit_count, declared, first_bit};
 ghost use Rattle.bit_encode.specs.Layouts.{counted};
 
 use crate::domains::Domain;
@@ -38,6 +38,19 @@ pub(crate) fn is_order(alloc: Global, count: usize, order: &[u32]) -> Result<boo
         named[x] = true;
     }
     Ok(all_set(&named))
+}
+
+/// The variables in declared order, by their numbers. At most 2^32 numbers fit.
+pub fn declared_order(alloc: Global, count: usize) -> Result<Vec<u32>, AllocError>
+    requires { count ≤ 2 ^ 32 }
+    ensures order { IfOk result (λ order. order.items ≡ declared count) }
+    ensures names { IfOk result (λ order. IsOrder count order.items) }
+{
+    let mut order = Vec::new(alloc);
+    for var in 0..count {
+        order.push(var as u32)?;
+    }
+    Ok(order)
 }
 
 /// For each variable the place of its first bit.

@@ -1,3 +1,12 @@
-mod Checks
-mod Limits
+mod ClapAnswers
+mod ClapCommands
+mod ClapEnds
+mod ClapForms
+mod ClapRows
+mod ClapWalk
+mod Commands
+mod Kept
+mod Numbers
+mod PartKinds
 mod Ranges
+mod WordForms

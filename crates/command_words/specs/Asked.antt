@@ -1,8 +1,24 @@
 -- The command of the code, as the definitions have it.
 use Rattle.command_words.specs.Words as words
 use Rattle.command_words.specs.declared.command.Command.{Command}
-use Rattle.command_words.specs.declared.command.Command.TheVariants.{Usage, Check}
+use Rattle.command_words.specs.declared.command.Command.TheVariants.{Usage, Print, Do}
+use Rattle.command_words.specs.declared.command.Work.{Work}
+use Rattle.command_words.specs.declared.command.Source.{Source}
+use Rattle.command_words.specs.declared.command.Source.TheVariants.{File, Ring}
+use Rattle.command_words.specs.declared.command.Job.{Job}
+use Rattle.command_words.specs.declared.command.Job.TheVariants.{Decide}
+
+abbrev pub source_asked : Source → words.Source
+source_asked (File name) = words.File name.now
+source_asked (Ring n) = words.Ring n
+
+abbrev pub job_asked : Job → words.Job
+job_asked Decide = words.Decide
+
+abbrev pub work_asked : Work → words.Work
+work_asked work = record { source = source_asked work.source; limit = work.limit; job = job_asked work.job }
 
 abbrev pub asked : Command → words.Command
 asked Usage = words.Usage
-asked (Check model limit) = words.Check model.now limit
+asked (Print n) = words.Print n
+asked (Do work) = words.Do (work_asked work)

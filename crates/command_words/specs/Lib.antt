@@ -1,5 +1,5 @@
 pub mod Asked
-pub mod Gathered
-pub mod Limit
+pub mod Given
+pub mod Number
 pub mod Parts
 pub mod Words

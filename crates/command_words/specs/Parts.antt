@@ -1,50 +1,81 @@
 -- The parts of the words behind a command: operands, and options with their values.
-use Rattle.std.specs.Prelude.{ℕ, Bool, false, List, [], ◌∷◌, Option, Some, None, if◌then◌else◌, ◌==◌, bytes_eq, nat_eq, codes, map, drop}
+use Rattle.std.specs.Prelude.{ℕ, ◌+◌, Bool, false, List, [], ◌∷◌, Option, Some, None, if◌then◌else◌, ◌==◌, bytes_eq, nat_eq, codes, map, drop}
 use Rattle.std.specs.List.{starts_with}
-use Rattle.std.specs.Option.{option_map, option_and_then}
-use Rattle.command_words.specs.Limit.{limit_of}
+use Rattle.std.specs.Option.{option_map}
 
 pub data Part : Type 0 where
   Operand : List ℕ → Part
-  -- the most nodes
-  Nodes : ℕ → Part
+  -- the option `--nodes` with its value
+  Nodes : List ℕ → Part
+  -- the option `--check`, which takes none
+  Check : Part
+
+-- What an option word of a command is.
+pub data Form : Type 0 where
+  -- no option of the command
+  Unknown : Form
+  -- a part by itself
+  Whole : Part → Form
+  -- an option whose value is the next word
+  Valued : (List ℕ → Part) → Form
+
+-- The options of `check`: `--nodes N` and `--nodes=N`.
+abbrev pub check_form : List ℕ → Form
+check_form word =
+    if bytes_eq word (codes "--nodes") then Valued Nodes
+    else if starts_with nat_eq word (codes "--nodes=") then Whole (Nodes (drop 8 word))
+    else Unknown
+
+-- The options of `gen`: `--check`.
+abbrev pub gen_form : List ℕ → Form
+gen_form word = if bytes_eq word (codes "--check") then Whole Check else Unknown
 
 -- An option word begins with a dash and is longer than it.
 abbrev pub is_option : List ℕ → Bool
 is_option (byte ∷ next ∷ rest) = byte == 45
 is_option word = false
 
--- the option `--nodes` with this value
-abbrev pub nodes : List ℕ → Option Part
-nodes value = option_map Nodes (limit_of value)
+-- A part before the others, if these are parts.
+abbrev pub before : Part → Option (List Part) → Option (List Part)
+before part = option_map (λ others. part ∷ others)
 
--- A part before the others. There are no parts where one of them is none.
-abbrev pub before : Option Part → Option (List Part) → Option (List Part)
-before part parts = option_and_then (λ first. option_map (λ others. first ∷ others) parts) part
+-- What an option word of this form comes to, by the parts of the words behind it and by those where the first of them is its value.
+abbrev pub by_form : Form → Option (List Part) → ((List ℕ → Part) → Option (List Part)) → Option (List Part)
+by_form Unknown parts valued = None
+by_form (Whole part) parts valued = before part parts
+by_form (Valued part) parts valued = valued part
 
--- The parts of the words; None where a word is no option, or an option has no value or a wrong one.
+-- The parts of the words; None where an option word is no option of the command, or has no value where it takes one.
 abbrev mutual
-  pub parts_of : List (List ℕ) → Option (List Part)
-  parts_of [] = Some []
-  parts_of (word ∷ words) =
+  pub parts_of : (List ℕ → Form) → List (List ℕ) → Option (List Part)
+  parts_of form [] = Some []
+  parts_of form (word ∷ words) =
       if bytes_eq word (codes "--") then Some (map Operand words)
-      else if bytes_eq word (codes "--nodes") then parts_with nodes words
-      else if starts_with nat_eq word (codes "--nodes=") then before (nodes (drop 8 word)) (parts_of words)
-      else if is_option word then None
-      else before (Some (Operand word)) (parts_of words)
+      else if is_option word then by_form (form word) (parts_of form words) (parts_valued form words)
+      else before (Operand word) (parts_of form words)
 
   -- the same, where the first word is the value of an option
-  pub parts_with : (List ℕ → Option Part) → List (List ℕ) → Option (List Part)
-  parts_with option [] = None
-  parts_with option (value ∷ words) =
-      if is_option value then None else before (option value) (parts_of words)
+  pub parts_valued : (List ℕ → Form) → List (List ℕ) → (List ℕ → Part) → Option (List Part)
+  parts_valued form [] part = None
+  parts_valued form (value ∷ words) part =
+      if is_option value then None else before (part value) (parts_of form words)
 
 abbrev pub operands : List Part → List (List ℕ)
 operands [] = []
 operands (Operand word ∷ parts) = word ∷ operands parts
-operands (Nodes limit ∷ parts) = operands parts
+operands (Nodes value ∷ parts) = operands parts
+operands (Check ∷ parts) = operands parts
 
-abbrev pub limits : List Part → List ℕ
+-- the values of `--nodes`
+abbrev pub limits : List Part → List (List ℕ)
 limits [] = []
 limits (Operand word ∷ parts) = limits parts
-limits (Nodes limit ∷ parts) = limit ∷ limits parts
+limits (Nodes value ∷ parts) = value ∷ limits parts
+limits (Check ∷ parts) = limits parts
+
+-- how often `--check` stands
+abbrev pub checks : List Part → ℕ
+checks [] = 0
+checks (Operand word ∷ parts) = checks parts
+checks (Nodes value ∷ parts) = checks parts
+checks (Check ∷ parts) = checks parts + 1

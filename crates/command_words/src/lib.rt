@@ -2,8 +2,7 @@
 #![tactic(auto)]
 
 mod command;
-mod gathered;
-mod limit;
-mod parts;
+mod given;
+mod number;
 
-pub use command::{Command, read_words};
+pub use command::{Command, Job, Source, Work, read_words};

@@ -1,7 +1,7 @@
 //! Why a text has no flat model, in the words of the program's reports.
 
 use case_text::fault::Fault;
-use smv_instances::{FlatRefusal, Which};
+use kripke_model::refusals::{FlatRefusal, Which};
 use std::alloc::AllocError;
 
 /// The word of a limit.

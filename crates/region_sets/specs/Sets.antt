@@ -89,10 +89,6 @@ IsCount pins live = (slots : List ℕ) × AreDistinct slots × (length slots ≡
 
 -- ---- constraints
 
--- where no constraint is declared there is one
-abbrev pub constraint_count : System → ℕ
-constraint_count m = max 1 (length m.constraints)
-
 -- constraint k, counted from 1, holds no path operator
 abbrev pub IsLeafConstraint : System → ℕ → Type 0
 IsLeafConstraint m k = MatchOption (slice_get m.constraints (k - 1)) (Unit {0}) (λ c. has_path_operator c.expr ≡ false)

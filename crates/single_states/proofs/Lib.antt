@@ -3,7 +3,6 @@ mod SummaryLemmas
 mod EvalLemmas
 mod ValuationLemmas
 mod DistinctLemmas
-mod QuotientLemmas
 mod StateLemmas
 mod StepLemmas
 mod PushLemmas

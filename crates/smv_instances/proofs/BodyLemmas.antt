@@ -8,7 +8,7 @@ use Rattle.std.proofs.lemmas.Grind.{flat_map-append}
 use Rattle.std.proofs.lemmas.Slice.Eq.{bytes_eq-Decides}
 use Rattle.kripke_model.specs.Refusing.{Silent, First}
 use Rattle.kripke_model.proofs.FirstLemmas.{silent_refuse, silent_then}
-use Rattle.smv_instances.specs.declared.refusals.FlatRefusal.{FlatRefusal}
+use Rattle.kripke_model.specs.declared.refusals.FlatRefusal.{FlatRefusal}
 use Rattle.smv_instances.specs.Program.{Program}
 use Rattle.smv_instances.specs.Entries.{Entry, entries}
 use Rattle.smv_instances.specs.Instances.{Scope, module_of}

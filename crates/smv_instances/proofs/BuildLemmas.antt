@@ -6,7 +6,7 @@ use Rattle.std.specs.Str.{bytes_eq}
 use Rattle.std.proofs.lemmas.Grind.{flat_map-append}
 use Rattle.std.proofs.lemmas.List.Folds.{flat_map-map}
 use Rattle.kripke_model.specs.Refusing.{first_of, refuse}
-use Rattle.smv_instances.specs.declared.refusals.FlatRefusal.{FlatRefusal}
+use Rattle.kripke_model.specs.declared.refusals.FlatRefusal.{FlatRefusal}
 use Rattle.smv_instances.specs.Program.{Name, Module, Program}
 use Rattle.smv_instances.specs.Entries.{Entry, entries, module_named}
 use Rattle.smv_instances.specs.Instances.{Scope, module_of, instances, instances_from, greatest_depth, main_name, main_scope, atoms_of, distinct_names, symbols}

@@ -7,8 +7,8 @@ use Rattle.std.proofs.lemmas.List.Sums.{sum_by-append}
 use Rattle.kripke_model.specs.Refusing.{Silent}
 use Rattle.kripke_model.proofs.FirstLemmas.{silent_refuse, silent_then}
 use Rattle.smv_instances.specs.declared.counts.Counts.{Counts}
-use Rattle.smv_instances.specs.declared.refusals.Which.{Which}
-use Rattle.smv_instances.specs.declared.refusals.FlatRefusal.{FlatRefusal}
+use Rattle.kripke_model.specs.declared.refusals.Which.{Which}
+use Rattle.kripke_model.specs.declared.refusals.FlatRefusal.{FlatRefusal}
 use Rattle.smv_instances.specs.Program.{Plain, Program}
 use Rattle.smv_instances.specs.Entries.{Entity, Entry}
 use Rattle.smv_instances.specs.Instances.{Scope, depth, declares_process}

@@ -7,7 +7,7 @@ use Rattle.std.proofs.lemmas.List.{length-map, map-append, take-append-drop}
 use Rattle.std.proofs.lemmas.List.Folds.{find_at}
 use Rattle.std.proofs.lemmas.Option.{same_Some, slice_get_within}
 use Rattle.kripke_model.specs.Refusing.{Rule, Silent, First}
-use Rattle.smv_instances.specs.declared.refusals.FlatRefusal.{FlatRefusal}
+use Rattle.kripke_model.specs.declared.refusals.FlatRefusal.{FlatRefusal}
 use Rattle.smv_instances.specs.Program.{Name, Form, Formal, Declaration, Definition, Section, Module, Program}
 use Rattle.smv_instances.specs.Entries.{Entity, Entry, entries, entity_in, entity_of_form, module_named, of_declaration, of_definition, of_formal, of_section}
 use Rattle.smv_instances.specs.Instances.{Scope, module_of, child, instances, place_of}

@@ -11,7 +11,7 @@ use Rattle.kripke_model.proofs.FirstLemmas.{silent_then}
 use Rattle.smv_instances.specs.declared.modules.Modules.{Modules}
 use Rattle.smv_instances.specs.declared.rows.Row.{Row}
 use Rattle.smv_instances.specs.declared.rows.Walk.{Walk}
-use Rattle.smv_instances.specs.declared.refusals.FlatRefusal.{FlatRefusal}
+use Rattle.kripke_model.specs.declared.refusals.FlatRefusal.{FlatRefusal}
 use Rattle.smv_instances.specs.Program.{Name, Program}
 use Rattle.smv_instances.specs.Entries.{Entity, Entry, entries}
 use Rattle.smv_instances.specs.Instances.{Scope, module_of, depth, is_process, child, children, instances_from}

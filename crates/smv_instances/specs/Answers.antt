@@ -1,7 +1,7 @@
 -- The answers of the tests that refuse.
 use Rattle.std.specs.Prelude.{◌≡◌, Result, MatchResult, ◌⊎◌}
 use Rattle.kripke_model.specs.Refusing.{Silent}
-use Rattle.smv_instances.specs.declared.refusals.FlatRefusal.{FlatRefusal}
+use Rattle.kripke_model.specs.declared.refusals.FlatRefusal.{FlatRefusal}
 use Rattle.smv_instances.specs.Declarations.{Refusal}
 
 -- want of memory, or a refusal that applies

@@ -3,7 +3,7 @@ use Rattle.std.specs.Prelude.{◌≡◌, ◌≢◌, ℕ, ◌≤◌, Bool, List, 
 use Rattle.std.specs.List.{list_any}
 use Rattle.kripke_model.specs.Refusing.{Silent}
 use Rattle.smv_instances.specs.declared.counts.Counts.{Counts}
-use Rattle.smv_instances.specs.declared.refusals.FlatRefusal.{FlatRefusal}
+use Rattle.kripke_model.specs.declared.refusals.FlatRefusal.{FlatRefusal}
 use Rattle.smv_instances.specs.Program.{Name, Expr, Module, Program}
 use Rattle.smv_instances.specs.Entries.{Entity, Entry, module_named}
 use Rattle.smv_instances.specs.Instances.{Scope, modules_to, declares_process}

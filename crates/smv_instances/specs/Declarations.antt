@@ -2,8 +2,8 @@
 use Rattle.std.specs.Prelude.{◌≡◌, ℕ, ◌+◌, ◌-◌, ◌*◌, ◌<◌, Bool, true, false, ◌&&◌, ◌||◌, not, ltb, int_lt, List, [], ◌∷◌, ◌++◌, flat_map, length, Some, None, IsTrue, Any, sum_by, is_some, Contains, ◌⊎◌, ◌≢◌}
 use Rattle.std.specs.List.{list_any}
 use Rattle.kripke_model.specs.Refusing.{Rule, refuse, ◌then◌, First, first_of}
-use Rattle.smv_instances.specs.declared.refusals.Which.{Which}
-use Rattle.smv_instances.specs.declared.refusals.FlatRefusal.{FlatRefusal}
+use Rattle.kripke_model.specs.declared.refusals.Which.{Which}
+use Rattle.kripke_model.specs.declared.refusals.FlatRefusal.{FlatRefusal}
 use Rattle.smv_instances.specs.Program.{Plain, Module, Program}
 use Rattle.smv_instances.specs.Entries.{Entity, Entry, entries, module_named}
 use Rattle.smv_instances.specs.Instances.{Scope, module_of, depth, modules_to, main_name, main_scope, instances, declares_process, atoms_in, integer_count, type_values, is_symbol}

@@ -7,7 +7,7 @@ use Rattle.smv_instances.specs.declared.modules.Modules.{Modules}
 use Rattle.smv_instances.specs.declared.rows.Step.{Step}
 use Rattle.smv_instances.specs.declared.rows.Row.{Row}
 use Rattle.smv_instances.specs.declared.rows.Walk.{Walk}
-use Rattle.smv_instances.specs.declared.refusals.FlatRefusal.{FlatRefusal}
+use Rattle.kripke_model.specs.declared.refusals.FlatRefusal.{FlatRefusal}
 use Rattle.smv_instances.specs.Program.{Name, Expr, Module, Program}
 use Rattle.smv_instances.specs.Plain.{plain_expr}
 use Rattle.smv_instances.specs.Instances.{Scope, module_of, depth, main_name, is_process, process_of, child, children, instances_from}

@@ -16,9 +16,9 @@ ghost use Rattle.smv_instances.specs.Walk.{AreRows, ChecksBody, CountsBody, IsIn
 use crate::counts::{Counts, count_instance, count_stored};
 use crate::entries::{Entity, Entry};
 use crate::modules::Modules;
-use crate::refusals::FlatRefusal;
 use crate::rows::Row;
 use kripke_model::Name;
+use kripke_model::refusals::FlatRefusal;
 use smv_parser::Expr;
 use std::alloc::Global;
 

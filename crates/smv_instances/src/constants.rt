@@ -15,8 +15,8 @@ ghost use Rattle.smv_instances.specs.Walk.{AreRows};
 use crate::entries::{Entity, Entry};
 use crate::modules::Modules;
 use crate::names::Names;
-use crate::refusals::FlatRefusal;
 use crate::rows::Row;
+use kripke_model::refusals::FlatRefusal;
 use smv_parser::{Constant, ConstantKind, Plain, PlainKind};
 use std::alloc::{AllocError, Global};
 

@@ -8,8 +8,8 @@ ghost use Rattle.smv_instances.specs.Instances.{Scope, depth};
 ghost use Rattle.smv_instances.specs.Declarations as declared;
 ghost use Rattle.smv_instances.specs.Counting.{Counted, IsCounts, IsNamed};
 
-use crate::refusals::{FlatRefusal, Which};
 use crate::types::{is_reversed, value_count, variable_count};
+use kripke_model::refusals::{FlatRefusal, Which};
 use smv_parser::Plain;
 use std::alloc::Global;
 

@@ -19,10 +19,10 @@ use crate::entries::{Entity, Entry};
 use crate::found::Found;
 use crate::modules::{Modules, Table, find_main, modules_of};
 use crate::names::Names;
-use crate::refusals::FlatRefusal;
 use crate::rows::{Row, Step, Walk, main_alone};
 use crate::walk::visit_body;
 use kripke_model::Name;
+use kripke_model::refusals::FlatRefusal;
 use smv_parser::{Expr, Module, Program};
 use std::alloc::Global;
 

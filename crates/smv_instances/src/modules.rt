@@ -12,7 +12,7 @@ ghost use Rattle.smv_instances.specs.Walk.{Starts};
 
 use crate::entries::{Entity, Entry, entries_of};
 use crate::names::Names;
-use crate::refusals::FlatRefusal;
+use kripke_model::refusals::FlatRefusal;
 use smv_parser::{Module, Program};
 use std::alloc::{AllocError, Global};
 

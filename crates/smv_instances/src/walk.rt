@@ -15,8 +15,8 @@ use crate::body::check_body;
 use crate::counts::MOST_DEPTH;
 use crate::entries::{Entity, Entry};
 use crate::modules::Modules;
-use crate::refusals::FlatRefusal;
 use crate::rows::{Step, Walk, push_child, set_children};
+use kripke_model::refusals::FlatRefusal;
 use std::alloc::Global;
 
 /// Where an entry of the instance leads to, with the place of the module, if it is an instance of one.

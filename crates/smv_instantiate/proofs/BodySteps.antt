@@ -16,7 +16,7 @@ use Rattle.kripke_model.specs.declared.expressions.Value.TheVariants.{Number}
 use Rattle.smv_instances.specs.declared.rows.Row.{Row}
 use Rattle.smv_instances.specs.Walk.{AreLinked}
 use Rattle.smv_instances.proofs.RowLemmas.{pairs_get}
-use Rattle.smv_instances.specs.declared.refusals.FlatRefusal.{FlatRefusal}
+use Rattle.kripke_model.specs.declared.refusals.FlatRefusal.{FlatRefusal}
 use Rattle.smv_instances.specs.Declarations.{refused_declarations, declaration}
 use Rattle.kripke_model.specs.Refusing.{Silent}
 use Rattle.smv_instantiate.specs.Written.{IsWrittenType, IsWritten}

@@ -8,8 +8,8 @@ use Rattle.std.proofs.lemmas.List.Concat.{flat_map-append}
 use Rattle.std.proofs.lemmas.Bool.{cases_lt, false≢true}
 use Rattle.kripke_model.specs.System.{Variable}
 use Rattle.kripke_model.specs.Refusing.{Silent}
-use Rattle.smv_instances.specs.declared.refusals.FlatRefusal.{FlatRefusal}
-use Rattle.smv_instances.specs.declared.refusals.Which.{Which}
+use Rattle.kripke_model.specs.declared.refusals.FlatRefusal.{FlatRefusal}
+use Rattle.kripke_model.specs.declared.refusals.Which.{Which}
 use Rattle.smv_instances.specs.Program.{Name, Plain, Module, Program}
 use Rattle.smv_instances.specs.Entries.{Entity, Entry, entries, module_named}
 use Rattle.smv_instances.specs.Instances.{Scope, module_of, child, children, instances_from, indexed, between, element_names, entry_variables, variables_from, spelled, type_values, symbols, declares_process}

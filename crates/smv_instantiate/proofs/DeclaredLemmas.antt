@@ -10,8 +10,8 @@ use Rattle.kripke_model.specs.Names.{IsAtom, IsVariableName, IsProcessName}
 use Rattle.kripke_model.specs.System.{System, Variable}
 use Rattle.kripke_model.specs.Evaluable.{IsKnown}
 use Rattle.kripke_model.specs.Evaluation.{same, distinct}
-use Rattle.smv_instances.specs.declared.refusals.FlatRefusal.{FlatRefusal}
-use Rattle.smv_instances.specs.declared.refusals.Which.{Which}
+use Rattle.kripke_model.specs.declared.refusals.FlatRefusal.{FlatRefusal}
+use Rattle.kripke_model.specs.declared.refusals.Which.{Which}
 use Rattle.smv_instances.specs.Program.{Name, Expr, Constant, Plain, Module, Program}
 use Rattle.smv_instances.specs.Entries.{Entity, Entry, entries, module_named}
 use Rattle.smv_instances.specs.Instances.{Scope, module_of, depth, child, children, instances_from, instances, main_name, greatest_depth, all_entries, spelled, processes, process_name, is_process, process_entries, has_selector, declares_process, selector_name, selector_variables, variables, variables_from, symbols, atoms_of, atoms_in, atom, rising, integer_count, element_names, entry_variables, type_values, place_of, value_of}

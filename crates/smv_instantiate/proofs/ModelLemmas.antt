@@ -8,7 +8,7 @@ use Rattle.kripke_model.specs.System.{Variable}
 use Rattle.smv_paths.specs.declared.paths.Paths.{Paths}
 use Rattle.smv_paths.specs.Paths.{ArePaths}
 use Rattle.smv_instances.specs.declared.instances.Instances.{Instances}
-use Rattle.smv_instances.specs.declared.refusals.FlatRefusal.{FlatRefusal}
+use Rattle.kripke_model.specs.declared.refusals.FlatRefusal.{FlatRefusal}
 use Rattle.smv_instances.specs.declared.rows.Row.{Row}
 use Rattle.smv_instances.specs.Answers.{Refused}
 use Rattle.smv_instances.specs.Built.{AreInstances}

@@ -6,8 +6,8 @@ use Rattle.kripke_model.specs.Refusing.{Silent}
 use Rattle.kripke_model.specs.Size.{node_count, nesting}
 use Rattle.kripke_model.specs.Term.{Term}
 use Rattle.kripke_model.proofs.FirstLemmas.{silent_refuse, silent_then}
-use Rattle.smv_instances.specs.declared.refusals.FlatRefusal.{FlatRefusal}
-use Rattle.smv_instances.specs.declared.refusals.Which.{Which}
+use Rattle.kripke_model.specs.declared.refusals.FlatRefusal.{FlatRefusal}
+use Rattle.kripke_model.specs.declared.refusals.Which.{Which}
 use Rattle.smv_instances.specs.Answers.{Refused}
 use Rattle.smv_instances.specs.Declarations.{one_if}
 use Rattle.smv_instances.specs.Instances.{Scope, instances}

@@ -4,7 +4,7 @@ use Rattle.std.specs.Prelude.{All, map, flat_map, slice_get}
 use Rattle.std.proofs.lemmas.Grind.{flat_map-append}
 use Rattle.std.proofs.lemmas.Option.{slice_get_within, get_or_from_slice_get}
 use Rattle.kripke_model.specs.Refusing.{Silent, First}
-use Rattle.smv_instances.specs.declared.refusals.FlatRefusal.{FlatRefusal}
+use Rattle.kripke_model.specs.declared.refusals.FlatRefusal.{FlatRefusal}
 use Rattle.smv_instances.specs.Instances.{Scope, instances, module_of}
 use Rattle.smv_instances.specs.Program.{Module, Program}
 use Rattle.smv_instances.proofs.FirstSteps.{first_append, first_front, silent_append, silent_one}

@@ -8,8 +8,8 @@ use Rattle.kripke_model.specs.declared.expressions.Value.TheVariants.{Number}
 use Rattle.kripke_model.specs.Term.{Term}
 use Rattle.kripke_model.specs.Evaluation.{Checked}
 use Rattle.kripke_model.specs.declared.expressions.Value.{Value}
-use Rattle.smv_instances.specs.declared.refusals.Which.{Which}
-use Rattle.smv_instances.specs.declared.refusals.FlatRefusal.{FlatRefusal}
+use Rattle.kripke_model.specs.declared.refusals.Which.{Which}
+use Rattle.kripke_model.specs.declared.refusals.FlatRefusal.{FlatRefusal}
 use Rattle.smv_instances.specs.Program.{Name, Expr, Path, Plain, Program}
 use Rattle.smv_instances.specs.Entries.{Entry}
 use Rattle.smv_instances.specs.Instances.{Scope, is_symbol, main_scope, all_entries}

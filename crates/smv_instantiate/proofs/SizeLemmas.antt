@@ -7,8 +7,8 @@ use Rattle.kripke_model.specs.Term.{Term}
 use Rattle.kripke_model.specs.Size.{node_count, nesting}
 use Rattle.kripke_model.specs.System.{System, Assignment, Condition}
 use Rattle.kripke_model.specs.Flat.{expressions}
-use Rattle.smv_instances.specs.declared.refusals.FlatRefusal.{FlatRefusal}
-use Rattle.smv_instances.specs.declared.refusals.Which.{Which}
+use Rattle.kripke_model.specs.declared.refusals.FlatRefusal.{FlatRefusal}
+use Rattle.kripke_model.specs.declared.refusals.Which.{Which}
 use Rattle.smv_instances.specs.Program.{Expr, Kind, Assigned, Program}
 use Rattle.smv_instances.specs.Instances.{Scope}
 use Rattle.smv_instances.specs.Declarations.{one_if}

@@ -4,8 +4,8 @@ use Rattle.kripke_model.specs.Refusing.{Silent, First, refuse}
 use Rattle.kripke_model.specs.Size.{node_count, nesting}
 use Rattle.kripke_model.specs.Term.{Term}
 use Rattle.smv_instances.specs.declared.instances.Instances.{Instances}
-use Rattle.smv_instances.specs.declared.refusals.Which.{Which}
-use Rattle.smv_instances.specs.declared.refusals.FlatRefusal.{FlatRefusal}
+use Rattle.kripke_model.specs.declared.refusals.Which.{Which}
+use Rattle.kripke_model.specs.declared.refusals.FlatRefusal.{FlatRefusal}
 use Rattle.smv_instances.specs.Answers.{Refused}
 use Rattle.smv_instances.specs.Built.{AreInstances}
 use Rattle.smv_instances.specs.Declarations.{Refusal}

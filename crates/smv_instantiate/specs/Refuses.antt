@@ -3,8 +3,8 @@ use Rattle.std.specs.Prelude.{ℕ, ◌<◌, false, List, [], ◌∷◌, ◌++◌
 use Rattle.kripke_model.specs.Refusing.{refuse, ◌then◌, First, first_of}
 use Rattle.kripke_model.specs.Term.{Term}
 use Rattle.kripke_model.specs.Size.{node_count, nesting}
-use Rattle.smv_instances.specs.declared.refusals.Which.{Which}
-use Rattle.smv_instances.specs.declared.refusals.FlatRefusal.{FlatRefusal}
+use Rattle.kripke_model.specs.declared.refusals.Which.{Which}
+use Rattle.kripke_model.specs.declared.refusals.FlatRefusal.{FlatRefusal}
 use Rattle.smv_instances.specs.Program.{Expr, Program, Kind, Stated}
 use Rattle.smv_instances.specs.Instances.{Scope, all_entries}
 use Rattle.smv_paths.specs.Expands.{Expands, Selects}

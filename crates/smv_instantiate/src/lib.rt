@@ -24,12 +24,13 @@ ghost use Rattle.smv_parser.specs.Program as parsed;
 ghost use Rattle.smv_instances.specs.Abstract.{program};
 ghost use Rattle.smv_instances.specs.Instances.{symbols};
 ghost use Rattle.smv_instances.specs.Program.{Program};
-ghost use Rattle.smv_instances.specs.declared.refusals.FlatRefusal.{FlatRefusal};
+ghost use Rattle.kripke_model.specs.declared.refusals.FlatRefusal.{FlatRefusal};
 ghost use Rattle.smv_instantiate.specs.Flattens.{Flattens};
 ghost use Rattle.smv_instantiate.specs.Parsed.{IsParsed};
 ghost use Rattle.smv_instantiate.specs.Refuses.{Refuses};
 ghost use Rattle.smv_instantiate.specs.Written.{IsWritten};
 
+pub use kripke_model::refusals::{FlatRefusal, Which};
 pub use models::flatten;
 
 /// A program has one flat model at most, and is refused for one reason at most.

@@ -14,7 +14,8 @@ use crate::checks::check_item;
 use crate::items::{Item, items_of};
 use crate::names::VariableNames;
 use crate::totals::{Totals, no_totals};
-use smv_instances::{FlatRefusal, Instances};
+use kripke_model::refusals::FlatRefusal;
+use smv_instances::Instances;
 use smv_paths::Paths;
 use std::alloc::Global;
 

@@ -10,7 +10,7 @@ ghost use Rattle.smv_instantiate.specs.Items.{kind_of};
 ghost use Rattle.smv_instantiate.specs.Refuses.{count_rows};
 ghost use Rattle.smv_instantiate.specs.Passes.{AddsSize, AreCounts, Counts};
 
-use smv_instances::{FlatRefusal, Which};
+use kripke_model::refusals::{FlatRefusal, Which};
 use smv_parser::Condition;
 use smv_paths::sizes::Size;
 

@@ -10,7 +10,7 @@ use Rattle.kripke_model.specs.Evaluation.{Checked, eval}
 use Rattle.kripke_model.specs.Refusing.{Silent, first_of}
 use Rattle.kripke_model.proofs.FirstLemmas.{first_in_list}
 use Rattle.smv_parser.specs.declared.expressions.PathPart.{PathPart, Field, Index'}
-use Rattle.smv_instances.specs.declared.refusals.FlatRefusal.{FlatRefusal}
+use Rattle.kripke_model.specs.declared.refusals.FlatRefusal.{FlatRefusal}
 use Rattle.smv_instances.specs.Program.{Expr, Path, Program}
 use Rattle.smv_instances.specs.Instances.{Scope}
 use Rattle.smv_instances.specs.Answers.{Refused}

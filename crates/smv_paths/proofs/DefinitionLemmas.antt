@@ -6,7 +6,7 @@ use Rattle.std.proofs.lemmas.Option.{same_Some, slice_get-get_or, slice_get_with
 use Rattle.kripke_model.specs.Refusing.{Silent, first_of, refuse}
 use Rattle.kripke_model.proofs.FirstLemmas.{silent_refuse, silent_then, silent_list, first_in_list}
 use Rattle.smv_instances.specs.declared.instances.Instances.{Instances}
-use Rattle.smv_instances.specs.declared.refusals.FlatRefusal.{FlatRefusal}
+use Rattle.kripke_model.specs.declared.refusals.FlatRefusal.{FlatRefusal}
 use Rattle.smv_instances.specs.Program.{Name, Expr, Formal, Module, Program}
 use Rattle.smv_instances.specs.Entries.{Entity, Entry, entries, entity_in, of_formal, of_section}
 use Rattle.smv_instances.specs.Instances.{Scope, module_of, child, all_entries, instances}

@@ -3,7 +3,7 @@ use Rattle.std.proofs.Common.{List, get_or, inl, inr}
 use Rattle.std.specs.Prelude.{All, Result, Ok, Err, MatchResult}
 use Rattle.kripke_model.specs.Refusing.{Silent, first_of}
 use Rattle.kripke_model.proofs.FirstLemmas.{silent_refuse, silent_then, silent_list}
-use Rattle.smv_instances.specs.declared.refusals.FlatRefusal.{FlatRefusal}
+use Rattle.kripke_model.specs.declared.refusals.FlatRefusal.{FlatRefusal}
 use Rattle.smv_instances.specs.Program.{Path, Program}
 use Rattle.smv_instances.specs.Instances.{Scope}
 use Rattle.smv_instances.specs.Answers.{Refused}

@@ -2,7 +2,7 @@
 use Rattle.std.specs.Prelude.{◌≡◌, ℕ, Bool, true, false, ◌||◌, not, List, [], ◌∷◌, ◌++◌, flat_map, Option, Some, None, IsTrue, Any, option_and_then, ◌⊎◌}
 use Rattle.std.specs.List.{cons_option}
 use Rattle.kripke_model.specs.Refusing.{refuse, ◌then◌, first_of}
-use Rattle.smv_instances.specs.declared.refusals.FlatRefusal.{FlatRefusal}
+use Rattle.kripke_model.specs.declared.refusals.FlatRefusal.{FlatRefusal}
 use Rattle.smv_instances.specs.Program.{Name, Expr, Exprs, Path, Constant, Plain, Module, Program, Kind, Assigned, Stated}
 use Rattle.smv_instances.specs.Program
 use Rattle.smv_instances.specs.Entries.{Entity, Entry, entity_in}

@@ -23,7 +23,8 @@ use crate::mentions::Mention;
 use crate::numbers::number;
 use crate::resolving::Targets;
 use crate::targets::{Bracket, Target};
-use smv_instances::{FlatRefusal, Instances};
+use kripke_model::refusals::FlatRefusal;
+use smv_instances::Instances;
 use smv_parser::{Path, PathPart, Plain as Type, PlainKind};
 use std::alloc::{AllocError, Global};
 

@@ -22,7 +22,8 @@ use crate::checks::check_paths;
 use crate::mentions::{push_actuals, push_mentions};
 use crate::resolving::Targets;
 use graph_order::Order;
-use smv_instances::{Entity, FlatRefusal, Found, Instances};
+use kripke_model::refusals::FlatRefusal;
+use smv_instances::{Entity, Found, Instances};
 use smv_parser::Expr;
 use std::alloc::Global;
 

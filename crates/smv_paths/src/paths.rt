@@ -13,7 +13,8 @@ use crate::resolving::Targets;
 use crate::sizes::Size;
 use crate::tables::{End, ends_of, numbers_of, sizes_of};
 use crate::uses::order_of_uses;
-use smv_instances::{FlatRefusal, Instances};
+use kripke_model::refusals::FlatRefusal;
+use smv_instances::Instances;
 use std::alloc::Global;
 
 /// What the paths and definitions of a program stand for, where none is refused. The tables have an

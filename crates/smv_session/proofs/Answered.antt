@@ -1,195 +1,224 @@
--- What follows from the answer to a command.
-use Rattle.std.proofs.Common.{◌≡◌, ◌≢◌, ◌⊎◌, ◌∙◌, inl, inr, ℕ, zero, suc, List, [], ◌∷◌, take, Option, Some, IfSome, refl, sym, ap, subst, arith, true, false}
+-- What follows from the reply to a command.
+use Rattle.std.proofs.Common.{◌≡◌, ◌≢◌, ◌⊎◌, ◌∙◌, inl, inr, ℕ, ◌<◌, List, [], ◌∷◌, length, Option, Some, None, refl, sym, ap, subst, arith, true, false}
 use Rattle.std.specs.Global.{Vec}
+use Rattle.std.specs.Prelude.{All}
 use Rattle.std.proofs.lemmas.Bool.{false≢true}
+use Rattle.std.proofs.lemmas.List.Elements.{All-nil, All-cons}
 use Rattle.bdd_nodes.specs.declared.refusal.Held.{Held}
-use Rattle.kripke_model.specs.Faults.{IsFaultless}
-use Rattle.kripke_model.specs.System.{System}
 use Rattle.command_words.specs.Words as words
-use Rattle.command_words.specs.Words.{Command, Check}
-use Rattle.smv_outside.specs.Contents.{Contents, bytes_under}
-use Rattle.smv_session.specs.declared.status.Status.{Status}
-use Rattle.smv_session.specs.declared.status.Status.TheVariants.{Clear, Failed, Undecided, ModelRefused, OutsideFault, Usage, Memory}
-use Rattle.smv_session.specs.Texts.{usage_text, Fault, LoadFailed, LoadMissing, fault_line}
-use Rattle.smv_session.specs.Refusals.{Refusal, Refuses, is_fault, refusal_line}
+use Rattle.command_words.specs.Words.{Command, Source, File, Ring, Work, Job, Decide, Print, Do}
+use Rattle.kripke_model.specs.System.{System}
+use Rattle.smv_outside.specs.Contents.{Contents}
+use Rattle.smv_rings.specs.Rings.{ring_text}
+use Rattle.smv_session.specs.Answers.{Answers, IsModelReply, IsTaken, Reads, Takes, Tells}
+use Rattle.smv_session.specs.Jobs.{Does, NamesLeaves, Undecides}
+use Rattle.smv_session.specs.Refuses.{Refuses}
 use Rattle.smv_session.specs.Source.{HasModel, IsAccepted}
-use Rattle.smv_session.specs.Report.{Finding, report}
-use Rattle.smv_session.specs.Endings.{EndsWith, IsModelUndecided}
-use Rattle.smv_session.specs.Answers.{Answers, IsModelAnswer, IsReported}
+use Rattle.smv_texts.specs.Evidence.{IsOfLimit}
+use Rattle.smv_texts.specs.Refusals.{Refusal, is_fault, refusal_line}
+use Rattle.smv_texts.specs.Replies.{Reply, text_of}
+use Rattle.smv_texts.specs.Report.{Finding}
+use Rattle.smv_texts.specs.Statuses.{status_of}
+use Rattle.smv_texts.specs.Texts.{usage_text}
+use Rattle.smv_texts.specs.declared.ending.Ending.{Ending}
+use Rattle.smv_texts.specs.declared.ending.Ending.TheVariants as endings
+use Rattle.smv_texts.specs.declared.status.Status.TheVariants.{Undecided, ModelRefused, OutsideFault, Usage, Memory}
+use Rattle.spec_verdicts.specs.Checked.{EndsWith}
 
--- the statuses of a report
-pub data Ending (status : Status) : Type 0 where
-  AtClear : status ≡ Clear → Ending status
-  AtFailed : status ≡ Failed → Ending status
-  AtUndecided : (held : Vec Held) → status ≡ Undecided held → Ending status
+-- ---- endings and statuses
 
-ending : (m : System) (limit : ℕ) (fs : List Finding) (status : Status) → EndsWith m limit fs status → Ending status
-ending m limit fs Clear ends = AtClear refl
-ending m limit fs Failed ends = AtFailed refl
-ending m limit fs (Undecided held) ends = AtUndecided held refl
-ending m limit fs ModelRefused ends = absurd ends
-ending m limit fs OutsideFault ends = absurd ends
-ending m limit fs Usage ends = absurd ends
-ending m limit fs Memory ends = absurd ends
+pub usage_ending : (e : Ending) → status_of e ≡ Usage → e ≡ endings.Usage
+usage_ending endings.Clear is = cc
+usage_ending endings.Failed is = cc
+usage_ending (endings.Undecided held) is = cc
+usage_ending endings.ModelRefused is = cc
+usage_ending endings.Usage is = refl
 
-ending_of : (bytes : List ℕ) (limit : ℕ) (text : List ℕ) (status : Status) → IsReported bytes limit text status → Ending status
-ending_of bytes limit text status is = ending is.model limit is.reports.findings status is.reports.ends
+pub refused_ending : (e : Ending) → status_of e ≡ ModelRefused → e ≡ endings.ModelRefused
+refused_ending endings.Clear is = cc
+refused_ending endings.Failed is = cc
+refused_ending (endings.Undecided held) is = cc
+refused_ending endings.ModelRefused is = refl
+refused_ending endings.Usage is = cc
 
--- no report has another status
-other_than_report : (status other : Status) → Ending status → (other ≡ ModelRefused) ⊎ (other ≡ OutsideFault) ⊎ (other ≡ Usage) ⊎ (other ≡ Memory) → status ≢ other
-other_than_report status other (AtClear is) (inl o) same = cc
-other_than_report status other (AtClear is) (inr (inl o)) same = cc
-other_than_report status other (AtClear is) (inr (inr (inl o))) same = cc
-other_than_report status other (AtClear is) (inr (inr (inr o))) same = cc
-other_than_report status other (AtFailed is) (inl o) same = cc
-other_than_report status other (AtFailed is) (inr (inl o)) same = cc
-other_than_report status other (AtFailed is) (inr (inr (inl o))) same = cc
-other_than_report status other (AtFailed is) (inr (inr (inr o))) same = cc
-other_than_report status other (AtUndecided held is) (inl o) same = cc
-other_than_report status other (AtUndecided held is) (inr (inl o)) same = cc
-other_than_report status other (AtUndecided held is) (inr (inr (inl o))) same = cc
-other_than_report status other (AtUndecided held is) (inr (inr (inr o))) same = cc
+pub undecided_ending : (e : Ending) (held : Vec Held) → status_of e ≡ Undecided held → e ≡ endings.Undecided held
+undecided_ending endings.Clear held is = cc
+undecided_ending endings.Failed held is = cc
+undecided_ending (endings.Undecided full) held is = let e : full ≡ held = cc in ap endings.Undecided e
+undecided_ending endings.ModelRefused held is = cc
+undecided_ending endings.Usage held is = cc
 
-no_usage : (bytes : List ℕ) (limit : ℕ) (text : List ℕ) (status : Status) → IsModelAnswer bytes limit text status → status ≢ Usage
-no_usage bytes limit text status (inl is) other = let refused = is.status_is in cc
-no_usage bytes limit text status (inr is) other = other_than_report status Usage (ending_of bytes limit text status is) (inr (inr (inl refl))) other
+pub no_fault_ending : (e : Ending) → status_of e ≢ OutsideFault
+no_fault_ending endings.Clear is = cc
+no_fault_ending endings.Failed is = cc
+no_fault_ending (endings.Undecided held) is = cc
+no_fault_ending endings.ModelRefused is = cc
+no_fault_ending endings.Usage is = cc
 
-no_fault_ending : (bytes : List ℕ) (limit : ℕ) (text : List ℕ) (status : Status) → IsModelAnswer bytes limit text status → status ≢ OutsideFault
-no_fault_ending bytes limit text status (inl is) other = let refused = is.status_is in cc
-no_fault_ending bytes limit text status (inr is) other = other_than_report status OutsideFault (ending_of bytes limit text status is) (inr (inl refl)) other
+pub no_memory_ending : (e : Ending) → status_of e ≢ Memory
+no_memory_ending endings.Clear is = cc
+no_memory_ending endings.Failed is = cc
+no_memory_ending (endings.Undecided held) is = cc
+no_memory_ending endings.ModelRefused is = cc
+no_memory_ending endings.Usage is = cc
 
-no_memory_ending : (bytes : List ℕ) (limit : ℕ) (text : List ℕ) (status : Status) → IsModelAnswer bytes limit text status → status ≢ Memory
-no_memory_ending bytes limit text status (inl is) other = let refused = is.status_is in cc
-no_memory_ending bytes limit text status (inr is) other = other_than_report status Memory (ending_of bytes limit text status is) (inr (inr (inr refl))) other
+-- ---- what work ends with
 
--- no report is a refusal
-no_refusal : (bytes : List ℕ) (limit : ℕ) (text : List ℕ) (status : Status) → IsReported bytes limit text status → status ≢ ModelRefused
-no_refusal bytes limit text status is other = other_than_report status ModelRefused (ending_of bytes limit text status is) (inl refl) other
+-- what shows that something is unknown
+record IsShown (m : System) (limit : ℕ) (held : Vec Held) : Type 0 where
+  pub full : All (IsOfLimit m limit) held.items
+  pub some : 0 < length held.items
 
-module _ (contents : Option Contents) (text : List ℕ) (status : Status) where
-  pub no_fault : (command : Command) → Answers command contents text status → status ≢ OutsideFault
-  no_fault words.Usage answers other = let is = answers.1 in cc
-  no_fault (Check model limit) answers other = no_fault_ending answers.0 limit text status answers.2 other
+-- the endings of work that is undecided or done
+abbrev IsWorkEnding : System → ℕ → Ending → Type 0
+IsWorkEnding m limit endings.Clear = Unit {0}
+IsWorkEnding m limit endings.Failed = Unit {0}
+IsWorkEnding m limit (endings.Undecided held) = IsShown m limit held
+IsWorkEnding m limit endings.ModelRefused = ⊥
+IsWorkEnding m limit endings.Usage = ⊥
 
-  pub no_memory : (command : Command) → Answers command contents text status → status ≢ Memory
-  no_memory words.Usage answers other = let is = answers.1 in cc
-  no_memory (Check model limit) answers other = no_memory_ending answers.0 limit text status answers.2 other
+one_held : (m : System) (limit : ℕ) (held : Vec Held) (full : Held) → held.items ≡ full ∷ [] → IsOfLimit m limit full → IsShown m limit held
+one_held m limit held full one is = record {
+  full = subst (All (IsOfLimit m limit)) (sym one) (All-cons (IsOfLimit m limit) full [] is (All-nil (IsOfLimit m limit)));
+  some = let count = ap length one in omega (arith, count);
+}
 
-  pub usage_only : (command : Command) → Answers command contents text status → status ≡ Usage → (command ≡ words.Usage) × (text ≡ usage_text)
-  usage_only words.Usage answers is = (refl, answers.0)
-  usage_only (Check model limit) answers is = absurd (no_usage answers.0 limit text status answers.2 is)
+undecides_end : (job : Job) (m : System) (limit : ℕ) (r : Reply) → Undecides job m limit r → IsWorkEnding m limit r.ending
+undecides_end Decide m limit r u = subst (IsWorkEnding m limit) (sym u.ends) (one_held m limit u.held u.full u.one u.of_limit)
 
-  pub usage_always : (command : Command) → Answers command contents text status → command ≡ words.Usage → status ≡ Usage
-  usage_always words.Usage answers is = answers.1
-  usage_always (Check model limit) answers is = cc
+checked_end : (m : System) (limit : ℕ) (fs : List Finding) (e : Ending) → EndsWith m limit fs e → IsWorkEnding m limit e
+checked_end m limit fs endings.Clear ends = tt
+checked_end m limit fs endings.Failed ends = tt
+checked_end m limit fs (endings.Undecided held) ends = record { full = ends.0; some = ends.1 }
+checked_end m limit fs endings.ModelRefused ends = absurd ends
+checked_end m limit fs endings.Usage ends = absurd ends
 
-  -- what is refused
-  pub refused_only : (command : Command) → Answers command contents text status → status ≡ ModelRefused
-      → (model bytes : List ℕ) × (limit : ℕ) × (refusal : Refusal) × (command ≡ Check model limit) × IfSome contents (λ files. bytes_under files model ≡ Some bytes)
-      × Refuses bytes refusal × (text ≡ refusal_line refusal)
-  refused_only words.Usage answers is = let other = answers.1 in cc
-  refused_only (Check model limit) answers is = elim answers.2 [
-    | inl line ↦ (model, answers.0, limit, line.refusal, refl, answers.1, line.applies, line.text_is)
-    | inr found ↦ absurd (no_refusal answers.0 limit text status found is)
-  ]
+does_end : (job : Job) (m : System) (limit : ℕ) (second : Option (List ℕ)) (r : Reply) → Does job m limit second r → IsWorkEnding m limit r.ending
+does_end Decide m limit second r does = checked_end m limit does.findings r.ending does.ends
 
-  -- what is neither refused nor usage is a report
-  pub report_only : (command : Command) → Answers command contents text status → status ≢ Usage → status ≢ ModelRefused
-      → (name bytes : List ℕ) × (limit : ℕ) × (command ≡ Check name limit) × IfSome contents (λ files. bytes_under files name ≡ Some bytes) × IsReported bytes limit text status
-  report_only words.Usage answers used refused = absurd (used answers.1)
-  report_only (Check model limit) answers used refused = elim answers.2 [
-    | inl line ↦ absurd (refused line.status_is)
-    | inr found ↦ (model, answers.0, limit, refl, answers.1, found)
-  ]
+work_end : (w : Work) (contents : Option Contents) (m : System) (r : Reply) → Takes w contents m r → IsWorkEnding m w.limit r.ending
+work_end w contents m r (inl undecided) = undecides_end w.job m w.limit r undecided
+work_end w contents m r (inr done) = does_end w.job m w.limit done.second r done.does
+
+not_usage : (w : Work) (contents : Option Contents) (bytes : List ℕ) (r : Reply) → IsModelReply w contents bytes r → r.ending ≢ endings.Usage
+not_usage w contents bytes r (inl line) is = let refused = line.ends in cc
+not_usage w contents bytes r (inr taken) is = subst (IsWorkEnding taken.model w.limit) is (work_end w contents taken.model r taken.takes)
+
+-- what is taken is not refused
+pub not_refused : (w : Work) (contents : Option Contents) (bytes : List ℕ) (r : Reply) → IsTaken w contents bytes r → r.ending ≢ endings.ModelRefused
+not_refused w contents bytes r taken is = subst (IsWorkEnding taken.model w.limit) is (work_end w contents taken.model r taken.takes)
+
+-- ---- the reply to a command
+
+pub usage_only : (command : Command) (contents : Option Contents) (r : Reply) → Answers command contents r → r.ending ≡ endings.Usage → (command ≡ words.Usage) × (text_of r ≡ usage_text)
+usage_only words.Usage contents r answers is = (refl, answers.0.text_is)
+usage_only (Print n) contents r answers is = let other = answers.1 in cc
+usage_only (Do w) contents r answers is = absurd (not_usage w contents answers.0 r answers.2 is)
+
+pub usage_always : (command : Command) (contents : Option Contents) (r : Reply) → Answers command contents r → command ≡ words.Usage → r.ending ≡ endings.Usage
+usage_always words.Usage contents r answers is = answers.1
+usage_always (Print n) contents r answers is = cc
+usage_always (Do w) contents r answers is = cc
+
+-- what is refused
+pub record IsRefusalOf (command : Command) (contents : Option Contents) (r : Reply) : Type 0 where
+  pub work : Work
+  pub bytes : List ℕ
+  pub refusal : Refusal
+  pub asked : command ≡ Do work
+  pub there : Reads work.source contents bytes
+  pub applies : Refuses work.job bytes refusal
+  pub text : text_of r ≡ refusal_line refusal
+
+pub refused_only : (command : Command) (contents : Option Contents) (r : Reply) → Answers command contents r → r.ending ≡ endings.ModelRefused → IsRefusalOf command contents r
+refused_only words.Usage contents r answers is = let other = answers.1 in cc
+refused_only (Print n) contents r answers is = let other = answers.1 in cc
+refused_only (Do w) contents r answers is = elim answers.2 [
+  | inl line ↦ record { work = w; bytes = answers.0; refusal = line.refusal; asked = refl; there = answers.1; applies = line.applies; text = line.text }
+  | inr taken ↦ absurd (not_refused w contents answers.0 r taken is)
+]
+
+-- what is unknown
+pub record IsUnknownOf (command : Command) (contents : Option Contents) (held : Vec Held) : Type 0 where
+  pub work : Work
+  pub bytes : List ℕ
+  pub model : System
+  pub asked : command ≡ Do work
+  pub there : Reads work.source contents bytes
+  pub has : HasModel bytes model
+  pub full : All (IsOfLimit model work.limit) held.items
+  pub some : 0 < length held.items
+
+pub unknown_only : (command : Command) (contents : Option Contents) (r : Reply) (held : Vec Held) → Answers command contents r → r.ending ≡ endings.Undecided held → IsUnknownOf command contents held
+unknown_only words.Usage contents r held answers is = let other = answers.1 in cc
+unknown_only (Print n) contents r held answers is = let other = answers.1 in cc
+unknown_only (Do w) contents r held answers is = elim answers.2 [
+  | inl line ↦ let other = line.ends in cc
+  | inr taken ↦
+      let shown = subst (IsWorkEnding taken.model w.limit) is (work_end w contents taken.model r taken.takes) in
+      record { work = w; bytes = answers.0; model = taken.model; asked = refl; there = answers.1; has = taken.has; full = shown.full; some = shown.some }
+]
+
+-- ---- the reply to a text that is told
+
+same_text : (source : Source) (contents : Option Contents) (bytes found : List ℕ) → Reads source contents found → Tells source contents bytes → found ≡ bytes
+same_text (File name) None bytes found reads tells = absurd tells
+same_text (File name) (Some files) bytes found reads tells = cc
+same_text (Ring n) contents bytes found reads tells = reads ∙ sym tells
+
+-- the reply to this work over these bytes
+pub answer_to : (command : Command) (contents : Option Contents) (r : Reply) (w : Work) (bytes : List ℕ) → Answers command contents r → command ≡ Do w → Tells w.source contents bytes
+    → IsModelReply w contents bytes r
+answer_to words.Usage contents r w bytes answers is tells = cc
+answer_to (Print n) contents r w bytes answers is tells = cc
+answer_to (Do v) contents r w bytes answers is tells =
+    let same : v ≡ w = cc in
+    let reply = subst (λ (x : Work). Reads x.source contents answers.0 × IsModelReply x contents answers.0 r) same (answers.1, answers.2) in
+    subst (λ b. IsModelReply w contents b r) (same_text w.source contents bytes answers.0 reply.0 tells) reply.1
+
+-- ---- one answer
 
 -- a text has one model at most, or is refused for one reason
 pub record OneAnswer : Type 0 where
   pub model : (bytes : List ℕ) (m n : System) → HasModel bytes m → HasModel bytes n → m ≡ n
-  pub refusal : (bytes : List ℕ) (r q : Refusal) → Refuses bytes r → Refuses bytes q → r ≡ q
-  pub model_or_refusal : (bytes : List ℕ) (m : System) (r : Refusal) → HasModel bytes m → Refuses bytes r → is_fault r ≡ true
-  pub accepted_or_refusal : (bytes : List ℕ) (m : System) (r : Refusal) → IsAccepted bytes m → Refuses bytes r → ⊥
+  pub refusal : (job : Job) (bytes : List ℕ) (r q : Refusal) → Refuses job bytes r → Refuses job bytes q → r ≡ q
+  pub model_or_refusal : (job : Job) (bytes : List ℕ) (m : System) (r : Refusal) → HasModel bytes m → Refuses job bytes r → is_fault r ≡ true
+  pub accepted_or_refusal : (job : Job) (bytes : List ℕ) (m : System) (r : Refusal) → IsAccepted bytes m → NamesLeaves job m → Refuses job bytes r → ⊥
 
--- the contents have one list of bytes under a name
-same_bytes : (files : Contents) (model name bytes found : List ℕ) (limit most : ℕ) → Check name limit ≡ Check model most → bytes_under files model ≡ Some bytes → bytes_under files name ≡ Some found → bytes ≡ found
-same_bytes files model name bytes found limit most is there other =
-    let e : name ≡ model = cc in
-    let f : bytes_under files model ≡ Some found = subst (λ n. bytes_under files n ≡ Some found) e other in
-    cc
-
--- the answer to these bytes within this limit
-pub answer_to : (text : List ℕ) (status : Status) (command : Command) (files : Contents) (model bytes : List ℕ) (limit : ℕ) → Answers command (Some files) text status
-    → command ≡ Check model limit → bytes_under files model ≡ Some bytes → IsModelAnswer bytes limit text status
-answer_to text status words.Usage files model bytes limit answers is there = cc
-answer_to text status (Check name most) files model bytes limit answers is there =
-    let same : bytes ≡ answers.0 = same_bytes files model name bytes answers.0 most limit is there answers.1 in
-    let within : most ≡ limit = cc in
-    subst (λ b. IsModelAnswer b limit text status) (sym same) (subst (λ l. IsModelAnswer answers.0 l text status) within answers.2)
-
--- a report of a model with a fault leaves all undecided
-left : (m : System) (limit : ℕ) (fs : List Finding) (status : Status) → (IsFaultless m → ⊥) → EndsWith m limit fs status → (held : Vec Held) × (status ≡ Undecided held) × IsModelUndecided fs held.items
-left m limit fs Clear faulty ends = absurd (faulty ends.0)
-left m limit fs Failed faulty ends = absurd (faulty ends.0)
-left m limit fs (Undecided held) faulty ends = elim ends.2 [
-  | inl tried ↦ absurd (faulty tried.0)
-  | inr undecided ↦ (held, refl, undecided)
-]
-left m limit fs ModelRefused faulty ends = absurd ends
-left m limit fs OutsideFault faulty ends = absurd ends
-left m limit fs Usage faulty ends = absurd ends
-left m limit fs Memory faulty ends = absurd ends
-
-module _ (one : OneAnswer) (bytes : List ℕ) (limit : ℕ) (text : List ℕ) (status : Status) (answer : IsModelAnswer bytes limit text status) where
+module _ (one : OneAnswer) (w : Work) (contents : Option Contents) (bytes : List ℕ) (r : Reply) (answer : IsModelReply w contents bytes r) where
   -- what is read off the text is told
-  pub refused_always : (refusal : Refusal) → Refuses bytes refusal → is_fault refusal ≡ false → (status ≡ ModelRefused) × (text ≡ refusal_line refusal)
+  pub refused_always : (refusal : Refusal) → Refuses w.job bytes refusal → is_fault refusal ≡ false → (r.ending ≡ endings.ModelRefused) × (text_of r ≡ refusal_line refusal)
   refused_always refusal applies other = elim answer [
-    | inl line ↦ (line.status_is, line.text_is ∙ ap refusal_line (one.refusal bytes line.refusal refusal line.applies applies))
-    | inr found ↦ absurd (false≢true (sym other ∙ one.model_or_refusal bytes found.model refusal found.has applies))
+    | inl line ↦ (line.ends, line.text ∙ ap refusal_line (one.refusal w.job bytes line.refusal refusal line.applies applies))
+    | inr taken ↦ absurd (false≢true (sym other ∙ one.model_or_refusal w.job bytes taken.model refusal taken.has applies))
   ]
 
   -- a fault is told, or the model is left undecided
-  pub faulty : (m : System) (refusal : Refusal) → HasModel bytes m → Refuses bytes refusal
-      → ((status ≡ ModelRefused) × (text ≡ refusal_line refusal)) ⊎ ((held : Vec Held) × (status ≡ Undecided held) × (r : IsReported bytes limit text status) × (r.model ≡ m) × IsModelUndecided r.reports.findings held.items)
+  pub faulty : (m : System) (refusal : Refusal) → HasModel bytes m → Refuses w.job bytes refusal → ((r.ending ≡ endings.ModelRefused) × (text_of r ≡ refusal_line refusal)) ⊎ Undecides w.job m w.limit r
   faulty m refusal has applies = elim answer [
-    | inl line ↦ inl (line.status_is, line.text_is ∙ ap refusal_line (one.refusal bytes line.refusal refusal line.applies applies))
-    | inr found ↦
-        let none : IsFaultless found.model → ⊥ = λ faultless. one.accepted_or_refusal bytes found.model refusal (record { has = found.has; faultless = faultless }) applies in
-        let r = left found.model limit found.reports.findings status none found.reports.ends in
-        inr (r.0, r.1, found, one.model bytes found.model m found.has has, r.2)
+    | inl line ↦ inl (line.ends, line.text ∙ ap refusal_line (one.refusal w.job bytes line.refusal refusal line.applies applies))
+    | inr taken ↦ elim taken.takes [
+      | inl undecided ↦ inr (subst (λ n. Undecides w.job n w.limit r) (one.model bytes taken.model m taken.has has) undecided)
+      | inr done ↦ absurd (one.accepted_or_refusal w.job bytes taken.model refusal (record { has = taken.has; faultless = done.faultless }) taken.names applies)
+    ]
   ]
 
   -- what is accepted is not refused
-  pub never : (m : System) → IsAccepted bytes m → status ≢ ModelRefused
-  never m accepted is = elim answer [
-    | inl line ↦ one.accepted_or_refusal bytes m line.refusal accepted line.applies
-    | inr found ↦ no_refusal bytes limit text status found is
+  pub never : (m : System) → IsAccepted bytes m → NamesLeaves w.job m → r.ending ≢ endings.ModelRefused
+  never m accepted names is = elim answer [
+    | inl line ↦ one.accepted_or_refusal w.job bytes m line.refusal accepted names line.applies
+    | inr taken ↦ not_refused w contents bytes r taken is
   ]
 
-  -- what has a model and is not refused is reported
-  pub reported : (m : System) → HasModel bytes m → status ≢ ModelRefused → (r : IsReported bytes limit text status) × (r.model ≡ m)
-  reported m has other = elim answer [
-    | inl line ↦ absurd (other line.status_is)
-    | inr found ↦ (found, one.model bytes found.model m found.has has)
+  -- what has a model and is not refused is taken
+  pub taken_of : (m : System) → HasModel bytes m → r.ending ≢ endings.ModelRefused → Takes w contents m r
+  taken_of m has other = elim answer [
+    | inl line ↦ absurd (other line.ends)
+    | inr taken ↦ subst (λ n. Takes w contents n r) (one.model bytes taken.model m taken.has has) taken.takes
   ]
 
--- ---- no answer begins as a fault line does
-
-begins : (n byte : ℕ) (rest : List ℕ) (fault : Fault) → byte ≢ 102 → take n (byte ∷ rest) ≢ fault_line fault
-begins zero byte rest LoadFailed other is = cc
-begins zero byte rest LoadMissing other is = cc
-begins (suc n) byte rest LoadFailed other is = other cc
-begins (suc n) byte rest LoadMissing other is = other cc
-
-no_line_refused : (n : ℕ) (refusal : Refusal) (fault : Fault) → take n (refusal_line refusal) ≢ fault_line fault
-no_line_refused n refusal fault = begins n 114 _ fault (λ is. absurd (omega arith))
-
-no_line_report : (m : System) (fs : List Finding) (n : ℕ) (fault : Fault) → take n (report m fs) ≢ fault_line fault
-no_line_report m [] n fault = begins n 116 _ fault (λ is. absurd (omega arith))
-no_line_report m (f ∷ fs) n fault = begins n 115 _ fault (λ is. absurd (omega arith))
-
-pub no_line : (contents : Option Contents) (text : List ℕ) (status : Status) (command : Command) (n : ℕ) (fault : Fault) → Answers command contents text status
-    → take n text ≢ fault_line fault
-no_line contents text status words.Usage n fault answers is = begins n 117 _ fault (λ e. absurd (omega arith)) (sym (ap (take n) answers.0) ∙ is)
-no_line contents text status (Check model limit) n fault answers is = elim answers.2 [
-  | inl line ↦ no_line_refused n line.refusal fault (sym (ap (take n) line.text_is) ∙ is)
-  | inr found ↦ no_line_report found.model found.reports.findings n fault (sym (ap (take n) found.reports.text_is) ∙ is)
-]
+-- the ring's text is put
+pub generated_of : (command : Command) (contents : Option Contents) (r : Reply) (n : ℕ) → Answers command contents r → command ≡ Print n → (r.ending ≡ endings.Clear) × (text_of r ≡ ring_text n)
+generated_of words.Usage contents r n answers is = cc
+generated_of (Print k) contents r n answers is = let same : k ≡ n = cc in (answers.1, answers.0.text_is ∙ ap ring_text same)
+generated_of (Do w) contents r n answers is = cc

@@ -7,10 +7,9 @@ use Rattle.std.proofs.lemmas.List.Elements.{All-map, All-weaker}
 use Rattle.std.proofs.lemmas.List.Sums.{sum_by-le}
 use Rattle.kripke_model.specs.System.{System}
 use Rattle.bit_encode.specs.Binary.{width}
-use Rattle.bit_encode.specs.Code.{types_of}
+use Rattle.bit_encode.specs.Code.{types_of, state_bits}
 use Rattle.bit_encode.specs.Layouts.{counted}
 use Rattle.bit_encode.proofs.BinaryLemmas.{width-least}
-use Rattle.smv_session.specs.Source.{state_bits}
 
 pub few_bits : (m : System) → length m.vars ≤ 256 → All (λ v. length v.values ≤ 1024) m.vars → state_bits m ≤ 2560
 few_bits m few short =

@@ -3,14 +3,14 @@ use Rattle.std.proofs.Common.{◌∙◌, ℕ, ◌≤◌, List, length, Result, O
 use Rattle.std.specs.Prelude.{All}
 use Rattle.std.proofs.lemmas.List.{length-map}
 use Rattle.kripke_model.specs.System.{System}
-use Rattle.bit_encode.specs.Code.{IsOrder, types_of}
+use Rattle.bit_encode.specs.Code.{IsOrder, types_of, state_bits}
 use Rattle.bit_encode.specs.Layouts.{Accepts}
 use Rattle.trans_parts.specs.Building.{Refuses}
 use Rattle.trans_parts.specs.declared.building.BuildRefusal.{BuildRefusal}
 use Rattle.trans_parts.specs.declared.building.BuildRefusal.TheVariants as refusals
 use Rattle.trans_parts.specs.declared.parts.Parts.{Parts}
-use Rattle.smv_session.specs.Source.{state_bits, most_state_bits}
-use Rattle.smv_session.specs.Found.{IsNotBuilt}
+use Rattle.smv_session.specs.Source.{most_state_bits}
+use Rattle.smv_session.specs.Relation.{IsNotBuilt}
 use Rattle.smv_session.proofs.BitCounts.{few_bits, told_count}
 
 module _ (m : System) (order : List ℕ) (limit : ℕ) (few : length m.vars ≤ 256) (short : All (λ v. length v.values ≤ 1024) m.vars) (ordered : IsOrder (length m.vars) order) where

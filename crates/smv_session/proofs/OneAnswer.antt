@@ -11,12 +11,16 @@ use Rattle.kripke_model.specs.declared.expressions.FaultKind.{FaultKind}
 use Rattle.kripke_model.specs.declared.refusals.StaticRefusal.{StaticRefusal}
 use Rattle.smv_instances.specs.Abstract as plain
 use Rattle.smv_instances.specs.Program as flat_program
-use Rattle.smv_instances.specs.declared.refusals.FlatRefusal.{FlatRefusal}
+use Rattle.kripke_model.specs.declared.refusals.FlatRefusal.{FlatRefusal}
+use Rattle.bit_encode.specs.Code.{state_bits}
 use Rattle.smv_instantiate.specs.Flattens.{Flattens}
 use Rattle.smv_instantiate.specs.Refuses as flattening
 use Rattle.trans_parts.specs.FirstFault.{IsFirstFault}
-use Rattle.smv_session.specs.Source.{line_at, token_line, HasTokens, HasProgram, HasFlat, HasRuled, HasModel, IsAccepted, state_bits}
-use Rattle.smv_session.specs.Refusals.{Refusal, Refuses, TooLong, BadByte, NumberTooLarge, NoProgram, TooDeep, NotFlat, BreaksRule, TooManyBits, Faults, is_fault}
+use Rattle.smv_session.specs.Source.{line_at, token_line, HasTokens, HasProgram, HasFlat, HasRuled, HasModel, IsAccepted}
+use Rattle.command_words.specs.Words.{Job}
+use Rattle.smv_session.specs.Jobs.{NamesLeaves}
+use Rattle.smv_session.specs.Refuses.{Refuses}
+use Rattle.smv_texts.specs.Refusals.{Refusal, TooLong, BadByte, NumberTooLarge, NoProgram, TooDeep, NotFlat, BreaksRule, TooManyBits, Faults, is_fault}
 use Rattle.smv_session.proofs.FaultLemmas.{one_fault, faultless_or_fault}
 
 -- what the layers say of their answers
@@ -38,14 +42,14 @@ pub record Laws : Type 0 where
   pub one_static_refusal : (m : System) (r q : StaticRefusal) → Breaks m r → Breaks m q → r ≡ q
 
 -- the text passes the first steps, so many of them
-abbrev Passes : List ℕ → ℕ → Type 0
-Passes bytes zero = length bytes ≤ most_bytes
-Passes bytes (suc zero) = (ts : List Placed) × HasTokens bytes ts
-Passes bytes (suc (suc zero)) = (p : Program) × HasProgram bytes p
-Passes bytes (suc (suc (suc zero))) = (m : System) × HasFlat bytes m
-Passes bytes (suc (suc (suc (suc zero)))) = (m : System) × HasRuled bytes m
-Passes bytes (suc (suc (suc (suc (suc zero))))) = (m : System) × HasModel bytes m
-Passes bytes (suc (suc (suc (suc (suc (suc k)))))) = (m : System) × IsAccepted bytes m
+abbrev Passes : Job → List ℕ → ℕ → Type 0
+Passes job bytes zero = length bytes ≤ most_bytes
+Passes job bytes (suc zero) = (ts : List Placed) × HasTokens bytes ts
+Passes job bytes (suc (suc zero)) = (p : Program) × HasProgram bytes p
+Passes job bytes (suc (suc (suc zero))) = (m : System) × HasFlat bytes m
+Passes job bytes (suc (suc (suc (suc zero)))) = (m : System) × HasRuled bytes m
+Passes job bytes (suc (suc (suc (suc (suc zero))))) = (m : System) × HasModel bytes m
+Passes job bytes (suc (suc (suc (suc (suc (suc k)))))) = (m : System) × IsAccepted bytes m × NamesLeaves job m
 
 -- the step at which it is refused
 abbrev stage : Refusal → ℕ
@@ -59,8 +63,8 @@ stage (BreaksRule r) = 4
 stage (TooManyBits bits) = 5
 stage (Faults m kind l here after) = 6
 
-module _ (bytes : List ℕ) where
-  down : (k : ℕ) → Passes bytes (suc k) → Passes bytes k
+module _ (job : Job) (bytes : List ℕ) where
+  down : (k : ℕ) → Passes job bytes (suc k) → Passes job bytes k
   down zero h = h.1.few
   down (suc zero) h = (h.1.tokens, h.1.has)
   down (suc (suc zero)) h = (h.1.program, h.1.has)
@@ -69,14 +73,14 @@ module _ (bytes : List ℕ) where
   down (suc (suc (suc (suc (suc zero))))) h = (h.0, h.1.has)
   down (suc (suc (suc (suc (suc (suc k)))))) h = h
 
-  passes_down : (n k : ℕ) → k ≤ n → Passes bytes n → Passes bytes k
-  passes_down zero k below h = let e : zero ≡ k = omega (arith, below) in subst (Passes bytes) e h
+  passes_down : (n k : ℕ) → k ≤ n → Passes job bytes n → Passes job bytes k
+  passes_down zero k below h = let e : zero ≡ k = omega (arith, below) in subst (Passes job bytes) e h
   passes_down (suc n) k below h = elim (cases_lt n k) [
-    | inl above ↦ (let e : suc n ≡ k = omega (arith, below, above) in subst (Passes bytes) e h)
+    | inl above ↦ (let e : suc n ≡ k = omega (arith, below, above) in subst (Passes job bytes) e h)
     | inr within ↦ passes_down n k within (down n h)
   ]
 
-  passed : (r : Refusal) (k : ℕ) → k < stage r → Refuses bytes r → Passes bytes k
+  passed : (r : Refusal) (k : ℕ) → k < stage r → Refuses job bytes r → Passes job bytes k
   passed TooLong k below h = absurd (omega (arith, below))
   passed (BadByte l) k below h = passes_down 0 k (omega (arith, below)) h.0
   passed (NumberTooLarge l) k below h = passes_down 0 k (omega (arith, below)) h.0
@@ -87,7 +91,7 @@ module _ (bytes : List ℕ) where
   passed (TooManyBits bits) k below h = passes_down 4 k (omega (arith, below)) (h.0, h.1)
   passed (Faults m kind l here after) k below h = passes_down 5 k (omega (arith, below)) (m, h.0)
 
-module _ (laws : Laws) (bytes : List ℕ) where
+module _ (laws : Laws) (job : Job) (bytes : List ℕ) where
   one_tokens : (ts us : List Placed) → HasTokens bytes ts → HasTokens bytes us → ts ≡ us
   one_tokens ts us h k = laws.list bytes ts us h.lexed k.lexed
 
@@ -104,7 +108,7 @@ module _ (laws : Laws) (bytes : List ℕ) where
   one_model m n h k = one_ruled m n h.ruled k.ruled
 
   -- what is refused at a step doesn't pass it
-  stopped : (r : Refusal) → Refuses bytes r → Passes bytes (stage r) → ⊥
+  stopped : (r : Refusal) → Refuses job bytes r → Passes job bytes (stage r) → ⊥
   stopped TooLong h few = omega (arith, h, few)
   stopped (BadByte l) h has = laws.list_or_bad bytes has.0 h.1 has.1.lexed h.2
   stopped (NumberTooLarge l) h has = laws.list_or_large bytes has.0 h.1 has.1.lexed h.2
@@ -115,11 +119,11 @@ module _ (laws : Laws) (bytes : List ℕ) where
   stopped (NotFlat r) h has = has.1.kept r (subst (λ p. flattening.Refuses (plain.program p) r) (one_program h.0 has.1.program h.1 has.1.has) h.2)
   stopped (BreaksRule r) h has = has.1.rules r (subst (λ m. Breaks m r) (one_flat h.0 has.0 h.1 has.1.flat) h.2)
   stopped (TooManyBits bits) h has = let few = subst (λ m. state_bits m ≤ 128) (one_ruled has.0 h.0 has.1.ruled h.1) has.1.few in omega (arith, few, h.2)
-  stopped (Faults m kind l here after) h has = faultless_or_fault m kind l here after h.1 (subst IsFaultless (one_model has.0 m has.1.has h.0) has.1.faultless)
+  stopped (Faults m kind l here after) h has = faultless_or_fault m kind l here after h.2 (subst IsFaultless (one_model has.0 m has.1.has h.0) has.1.faultless)
 
   -- what is accepted is not refused
-  pub accepted_or_refusal : (m : System) (r : Refusal) → IsAccepted bytes m → Refuses bytes r → ⊥
-  accepted_or_refusal m r accepted h = stopped r h (passes_down bytes 6 (stage r) (at_most r) (m, accepted))
+  pub accepted_or_refusal : (m : System) (r : Refusal) → IsAccepted bytes m → NamesLeaves job m → Refuses job bytes r → ⊥
+  accepted_or_refusal m r accepted names h = stopped r h (passes_down job bytes 6 (stage r) (at_most r) (m, accepted, names))
     where
       at_most : (r : Refusal) → stage r ≤ 6
       at_most TooLong = omega arith
@@ -133,10 +137,10 @@ module _ (laws : Laws) (bytes : List ℕ) where
       at_most (Faults m kind l here after) = omega arith
 
   -- what has a model is refused for a fault alone
-  pub model_or_refusal : (m : System) (r : Refusal) → HasModel bytes m → Refuses bytes r → is_fault r ≡ true
-  model_or_refusal m r has h = by_fault r h (λ at_most. stopped r h (passes_down bytes 5 (stage r) at_most (m, has)))
+  pub model_or_refusal : (m : System) (r : Refusal) → HasModel bytes m → Refuses job bytes r → is_fault r ≡ true
+  model_or_refusal m r has h = by_fault r h (λ at_most. stopped r h (passes_down job bytes 5 (stage r) at_most (m, has)))
     where
-      by_fault : (r : Refusal) → Refuses bytes r → (stage r ≤ 5 → ⊥) → is_fault r ≡ true
+      by_fault : (r : Refusal) → Refuses job bytes r → (stage r ≤ 5 → ⊥) → is_fault r ≡ true
       by_fault (Faults m kind l here after) h stops = refl
       by_fault TooLong h stops = absurd (stops (omega arith))
       by_fault (BadByte l) h stops = absurd (stops (omega arith))
@@ -147,11 +151,11 @@ module _ (laws : Laws) (bytes : List ℕ) where
       by_fault (BreaksRule r) h stops = absurd (stops (omega arith))
       by_fault (TooManyBits bits) h stops = absurd (stops (omega arith))
 
-  same_stage : (r q : Refusal) → Refuses bytes r → Refuses bytes q → stage r ≡ stage q
+  same_stage : (r q : Refusal) → Refuses job bytes r → Refuses job bytes q → stage r ≡ stage q
   same_stage r q h k = elim (cases_lt (stage r) (stage q)) [
-    | inl before ↦ absurd (stopped r h (passed bytes q (stage r) before k))
+    | inl before ↦ absurd (stopped r h (passed job bytes q (stage r) before k))
     | inr after ↦ elim (cases_lt (stage q) (stage r)) [
-      | inl before ↦ absurd (stopped q k (passed bytes r (stage q) before h))
+      | inl before ↦ absurd (stopped q k (passed job bytes r (stage q) before h))
       | inr within ↦ omega (arith, after, within)
     ]
   ]
@@ -167,7 +171,7 @@ module _ (laws : Laws) (bytes : List ℕ) where
       ap (λ x. Faults x kind l here after) same ∙ ap (λ x. Faults n x l here after) f.0 ∙ ap (λ x. Faults n other x here after) f.1
       ∙ ap (λ x. Faults n other j x after) f.2 ∙ ap (λ x. Faults n other j there x) f.3
 
-  one_at_stage : (r q : Refusal) → stage r ≡ stage q → Refuses bytes r → Refuses bytes q → r ≡ q
+  one_at_stage : (r q : Refusal) → stage r ≡ stage q → Refuses job bytes r → Refuses job bytes q → r ≡ q
   one_at_stage TooLong TooLong e h k = refl
   one_at_stage (BadByte l) (BadByte j) e h k = ap BadByte (h.3 ∙ ap (line_at bytes) (laws.bad bytes h.1 k.1 h.2 k.2) ∙ sym k.3)
   one_at_stage (BadByte l) (NumberTooLarge j) e h k = absurd (laws.bad_or_large bytes h.1 k.1 h.2 k.2)
@@ -187,8 +191,8 @@ module _ (laws : Laws) (bytes : List ℕ) where
       ap NotFlat (laws.one_flat_refusal (plain.program k.0) r q (subst (λ p. flattening.Refuses (plain.program p) r) (one_program h.0 k.0 h.1 k.1) h.2) k.2)
   one_at_stage (BreaksRule r) (BreaksRule q) e h k = ap BreaksRule (laws.one_static_refusal k.0 r q (subst (λ m. Breaks m r) (one_flat h.0 k.0 h.1 k.1) h.2) k.2)
   one_at_stage (TooManyBits bits) (TooManyBits other) e h k = ap TooManyBits (h.3 ∙ ap state_bits (one_ruled h.0 k.0 h.1 k.1) ∙ sym k.3)
-  one_at_stage (Faults m kind l here after) (Faults n other j there next) e h k = same_fault m n kind other l j here there after next (one_model m n h.0 k.0) h.1 k.1
+  one_at_stage (Faults m kind l here after) (Faults n other j there next) e h k = same_fault m n kind other l j here there after next (one_model m n h.0 k.0) h.2 k.2
   one_at_stage r q e h k = absurd (omega (arith, e))
 
-  pub one_refusal : (r q : Refusal) → Refuses bytes r → Refuses bytes q → r ≡ q
+  pub one_refusal : (r q : Refusal) → Refuses job bytes r → Refuses job bytes q → r ≡ q
   one_refusal r q h k = one_at_stage r q (same_stage r q h k) h k

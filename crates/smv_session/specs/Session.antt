@@ -1,25 +1,29 @@
--- One call of the program: what it was given, what it left, and what is promised of these.
-use Rattle.std.specs.Prelude.{◌≡◌, ◌≢◌, ◌⊎◌, ◌<◌, ℕ, false, List, [], ◌++◌, map, Option, Some, None, IfSome, string_bytes, String}
+-- One call of the program: what it was given, what it left, and what is promised of these, whatever the command.
+use Rattle.std.specs.Prelude.{◌≡◌, ◌≢◌, ◌⊎◌, ◌<◌, ℕ, false, List, [], ◌++◌, length, map, All, Option, Some, None, IfSome, string_bytes, String}
 use Rattle.std.specs.Global.{Vec}
 use Rattle.std.specs.declared.alloc.Global.{Global}
 use Rattle.std.specs.Io.KnownBytes.{Appends}
-use Rattle.smv_outside.specs.declared.faults.FileFaults.{FileFaults}
+use Rattle.bdd_nodes.specs.declared.refusal.Held.{Held}
+use Rattle.command_words.specs.Words as words
+use Rattle.command_words.specs.Words.{Command, Work, Print, Do, command_of}
+use Rattle.kripke_model.specs.System.{System}
 use Rattle.smv_outside.specs.Contents.{Contents, bytes_under}
 use Rattle.smv_outside.specs.Faults.{Rose, last_count}
 use Rattle.smv_outside.specs.Written.{AppendsPrefix}
-use Rattle.bdd_nodes.specs.declared.refusal.Held.{Held}
-use Rattle.command_words.specs.Words as words
-use Rattle.command_words.specs.Words.{Command, Check, command_of}
-use Rattle.smv_session.specs.Texts.{usage_text, Fault, LoadFailed, LoadMissing, fault_line}
-use Rattle.kripke_model.specs.System.{System}
-use Rattle.smv_session.specs.Report.{Finding, report}
-use Rattle.smv_session.specs.Verdicts.{AreVerdicts, ShowStates}
-use Rattle.smv_session.specs.Endings.{EndsWith, IsModelUndecided}
+use Rattle.smv_outside.specs.declared.faults.FileFaults.{FileFaults}
+use Rattle.smv_texts.specs.Evidence.{IsOfLimit}
+use Rattle.smv_texts.specs.Refusals.{Refusal, is_fault, refusal_line}
+use Rattle.smv_texts.specs.Replies.{Reply, text_of}
+use Rattle.smv_texts.specs.Statuses.{status_of}
+use Rattle.smv_texts.specs.Texts.{usage_text, fault_line}
+use Rattle.smv_texts.specs.declared.fault.Fault.{Fault}
+use Rattle.smv_texts.specs.declared.fault.Fault.TheVariants.{LoadFailed, LoadMissing}
+use Rattle.smv_texts.specs.declared.status.Status.{Status}
+use Rattle.smv_texts.specs.declared.status.Status.TheVariants.{Clear, Failed, Undecided, ModelRefused, OutsideFault, Usage, Memory}
+use Rattle.smv_session.specs.Answers.{Answers, Loads, Reads, Takes, Tells}
+use Rattle.smv_session.specs.Jobs.{Keeps, NamesLeaves, Undecides}
+use Rattle.smv_session.specs.Refuses.{Refuses}
 use Rattle.smv_session.specs.Source.{HasModel, IsAccepted}
-use Rattle.smv_session.specs.Refusals.{Refusal, Refuses, is_fault, refusal_line}
-use Rattle.smv_session.specs.Answers.{Answers, Loads}
-use Rattle.smv_session.specs.declared.status.Status.{Status}
-use Rattle.smv_session.specs.declared.status.Status.TheVariants.{Clear, Failed, Undecided, ModelRefused, OutsideFault, Usage, Memory}
 
 pub record Session : Type 0 where
   pub words : List (List ℕ)
@@ -50,26 +54,30 @@ session contents file_faults written sink_faults words files files_after out out
 
 -- ---- counts
 
--- a count of the files rose in this call
-abbrev pub FilesRose : Session → Type 0
-FilesRose s = Rose s.file_faults.failed s.file_faults_after.failed ⊎ Rose s.file_faults.missing s.file_faults_after.missing
-
 -- the count of a fault
 abbrev pub count_of : Fault → FileFaults → ℕ
 count_of LoadFailed counts = counts.failed
 count_of LoadMissing counts = counts.missing
 
+-- the count of the fault rose in this call
+abbrev pub FaultRose : Session → Fault → Type 0
+FaultRose s fault = Rose (count_of fault s.file_faults) (count_of fault s.file_faults_after)
+
 -- the count of the fault is greater than before
 abbrev pub Grew : Session → Fault → Type 0
 Grew s fault = count_of fault s.file_faults < count_of fault s.file_faults_after
 
--- a count of the files is greater than before
-abbrev pub FilesGrew : Session → Type 0
-FilesGrew s = Grew s LoadFailed ⊎ Grew s LoadMissing
-
 -- the count of the fault stood at its last value before the call
 abbrev pub WasAtLast : Session → Fault → Type 0
 WasAtLast s fault = count_of fault s.file_faults ≡ last_count
+
+-- a count of the files rose in this call
+abbrev pub FilesRose : Session → Type 0
+FilesRose s = (fault : Fault) × FaultRose s fault
+
+-- a count of the files is greater than before
+abbrev pub FilesGrew : Session → Type 0
+FilesGrew s = (fault : Fault) × Grew s fault
 
 -- the count of the sink rose in this call
 abbrev pub SinkRose : Session → Type 0
@@ -81,7 +89,7 @@ pub record IsUndisturbed (s : Session) : Type 0 where
   pub sink : ¬ SinkRose s
   pub memory : s.status ≢ Memory
 
--- ---- what was put
+-- ---- what was put and saved
 
 -- as far as the sink tells, this text was put
 abbrev pub Puts : Session → List ℕ → Type 0
@@ -100,82 +108,89 @@ TellsText None after text = ⊥
 abbrev pub IsToldToPut : Session → List ℕ → Type 0
 IsToldToPut s text = TellsText s.written s.written_after text
 
+-- what a reply leaves in the files: the bytes that it saves stand under their name, and all else stays
+abbrev pub Leaves : Option (List ℕ × List ℕ) → Option Contents → Option Contents → Type 0
+Leaves None before after = after ≡ before
+Leaves (Some saved) (Some before) (Some after) = (bytes_under after saved.0 ≡ Some saved.1) × ((other : List ℕ) → other ≢ saved.0 → bytes_under after other ≡ bytes_under before other)
+Leaves (Some saved) None None = Unit {0}
+Leaves (Some saved) before after = ⊥
+
+-- the call ends as the reply says
+pub record Shows (s : Session) (r : Reply) : Type 0 where
+  pub status : s.status ≡ status_of r.ending
+  pub text : Puts s (text_of r)
+  pub files : Leaves r.saves s.contents s.contents_after
+
+-- ---- what was asked
+
+-- the words ask for work over a model's text, whose bytes are told
+pub record Asks (s : Session) (w : Work) (bytes : List ℕ) : Type 0 where
+  pub asked : command_of s.words ≡ Do w
+  pub there : Tells w.source s.contents bytes
+
+-- the same where the contents may not be told: then some bytes are meant
+pub record MayAsk (s : Session) (w : Work) (bytes : List ℕ) : Type 0 where
+  pub asked : command_of s.words ≡ Do w
+  pub there : Reads w.source s.contents bytes
+
 -- ---- the promises
 
 -- Undisturbed, the call puts the answer to its words.
 abbrev pub PutsAnswer : Session → Type 0
-PutsAnswer s = IsUndisturbed s → (text : List ℕ) × Puts s text × Answers (command_of s.words) s.contents text s.status
+PutsAnswer s = IsUndisturbed s → (r : Reply) × Answers (command_of s.words) s.contents r × Shows s r
 
 -- Words that are no command are answered by the usage text, and no others are.
 pub record AnswersUsage (s : Session) : Type 0 where
   pub only : s.status ≡ Usage → (command_of s.words ≡ words.Usage) × Puts s usage_text
   pub always : IsUndisturbed s → command_of s.words ≡ words.Usage → s.status ≡ Usage
 
--- The call checks a text within a node limit, and its contents are told.
-pub record Checks (s : Session) (bytes : List ℕ) (limit : ℕ) : Type 0 where
-  pub files : Contents
-  pub told : s.contents ≡ Some files
-  pub name : List ℕ
-  pub asked : command_of s.words ≡ Check name limit
-  pub there : bytes_under files name ≡ Some bytes
-
--- The same where the contents may not be told: then some bytes are meant.
-pub record MayCheck (s : Session) (bytes : List ℕ) (limit : ℕ) : Type 0 where
-  pub name : List ℕ
-  pub asked : command_of s.words ≡ Check name limit
-  pub there : IfSome s.contents (λ files. bytes_under files name ≡ Some bytes)
-
--- The report of the model says of each specification that it is unknown, and one full store is the evidence.
-pub record LeavesUndecided (s : Session) (m : System) (limit : ℕ) : Type 0 where
-  pub held : Vec Held
-  pub status : s.status ≡ Undecided held
-  pub findings : List Finding
-  pub puts : Puts s (report m findings)
-  pub verdicts : AreVerdicts m limit findings
-  pub undecided : IsModelUndecided findings held.items
-
 -- A refusal is told only where it applies. One that is read off the text is told wherever it applies. A fault of an item is
 -- told too, unless the node limit leaves the model undecided. An accepted model is not refused.
 pub record RefusesModels (s : Session) : Type 0 where
-  pub only : s.status ≡ ModelRefused → (bytes : List ℕ) × (limit : ℕ) × (refusal : Refusal) × MayCheck s bytes limit × Refuses bytes refusal × Puts s (refusal_line refusal)
-  pub always : IsUndisturbed s → (bytes : List ℕ) (limit : ℕ) (refusal : Refusal) → Checks s bytes limit → Refuses bytes refusal → is_fault refusal ≡ false
+  pub only : s.status ≡ ModelRefused → (w : Work) × (bytes : List ℕ) × (refusal : Refusal) × MayAsk s w bytes × Refuses w.job bytes refusal × Puts s (refusal_line refusal)
+  pub always : IsUndisturbed s → (w : Work) (bytes : List ℕ) (refusal : Refusal) → Asks s w bytes → Refuses w.job bytes refusal → is_fault refusal ≡ false
       → (s.status ≡ ModelRefused) × Puts s (refusal_line refusal)
-  pub faulty : IsUndisturbed s → (bytes : List ℕ) (limit : ℕ) (m : System) (refusal : Refusal) → Checks s bytes limit → HasModel bytes m → Refuses bytes refusal
-      → ((s.status ≡ ModelRefused) × Puts s (refusal_line refusal)) ⊎ LeavesUndecided s m limit
-  pub never : IsUndisturbed s → (bytes : List ℕ) (limit : ℕ) (m : System) → Checks s bytes limit → IsAccepted bytes m → s.status ≢ ModelRefused
+  pub faulty : IsUndisturbed s → (w : Work) (bytes : List ℕ) (m : System) (refusal : Refusal) → Asks s w bytes → HasModel bytes m → Refuses w.job bytes refusal
+      → ((s.status ≡ ModelRefused) × Puts s (refusal_line refusal)) ⊎ ((r : Reply) × Undecides w.job m w.limit r × Shows s r)
+  pub never : IsUndisturbed s → (w : Work) (bytes : List ℕ) (m : System) → Asks s w bytes → IsAccepted bytes m → NamesLeaves w.job m → s.status ≢ ModelRefused
 
--- The report of one outcome for each specification is put.
-pub record PutsReport (s : Session) (m : System) (limit : ℕ) : Type 0 where
-  pub findings : List Finding
-  pub puts : Puts s (report m findings)
-  pub verdicts : AreVerdicts m limit findings
-  pub states : ShowStates m findings
-  pub ends : EndsWith m limit findings s.status
+-- A model that isn't refused is left undecided by the limit, or has no fault and the job is done.
+pub record TakesModels (s : Session) : Type 0 where
+  pub takes : IsUndisturbed s → (w : Work) (bytes : List ℕ) (m : System) → Asks s w bytes → HasModel bytes m → s.status ≢ ModelRefused → (r : Reply) × Takes w s.contents m r × Shows s r
 
--- A model of which no fault is told is answered by the report of one outcome for each specification: true comes only
--- where the model is accepted and the specification holds at every initial state, and false only where the model is accepted and it doesn't.
-pub record ReportsVerdicts (s : Session) : Type 0 where
-  pub reports : IsUndisturbed s → (bytes : List ℕ) (limit : ℕ) (m : System) → Checks s bytes limit → HasModel bytes m → s.status ≢ ModelRefused
-      → (findings : List Finding) × Puts s (report m findings) × AreVerdicts m limit findings
+-- Something is unknown only with the full stores that show it. Each has a level for each bit of the current and of the next
+-- state, and the limit that was asked for.
+pub record IsUnknown (s : Session) (held : Vec Held) : Type 0 where
+  pub work : Work
+  pub bytes : List ℕ
+  pub model : System
+  pub asked : MayAsk s work bytes
+  pub has : HasModel bytes model
+  pub full : All (IsOfLimit model work.limit) held.items
+  pub some : 0 < length held.items
 
--- With a false verdict state 0 is the least initial state at which the specification is false.
-pub record ShowsStates (s : Session) : Type 0 where
-  pub shows : IsUndisturbed s → (bytes : List ℕ) (limit : ℕ) (m : System) → Checks s bytes limit → HasModel bytes m → s.status ≢ ModelRefused
-      → (findings : List Finding) × Puts s (report m findings) × AreVerdicts m limit findings × ShowStates m findings
-
--- Something is unknown only with the full stores that show it: one for each unknown specification, or one for an undecided model.
--- Each has a level for each bit of the current and of the next state, and the limit that was asked for.
 pub record HasEvidence (s : Session) : Type 0 where
-  pub unknown : (held : Vec Held) → s.status ≡ Undecided held
-      → (bytes : List ℕ) × (limit : ℕ) × (m : System) × MayCheck s bytes limit × HasModel bytes m × PutsReport s m limit
+  pub unknown : (held : Vec Held) → s.status ≡ Undecided held → IsUnknown s held
 
--- the contents that each command leaves
-abbrev pub Leaves : Command → Option Contents → Option Contents → Type 0
-Leaves words.Usage before after = after ≡ before
-Leaves (Check model limit) before after = after ≡ before
+-- the statuses of replies to work that is done or undecided
+abbrev pub IsOfWork : Status → Type 0
+IsOfWork Clear = Unit {0}
+IsOfWork Failed = Unit {0}
+IsOfWork (Undecided held) = Unit {0}
+IsOfWork status = ⊥
+
+-- No other answer has the status of a reply.
+pub record HasStatusOfReply (s : Session) : Type 0 where
+  pub shown : IsOfWork s.status → (r : Reply) × Answers (command_of s.words) s.contents r × Shows s r
+
+-- what each command keeps of the contents, whatever the status
+abbrev pub KeepsOf : Command → Option Contents → Option Contents → Type 0
+KeepsOf words.Usage before after = after ≡ before
+KeepsOf (Print n) before after = after ≡ before
+KeepsOf (Do w) before after = Keeps w.job before after
 
 abbrev pub KeepsContents : Session → Type 0
-KeepsContents s = Leaves (command_of s.words) s.contents s.contents_after
+KeepsContents s = KeepsOf (command_of s.words) s.contents s.contents_after
 
 -- A fault of the outside is answered only where a count rose.
 pub record FaultHasCause (s : Session) : Type 0 where
@@ -191,24 +206,22 @@ abbrev pub PutsFaultLine : Session → Type 0
 PutsFaultLine s = FilesGrew s → s.status ≡ OutsideFault
     → (fault : Fault) × Grew s fault × (Puts s (fault_line fault) ⊎ (SinkRose s × PutsPrefix s (fault_line fault)))
 
--- Each fault line stands only where its own count rose, and all contents stay with it.
-pub record FaultLinesHaveCause (s : Session) : Type 0 where
-  pub failed : IsToldToPut s (fault_line LoadFailed) → Rose s.file_faults.failed s.file_faults_after.failed × (s.contents_after ≡ s.contents)
-  pub missing : IsToldToPut s (fault_line LoadMissing) → Rose s.file_faults.missing s.file_faults_after.missing × (s.contents_after ≡ s.contents)
-      × IfSome s.contents (λ files. (name : List ℕ) × Loads (command_of s.words) name × (bytes_under files name ≡ None))
+-- what a fault line tells
+abbrev pub IsSo : Session → Fault → Type 0
+IsSo s LoadFailed = s.contents_after ≡ s.contents
+IsSo s LoadMissing = (s.contents_after ≡ s.contents) × IfSome s.contents (λ files. (name : List ℕ) × Loads (command_of s.words) s.contents name × (bytes_under files name ≡ None))
+
+-- A fault line stands only where its own count rose, and what it tells is so.
+abbrev pub FaultLinesHaveCause : Session → Type 0
+FaultLinesHaveCause s = (fault : Fault) → IsToldToPut s (fault_line fault) → FaultRose s fault × IsSo s fault
 
 -- A fault that no count of the files tells cut an answer off, or the line of a fault whose count stood at its last value.
 pub record CutsOffAnswer (s : Session) : Type 0 where
-  pub cut : s.status ≡ OutsideFault → ¬ FilesGrew s → ((text : List ℕ) × (status : Status) × Answers (command_of s.words) s.contents text status × PutsPrefix s text)
+  pub cut : s.status ≡ OutsideFault → ¬ FilesGrew s
+      → ((r : Reply) × Answers (command_of s.words) s.contents r × PutsPrefix s (text_of r) × Leaves r.saves s.contents s.contents_after)
       ⊎ ((fault : Fault) × WasAtLast s fault × PutsPrefix s (fault_line fault))
 
 -- Where memory ran out nothing was put, and all contents stay.
 pub record MemoryChangesNothing (s : Session) : Type 0 where
   pub written : s.status ≡ Memory → Puts s []
   pub contents : s.status ≡ Memory → s.contents_after ≡ s.contents
-
--- A report has the greatest status that applies, and no other answer has one of these.
-pub record ReportHasStatus (s : Session) : Type 0 where
-  pub reports : IsUndisturbed s → (bytes : List ℕ) (limit : ℕ) (m : System) → Checks s bytes limit → HasModel bytes m → s.status ≢ ModelRefused → PutsReport s m limit
-  pub only : (s.status ≡ Clear) ⊎ (s.status ≡ Failed)
-      → (bytes : List ℕ) × (limit : ℕ) × (m : System) × MayCheck s bytes limit × HasModel bytes m × PutsReport s m limit

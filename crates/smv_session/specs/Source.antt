@@ -10,7 +10,7 @@ use Rattle.kripke_model.specs.Faults.{IsFaultless}
 use Rattle.kripke_model.specs.Refusing.{Silent}
 use Rattle.kripke_model.specs.Static.{KeepsRules}
 use Rattle.kripke_model.specs.System.{System}
-use Rattle.bit_encode.specs.Code.{types_of, bit_count}
+use Rattle.bit_encode.specs.Code.{state_bits}
 
 -- ---- lines
 
@@ -52,10 +52,6 @@ pub record HasFlat (bytes : List ℕ) (m : System) : Type 0 where
 pub record HasRuled (bytes : List ℕ) (m : System) : Type 0 where
   pub flat : HasFlat bytes m
   pub rules : KeepsRules m
-
--- how many bits a state of the model has
-abbrev pub state_bits : System → ℕ
-state_bits m = bit_count (types_of m)
 
 abbrev pub most_state_bits : ℕ
 most_state_bits = 128

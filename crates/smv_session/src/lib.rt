@@ -1,20 +1,12 @@
 //! The program: from its words and files to the text that it puts and its status.
 #![tactic(auto)]
 
-mod answer;
 mod decision;
-mod failing;
-mod findings;
-mod item_fault;
 pub mod laws;
-mod outcome;
-mod reasons;
-mod refusal;
-mod report;
 mod session;
 mod source;
-mod status;
-mod text;
+mod work;
 
 pub use session::run;
-pub use status::Status;
+pub use smv_rings::gen_text;
+pub use smv_texts::Status;

@@ -8,12 +8,12 @@ ghost use Rattle.smv_parser.specs.ProgramView as programs;
 ghost use Rattle.smv_session.specs.Source.{HasFlat, HasProgram, HasRuled, HasTokens, line_at as line_at_byte, token_line as line_of_token};
 ghost use Rattle.smv_session.specs.Told.{Applies};
 
-use crate::refusal::Refusal;
 use kripke_model::models::{FlatModel, Ruled};
 use smv_instantiate::flatten;
 use smv_lexer::{LexRefusal, Token, lex};
 use smv_parser::{ParseRefusal, Program, parse};
 use smv_static::accept;
+use smv_texts::Refusal;
 use std::alloc::Global;
 
 fn line_feeds(bytes: &[u8]) -> usize

@@ -15,3 +15,4 @@ mod targets;
 mod ways;
 
 pub use acceptance::accept;
+pub use kripke_model::refusals::StaticRefusal;

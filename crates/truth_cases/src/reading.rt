@@ -1,8 +1,7 @@
 //! From a text to its model.
 
 use kripke_model::models::Ruled;
-use kripke_model::refusals::StaticRefusal;
-use smv_instances::FlatRefusal;
+use kripke_model::refusals::{FlatRefusal, StaticRefusal};
 use smv_instantiate::flatten;
 use smv_lexer::{LexRefusal, lex};
 use smv_parser::{ParseRefusal, parse};

@@ -4,6 +4,7 @@ ghost use Rattle.std.specs.Prelude.{◌≡◌, ◌<◌, IfOk};
 ghost use Rattle.region_sets.specs.Sets.{Sets};
 
 use bdd_nodes::Steps;
+use bit_encode::orders::declared_order;
 use diagram_sets::DiagramSets;
 use kripke_model::models::Ruled;
 use region_sets::{StateSets, TreeSets};
@@ -18,17 +19,6 @@ const LIMIT: u32 = 1_000_000;
 
 /// How many answers are remembered.
 const CACHE: u32 = 65_536;
-
-/// The numbers of the variables in declared order.
-fn declared_order(alloc: Global, model: &Ruled) -> Result<Vec<u32>, AllocError> {
-    model.rules_law();
-    let count = model.vars().len() as u32;
-    let mut order = Vec::new(alloc);
-    for x in 0..count {
-        order.push(x)?;
-    }
-    Ok(order)
-}
 
 /// Sets over the parts of the model.
 fn sets_over<L: Ledger>(
@@ -53,7 +43,8 @@ fn sets_over<L: Ledger>(
 pub fn diagrams(alloc: Global, model: &Ruled) -> Result<DiagramSets, Fail>
     ensures { IfOk result (λ sets. (⟦<DiagramSets as StateSets>⟧.seen sets).over ≡ model.now) }
 {
-    let order = declared_order(alloc, model)?;
+    model.rules_law();
+    let order = declared_order(alloc, model.vars().len())?;
     sets_over::<Brand>(alloc, model.copy(alloc)?, &order, Blank::new(1))
 }
 

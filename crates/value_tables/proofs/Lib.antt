@@ -16,7 +16,6 @@ pub mod EvalLemmas
 pub mod BuildLemmas
 pub mod PairLemmas
 pub mod RowLemmas
-mod QuotientLemmas
 pub mod StepLemmas
 pub mod WeightLemmas
 pub mod AllowanceLemmas

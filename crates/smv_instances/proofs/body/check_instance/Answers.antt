@@ -4,7 +4,7 @@ use Rattle.std.proofs.lemmas.Option.{same_Some}
 use Rattle.std.specs.List.{list_any}
 use Rattle.std.specs.Str.{bytes_eq}
 use Rattle.kripke_model.proofs.FirstLemmas.{silent_refuse}
-use Rattle.smv_instances.specs.declared.refusals.FlatRefusal.{FlatRefusal}
+use Rattle.kripke_model.specs.declared.refusals.FlatRefusal.{FlatRefusal}
 use Rattle.smv_instances.specs.Plain.{plain_expr}
 use Rattle.smv_instances.specs.Instances.{modules_to}
 use Rattle.smv_instances.specs.Declarations.{declaration_rows}

@@ -4,7 +4,7 @@ use Rattle.std.specs.Str.{bytes_eq}
 use Rattle.std.proofs.lemmas.List.{length-map}
 use Rattle.kripke_model.specs.Refusing.{Silent, refuse}
 use Rattle.kripke_model.proofs.FirstLemmas.{silent_refuse}
-use Rattle.smv_instances.specs.declared.refusals.FlatRefusal.{FlatRefusal}
+use Rattle.kripke_model.specs.declared.refusals.FlatRefusal.{FlatRefusal}
 use Rattle.smv_instances.specs.Entries.{Entry}
 use Rattle.smv_instances.specs.Declarations.{is_parameter}
 use Rattle.smv_instances.specs.Numbered.{plain_entry}

@@ -5,7 +5,7 @@ use Rattle.std.specs.Str.{bytes_eq}
 use Rattle.kripke_model.specs.Refusing.{Silent}
 use Rattle.kripke_model.proofs.FirstLemmas.{silent_refuse}
 use Rattle.smv_parser.specs.ProgramView as programs
-use Rattle.smv_instances.specs.declared.refusals.FlatRefusal.{FlatRefusal}
+use Rattle.kripke_model.specs.declared.refusals.FlatRefusal.{FlatRefusal}
 use Rattle.smv_instances.specs.Program.{Module}
 use Rattle.smv_instances.specs.Abstract as plain
 use Rattle.smv_instances.specs.Plain.{plain_module, plain_program}

@@ -1,5 +1,5 @@
 use Rattle.std.proofs.Common.{rules, ◌≡◌, ◌*ℤ◌, arith, w64, SFits}
-use Rattle.value_tables.proofs.QuotientLemmas.{quotient_fits, remainder_fits}
+use Rattle.kripke_model.proofs.QuotientLemmas.{quotient_fits, remainder_fits}
 use Rattle.std.proofs.lemmas.Int.{to_z-of_z}
 use Rattle.value_tables.proofs.pick.arithmetic.Goals as goal
 

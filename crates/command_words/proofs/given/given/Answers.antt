@@ -1,0 +1,17 @@
+use Rattle.std.proofs.Common.{◌≡◌, ◌≢◌, ◌∙◌, true, false, sym}
+use Rattle.clap.specs.Words.{kind_of}
+use Rattle.clap.specs.declared.error.kind.ErrorKind.TheVariants.{OutOfMemory}
+use Rattle.command_words.proofs.ClapAnswers.{taken, refused}
+use Rattle.command_words.proofs.given.given.Goals as goal
+
+pub returns-in-Ok : goal.returns-in-Ok
+returns-in-Ok c = taken _ _ c.in_ok-command.ensures c.requires.simple _ c.in-Ok.matches c.in-Ok.ensures.kinds c.in-Ok.ensures.matches
+
+pub returns : goal.returns
+returns c =
+    let other : kind_of c.in-Err.error ≢ OutOfMemory = λ is.
+    let memory : c.kind.result ≡ OutOfMemory = c.kind.ensures ∙ is in
+    let told = rw memory at c.eq.ensures in
+    let bad : true ≡ false = sym told ∙ c.if-eq.false in
+    cc in
+    refused _ _ c.in_ok-command.ensures c.requires.simple _ c.in-Err.error c.in-Err.ensures.kinds other

@@ -1,0 +1,9 @@
+pub mod Texts
+pub mod Statuses
+pub mod Replies
+pub mod Report
+pub mod Reasons
+pub mod Refusals
+pub mod Told
+pub mod Outcomes
+pub mod Evidence

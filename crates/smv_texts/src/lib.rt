@@ -1,0 +1,25 @@
+//! What the program puts and how it ends: its texts, line by line, and its statuses.
+#![tactic(auto)]
+
+mod ending;
+mod fault;
+mod item_fault;
+mod outcome;
+mod reasons;
+mod refusal;
+mod reply;
+mod report;
+mod status;
+mod text;
+mod usage;
+mod values;
+
+pub use ending::Ending;
+pub use fault::Fault;
+pub use item_fault::{ItemFault, refuse_fault};
+pub use outcome::{Outcome, false_count};
+pub use refusal::{Refusal, refuse};
+pub use reply::Reply;
+pub use report::report_text;
+pub use status::Status;
+pub use usage::usage_text;

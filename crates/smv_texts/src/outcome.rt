@@ -1,0 +1,60 @@
+// What is found of a specification.
+ghost use Rattle.std.specs.Prelude.{◌≡◌, count_by, map};
+ghost use Rattle.smv_texts.specs.Outcomes.{finding_of};
+ghost use Rattle.smv_texts.specs.Report as lines;
+
+use kripke_model::states::State;
+
+/// What is found of a specification.
+#[derive(Drop)]
+pub enum Outcome {
+    True,
+    /// The least initial state at which it is false.
+    False(State),
+    /// The node limit that was met.
+    Unknown(u32),
+}
+
+impl Outcome {
+    pub(crate) fn is_true(&self) -> bool
+        ensures { result ≡ lines.is_true (finding_of self.now) }
+    {
+        matches!(self, Outcome::True)
+    }
+
+    pub(crate) fn is_false(&self) -> bool
+        ensures { result ≡ lines.is_false (finding_of self.now) }
+    {
+        matches!(self, Outcome::False(_))
+    }
+
+    pub(crate) fn is_unknown(&self) -> bool
+        ensures { result ≡ lines.is_unknown (finding_of self.now) }
+    {
+        matches!(self, Outcome::Unknown(_))
+    }
+}
+
+/// How many are true.
+pub(crate) fn true_count(outcomes: &[Outcome]) -> usize
+    ensures { result ≡ count_by lines.is_true (map finding_of outcomes.now) }
+{
+    outcomes.iter().filter(|outcome| outcome.is_true()).count()
+}
+
+/// How many are false.
+pub fn false_count(outcomes: &[Outcome]) -> usize
+    ensures { result ≡ count_by lines.is_false (map finding_of outcomes.now) }
+{
+    outcomes.iter().filter(|outcome| outcome.is_false()).count()
+}
+
+/// How many are unknown.
+pub(crate) fn unknown_count(outcomes: &[Outcome]) -> usize
+    ensures { result ≡ count_by lines.is_unknown (map finding_of outcomes.now) }
+{
+    outcomes
+        .iter()
+        .filter(|outcome| outcome.is_unknown())
+        .count()
+}

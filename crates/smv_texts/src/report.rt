@@ -1,0 +1,147 @@
+// The report of a check, line by line.
+ghost use Rattle.std.specs.Prelude.{◌≡◌, ◌<◌, ◌≤◌, ◌++◌, decimal, length, map, IfOk, OnOk};
+ghost use Rattle.smv_texts.specs.Outcomes.{finding_of, outcome_of};
+ghost use Rattle.smv_texts.specs.Report as lines;
+
+use crate::outcome::{Outcome, false_count, true_count, unknown_count};
+use crate::text::Text;
+use crate::values::{push_value, value_at};
+use kripke_model::models::{FlatVar, Ruled};
+use kripke_model::states::State;
+use std::alloc::{AllocError, Global};
+
+/// The report of one outcome for each specification of the model, in order.
+pub fn report_text(
+    alloc: Global,
+    model: &Ruled,
+    outcomes: &[Outcome],
+) -> Result<Vec<u8>, AllocError>
+    requires { length outcomes.now ≤ length model.now.specs }
+    ensures { IfOk result (λ text. text.items ≡ lines.report model.now (map finding_of outcomes.now)) }
+{
+    let mut text = Text::new(alloc);
+    push_findings(&mut text, model, outcomes)?;
+    push_total(&mut text, outcomes)?;
+    Ok(text.into_bytes())
+}
+
+fn push_findings(text: &mut Text, model: &Ruled, outcomes: &[Outcome]) -> Result<(), AllocError>
+    requires { length outcomes.now ≤ length model.now.specs }
+    ensures { OnOk result (text.new ≡ text.old ++ lines.numbered (lines.finding_lines model.now) 0 (map finding_of outcomes.now)) }
+{
+    for (place, outcome) in outcomes.iter().enumerate() {
+        push_finding(text, model, place, outcome)?;
+    }
+    Ok(())
+}
+
+// What is found of the specification of this place.
+fn push_finding(
+    text: &mut Text,
+    model: &Ruled,
+    place: usize,
+    outcome: &Outcome,
+) -> Result<(), AllocError>
+    requires { place < length model.now.specs }
+    ensures { OnOk result (text.new ≡ text.old ++ lines.finding_lines model.now place (finding_of outcome.now)) }
+{
+    push_spec(text, model, place)?;
+    push_verdict(text, outcome)?;
+    text.push(b"\n")?;
+    push_witness(text, model, outcome)
+}
+
+fn push_spec(text: &mut Text, model: &Ruled, place: usize) -> Result<(), AllocError>
+    requires { place < length model.now.specs }
+    ensures { OnOk result (text.new ≡ text.old ++ lines.spec_text model.now place) }
+{
+    let specs = model.specs();
+    let spec = &specs[place];
+    text.push(b"spec ")?;
+    text.push_number(place + 1)?;
+    text.push(b" line ")?;
+    text.push_number(spec.line)?;
+    text.push(b" ")
+}
+
+fn push_verdict(text: &mut Text, outcome: &Outcome) -> Result<(), AllocError>
+    ensures { OnOk result (text.new ≡ text.old ++ lines.verdict_text (outcome_of outcome.now)) }
+{
+    match outcome {
+        Outcome::True => text.push(b"true"),
+        Outcome::False(_) => text.push(b"false"),
+        Outcome::Unknown(limit) => {
+            text.push(b"unknown: node limit ")?;
+            text.push_number(*limit)
+        }
+    }
+}
+
+// What stands below a false verdict.
+fn push_witness(text: &mut Text, model: &Ruled, outcome: &Outcome) -> Result<(), AllocError>
+    ensures { OnOk result (text.new ≡ text.old ++ lines.witness_lines model.now (outcome_of outcome.now)) }
+{
+    match outcome {
+        Outcome::True | Outcome::Unknown(_) => Ok(()),
+        Outcome::False(state) => push_state(text, model, 0, state),
+    }
+}
+
+// The state's number, and each variable with its value.
+fn push_state(
+    text: &mut Text,
+    model: &Ruled,
+    number: usize,
+    state: &State,
+) -> Result<(), AllocError>
+    ensures { OnOk result (text.new ≡ text.old ++ lines.state_lines model.now number state.now) }
+{
+    text.push(b"state ")?;
+    text.push_number(number)?;
+    text.push(b"\n")?;
+    push_variables(text, model, state)
+}
+
+fn push_variables(text: &mut Text, model: &Ruled, state: &State) -> Result<(), AllocError>
+    ensures { OnOk result (text.new ≡ text.old ++ lines.numbered (lines.variable_line model.now state.now) 0 model.now.vars) }
+{
+    let vars = model.vars();
+    for (x, var) in vars.iter().enumerate() {
+        push_variable(text, model, state, x, var)?;
+    }
+    Ok(())
+}
+
+fn push_variable(
+    text: &mut Text,
+    model: &Ruled,
+    state: &State,
+    x: usize,
+    var: &FlatVar,
+) -> Result<(), AllocError>
+    ensures { OnOk result (text.new ≡ text.old ++ lines.variable_line model.now state.now x var.now) }
+{
+    text.push(b"  ")?;
+    text.push(var.name.as_bytes())?;
+    text.push(b" = ")?;
+    push_value(text, model, x, value_at(state, x))?;
+    text.push(b"\n")
+}
+
+fn push_count(text: &mut Text, word: &[u8], n: usize) -> Result<(), AllocError>
+    ensures { OnOk result (text.new ≡ text.old ++ word.now ++ decimal n) }
+{
+    text.push(word)?;
+    text.push_number(n)
+}
+
+// How many specifications there are, and how many of each verdict.
+fn push_total(text: &mut Text, outcomes: &[Outcome]) -> Result<(), AllocError>
+    ensures { OnOk result (text.new ≡ text.old ++ lines.total_line (map finding_of outcomes.now)) }
+{
+    push_count(text, b"total ", outcomes.len())?;
+    push_count(text, b" true ", true_count(outcomes))?;
+    push_count(text, b" false ", false_count(outcomes))?;
+    push_count(text, b" unknown ", unknown_count(outcomes))?;
+    text.push(b"\n")
+}

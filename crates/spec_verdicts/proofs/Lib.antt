@@ -1,0 +1,3 @@
+pub mod LeastFailing
+pub mod FoundLemmas
+pub mod ReplyLemmas

@@ -1,0 +1,41 @@
+-- The answer to a model whose specifications are to be decided within a node limit.
+use Rattle.std.specs.Prelude.{◌≡◌, ℕ, ◌<◌, List, [], ◌∷◌, length, replicate, All, count_by, None}
+use Rattle.std.specs.Global.{Vec}
+use Rattle.bdd_nodes.specs.declared.refusal.Held.{Held}
+use Rattle.kripke_model.specs.System.{System}
+use Rattle.smv_texts.specs.Evidence.{IsOfLimit}
+use Rattle.smv_texts.specs.Replies.{Reply, text_of}
+use Rattle.smv_texts.specs.Report.{Finding, Unknown, is_false, is_unknown, report}
+use Rattle.smv_texts.specs.declared.ending.Ending.{Ending}
+use Rattle.smv_texts.specs.declared.ending.Ending.TheVariants.{Clear, Failed, Undecided}
+use Rattle.spec_verdicts.specs.Verdicts.{AreVerdicts, ShowStates}
+
+-- The ending is the greatest that applies: to an unknown specification, each of which has its full store, then to a false one, then to none.
+abbrev pub EndsWith : System → ℕ → List Finding → Ending → Type 0
+EndsWith m limit fs Clear = (count_by is_unknown fs ≡ 0) × (count_by is_false fs ≡ 0)
+EndsWith m limit fs Failed = (count_by is_unknown fs ≡ 0) × (0 < count_by is_false fs)
+EndsWith m limit fs (Undecided held) = All (IsOfLimit m limit) held.items × (0 < length held.items) × (length held.items ≡ count_by is_unknown fs)
+EndsWith m limit fs ending = ⊥
+
+-- The specifications were tried: the report of what is found of each.
+pub record Checked (m : System) (limit : ℕ) (r : Reply) : Type 0 where
+  pub findings : List Finding
+  pub text : text_of r ≡ report m findings
+  pub verdicts : AreVerdicts m limit findings
+  pub states : ShowStates m findings
+  pub ends : EndsWith m limit findings r.ending
+  pub saves : r.saves ≡ None
+
+-- nothing is known of any specification
+abbrev pub all_unknown : System → ℕ → List Finding
+all_unknown m limit = replicate (length m.specs) (record { outcome = Unknown limit; left_out = None })
+
+-- The limit was met before any was tried: nothing is known, and one full store is the evidence.
+pub record LeavesUnknown (m : System) (limit : ℕ) (r : Reply) : Type 0 where
+  pub held : Vec Held
+  pub full : Held
+  pub one : held.items ≡ full ∷ []
+  pub of_limit : IsOfLimit m limit full
+  pub text : text_of r ≡ report m (all_unknown m limit)
+  pub ends : r.ending ≡ Undecided held
+  pub saves : r.saves ≡ None

@@ -1,0 +1,19 @@
+-- What the code finds, as the definitions have it.
+use Rattle.std.specs.Prelude.{◌≡◌, ℕ, List, length, map, count_by, All}
+use Rattle.kripke_model.specs.Ctl.{Ctl}
+use Rattle.kripke_model.specs.System.{System, Condition}
+use Rattle.smv_texts.specs.Evidence.{IsOfLimit}
+use Rattle.smv_texts.specs.Outcomes.{finding_of}
+use Rattle.smv_texts.specs.Report.{Finding, is_unknown}
+use Rattle.spec_verdicts.specs.Verdicts.{IsTold, ShowsState, EachFinding}
+use Rattle.spec_verdicts.specs.declared.findings.Findings.{Findings}
+
+-- what is found of a specification
+abbrev pub IsFoundOf : System → ℕ → Ctl → Finding → Type 0
+IsFoundOf m limit f finding = IsTold m limit f finding × ShowsState m f finding.outcome
+
+-- what is found of each of these specifications, and the full stores that show it
+pub record AreFound (m : System) (limit : ℕ) (cs : List Condition) (found : Findings) : Type 0 where
+  pub each : EachFinding (IsFoundOf m limit) cs (map finding_of found.outcomes.items)
+  pub held : All (IsOfLimit m limit) found.held.items
+  pub count : length found.held.items ≡ count_by is_unknown (map finding_of found.outcomes.items)

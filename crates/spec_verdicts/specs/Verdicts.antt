@@ -1,0 +1,52 @@
+-- What is found of each specification of a model without faults: its truth, and what is shown where it is false.
+use Rattle.std.specs.Prelude.{◌≡◌, ℕ, List, [], ◌∷◌, Option, Some, None}
+use Rattle.kripke_model.specs.Ctl.{Ctl, formula_of}
+use Rattle.kripke_model.specs.System.{System, State, Condition}
+use Rattle.kripke_model.specs.Step.{IsState, Initial}
+use Rattle.kripke_model.specs.Truth.{Sat, Initials}
+use Rattle.kripke_model.specs.Order.{IsLeast}
+use Rattle.smv_texts.specs.Report.{Outcome, True, False, Unknown, Finding}
+
+-- the verdict is the truth of the specification; where there is none the node limit is told
+abbrev pub IsVerdict : System → ℕ → Ctl → Outcome → Type 0
+IsVerdict m limit f True = Initials m f
+IsVerdict m limit f (False s path) = Initials m f → ⊥
+IsVerdict m limit f (Unknown met) = met ≡ limit
+
+-- an initial state of the model at which the formula is false
+abbrev pub Fails : System → Ctl → State → Type 0
+Fails m f s = IsState m s × Initial m s × (Sat m f s → ⊥)
+
+-- the least initial state at which the formula is false, or none where it is true at all of them
+abbrev pub IsLeastFailing : System → Ctl → Option State → Type 0
+IsLeastFailing m f None = Initials m f
+IsLeastFailing m f (Some s) = IsLeast m (Fails m f) (Some s)
+
+-- with a false verdict the least failing initial state is shown, and no path
+abbrev pub ShowsState : System → Ctl → Outcome → Type 0
+ShowsState m f True = Unit {0}
+ShowsState m f (False s path) = IsLeastFailing m f (Some s) × (path ≡ None)
+ShowsState m f (Unknown met) = Unit {0}
+
+-- the formula is decided, and what is shown is shown
+abbrev pub IsDecided : System → Ctl → Outcome → Type 0
+IsDecided m f True = Initials m f
+IsDecided m f (False s path) = IsLeastFailing m f (Some s) × (path ≡ None)
+IsDecided m f (Unknown met) = ⊥
+
+-- one finding for each specification, in order, each as R says
+abbrev pub EachFinding : (Ctl → Finding → Type 0) → List Condition → List Finding → Type 0
+EachFinding R [] [] = Unit {0}
+EachFinding R (c ∷ cs) (f ∷ fs) = R (formula_of c.expr) f × EachFinding R cs fs
+EachFinding R cs fs = ⊥
+
+-- what is told of a specification: its verdict, and of no proof that it was left out, since none is asked for
+pub record IsTold (m : System) (limit : ℕ) (f : Ctl) (finding : Finding) : Type 0 where
+  pub verdict : IsVerdict m limit f finding.outcome
+  pub left_out : finding.left_out ≡ None
+
+abbrev pub AreVerdicts : System → ℕ → List Finding → Type 0
+AreVerdicts m limit fs = EachFinding (IsTold m limit) m.specs fs
+
+abbrev pub ShowStates : System → List Finding → Type 0
+ShowStates m fs = EachFinding (λ f finding. ShowsState m f finding.outcome) m.specs fs
