@@ -1,5 +1,5 @@
 -- What follows from the reply to a command.
-use Rattle.std.proofs.Common.{◌≡◌, ◌≢◌, ◌⊎◌, ◌∙◌, inl, inr, ℕ, ◌<◌, List, [], ◌∷◌, length, Option, Some, None, refl, sym, ap, subst, arith, true, false}
+use Rattle.std.proofs.Common.{◌≡◌, ◌≢◌, ◌⊎◌, ◌∙◌, inl, inr, ℕ, ◌<◌, List, [], ◌∷◌, length, Option, Some, None, refl, sym, ap, subst, arith, false}
 use Rattle.std.specs.Global.{Vec}
 use Rattle.std.specs.Prelude.{All}
 use Rattle.std.proofs.lemmas.Bool.{false≢true}
@@ -13,6 +13,7 @@ use Rattle.smv_rings.specs.Rings.{ring_text}
 use Rattle.smv_session.specs.Answers.{Answers, IsModelReply, IsTaken, Reads, Takes, Tells}
 use Rattle.smv_session.specs.Jobs.{Does, NamesLeaves, Undecides}
 use Rattle.smv_session.specs.Refuses.{Refuses}
+use Rattle.smv_session.specs.OneAnswer.{OneAnswer}
 use Rattle.smv_session.specs.Source.{HasModel, IsAccepted}
 use Rattle.smv_texts.specs.Evidence.{IsOfLimit}
 use Rattle.smv_texts.specs.Refusals.{Refusal, is_fault, refusal_line}
@@ -177,13 +178,6 @@ answer_to (Do v) contents r w bytes answers is tells =
     subst (λ b. IsModelReply w contents b r) (same_text w.source contents bytes answers.0 reply.0 tells) reply.1
 
 -- ---- one answer
-
--- a text has one model at most, or is refused for one reason
-pub record OneAnswer : Type 0 where
-  pub model : (bytes : List ℕ) (m n : System) → HasModel bytes m → HasModel bytes n → m ≡ n
-  pub refusal : (job : Job) (bytes : List ℕ) (r q : Refusal) → Refuses job bytes r → Refuses job bytes q → r ≡ q
-  pub model_or_refusal : (job : Job) (bytes : List ℕ) (m : System) (r : Refusal) → HasModel bytes m → Refuses job bytes r → is_fault r ≡ true
-  pub accepted_or_refusal : (job : Job) (bytes : List ℕ) (m : System) (r : Refusal) → IsAccepted bytes m → NamesLeaves job m → Refuses job bytes r → ⊥
 
 module _ (one : OneAnswer) (w : Work) (contents : Option Contents) (bytes : List ℕ) (r : Reply) (answer : IsModelReply w contents bytes r) where
   -- what is read off the text is told

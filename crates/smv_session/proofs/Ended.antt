@@ -12,13 +12,14 @@ use Rattle.smv_outside.specs.declared.faults.FileFaults.{FileFaults}
 use Rattle.smv_session.specs.Answers.{Answers, IsModelReply, Loads, Takes}
 use Rattle.smv_session.specs.Commands.{GeneratesText}
 use Rattle.smv_session.specs.Foreseen.{Came, Foresees, IsPut}
+use Rattle.smv_session.specs.OneAnswer.{OneAnswer}
 use Rattle.smv_session.specs.Jobs.{Keeps}
 use Rattle.smv_session.specs.Refuses.{Refuses}
 use Rattle.smv_session.specs.Session.{Session, FilesGrew, FaultRose, Grew, IsSo, WasAtLast, SinkRose, Puts, PutsPrefix, Shows, Leaves, Asks, MayAsk, IsUndisturbed, TellsText, PutsAnswer, AnswersUsage, RefusesModels, TakesModels, HasEvidence, HasStatusOfReply, IsOfWork, KeepsOf, KeepsContents, FaultHasCause, AnswersFaults, PutsFaultLine, FaultLinesHaveCause, CutsOffAnswer, MemoryChangesNothing}
 use Rattle.smv_session.specs.Source.{HasModel}
 use Rattle.smv_session.specs.declared.session.Foreseen.{Foreseen}
 use Rattle.smv_session.specs.declared.session.Foreseen.TheVariants as foreseen
-use Rattle.smv_session.proofs.Answered.{OneAnswer, answer_to, faulty, generated_of, never, no_fault_ending, no_memory_ending, refused_always, refused_ending, refused_only, taken_of, undecided_ending, unknown_only, usage_always, usage_ending, usage_only}
+use Rattle.smv_session.proofs.Answered.{answer_to, faulty, generated_of, never, no_fault_ending, no_memory_ending, refused_always, refused_ending, refused_only, taken_of, undecided_ending, unknown_only, usage_always, usage_ending, usage_only}
 use Rattle.smv_session.proofs.PutText.{told_text, same_line}
 use Rattle.smv_texts.proofs.Heads.{no_fault_line}
 use Rattle.smv_texts.specs.Refusals.{Refusal, refusal_line}

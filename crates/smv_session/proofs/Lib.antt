@@ -4,6 +4,7 @@ pub mod Tried
 pub mod Answered
 pub mod Ended
 pub mod Decided
+pub mod Promises
 pub mod BitCounts
 pub mod FormulaPlaces
 pub mod NotBuilt

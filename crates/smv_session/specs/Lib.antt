@@ -1,6 +1,7 @@
 pub mod Source
 pub mod Jobs
 pub mod Refuses
+pub mod OneAnswer
 pub mod Told
 pub mod Relation
 pub mod Answers
