@@ -1,0 +1,15 @@
+pub mod Trails
+pub mod Sinking
+pub mod Courses
+pub mod Legs
+pub mod Meeting
+pub mod Closing
+pub mod Touring
+pub mod Suffixes
+pub mod MemberPlaces
+pub mod Falsified
+pub mod Walks
+pub mod Filled
+pub mod Descending
+pub mod Dues
+pub mod FairLoops
