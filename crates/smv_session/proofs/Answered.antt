@@ -140,24 +140,25 @@ refused_only (Do w) contents r answers is = elim answers.2 [
 ]
 
 -- what is unknown
-pub record IsUnknownOf (command : Command) (contents : Option Contents) (held : Vec Held) : Type 0 where
+pub record IsUnknownOf (command : Command) (contents : Option Contents) (r : Reply) (held : Vec Held) : Type 0 where
   pub work : Work
   pub bytes : List ℕ
   pub model : System
   pub asked : command ≡ Do work
   pub there : Reads work.source contents bytes
   pub has : HasModel bytes model
+  pub takes : Takes work contents model r
   pub full : All (IsOfLimit model work.limit) held.items
   pub some : 0 < length held.items
 
-pub unknown_only : (command : Command) (contents : Option Contents) (r : Reply) (held : Vec Held) → Answers command contents r → r.ending ≡ endings.Undecided held → IsUnknownOf command contents held
+pub unknown_only : (command : Command) (contents : Option Contents) (r : Reply) (held : Vec Held) → Answers command contents r → r.ending ≡ endings.Undecided held → IsUnknownOf command contents r held
 unknown_only words.Usage contents r held answers is = let other = answers.1 in cc
 unknown_only (Print n) contents r held answers is = let other = answers.1 in cc
 unknown_only (Do w) contents r held answers is = elim answers.2 [
   | inl line ↦ let other = line.ends in cc
   | inr taken ↦
       let shown = subst (IsWorkEnding taken.model w.limit) is (work_end w contents taken.model r taken.takes) in
-      record { work = w; bytes = answers.0; model = taken.model; asked = refl; there = answers.1; has = taken.has; full = shown.full; some = shown.some }
+      record { work = w; bytes = answers.0; model = taken.model; asked = refl; there = answers.1; has = taken.has; takes = taken.takes; full = shown.full; some = shown.some }
 ]
 
 -- ---- the reply to a text that is told

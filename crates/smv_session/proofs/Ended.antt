@@ -234,7 +234,7 @@ pub evidence : (s : Session) → Ends s → HasEvidence s
 evidence s (Shown e) = record {
   unknown = λ held is.
       let found = unknown_only (command_of s.words) s.contents e.reply held e.answer (undecided_ending e.reply.ending held (sym e.shows.status ∙ is)) in
-      record { work = found.work; bytes = found.bytes; model = found.model; asked = record { asked = found.asked; there = found.there }; has = found.has; full = found.full; some = found.some };
+      record { work = found.work; bytes = found.bytes; model = found.model; reply = e.reply; asked = record { asked = found.asked; there = found.there }; has = found.has; takes = found.takes; shows = e.shows; full = found.full; some = found.some };
 }
 evidence s (CutOff e) = record { unknown = λ held is. let other = e.status in absurd cc }
 evidence s (Line e) = record { unknown = λ held is. let other = e.status in absurd cc }

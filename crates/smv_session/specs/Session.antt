@@ -158,14 +158,17 @@ pub record RefusesModels (s : Session) : Type 0 where
 pub record TakesModels (s : Session) : Type 0 where
   pub takes : IsUndisturbed s → (w : Work) (bytes : List ℕ) (m : System) → Asks s w bytes → HasModel bytes m → s.status ≢ ModelRefused → (r : Reply) × Takes w s.contents m r × Shows s r
 
--- Something is unknown only with the full stores that show it. Each has a level for each bit of the current and of the next
--- state, and the limit that was asked for.
+-- Something is unknown only in the reply to a model, and with the full stores that show it. Each has a level for each bit
+-- of the current and of the next state, and the limit that was asked for.
 pub record IsUnknown (s : Session) (held : Vec Held) : Type 0 where
   pub work : Work
   pub bytes : List ℕ
   pub model : System
+  pub reply : Reply
   pub asked : MayAsk s work bytes
   pub has : HasModel bytes model
+  pub takes : Takes work s.contents model reply
+  pub shows : Shows s reply
   pub full : All (IsOfLimit model work.limit) held.items
   pub some : 0 < length held.items
 

@@ -1,7 +1,7 @@
--- The last line of a report.
-use Rattle.std.proofs.Common.{◌≡◌, ◌∙◌, ℕ, List, [], ◌∷◌, ◌++◌, map, length, ap, sym, count_by, append_assoc, codes, decimal}
+-- The last line of a report, and the states of a path.
+use Rattle.std.proofs.Common.{◌≡◌, ◌∙◌, ℕ, ◌+◌, ◌<◌, List, [], ◌∷◌, ◌++◌, map, length, drop, ap, sym, count_by, append_assoc, codes, decimal, arith}
 use Rattle.std.proofs.lemmas.List.{length-map}
-use Rattle.smv_texts.specs.Report.{is_true, is_false, is_unknown, total_line}
+use Rattle.smv_texts.specs.Report.{is_true, is_false, is_unknown, numbered, total_line}
 use Rattle.smv_texts.specs.Texts.{line}
 use Rattle.smv_texts.specs.Outcomes.{finding_of}
 use Rattle.smv_texts.specs.declared.outcome.Outcome.{Outcome}
@@ -31,3 +31,19 @@ total os t t1 t2 t3 t4 t5 p q r s e =
     ∙ ap (λ (x : List ℕ). x ++ codes " false " ++ decimal (count_by is_false (map finding_of os))) (q
     ∙ ap (λ (x : List ℕ). x ++ codes " true " ++ decimal (count_by is_true (map finding_of os))) p)))
     ∙ counted os t
+
+-- ---- the states of a path
+
+numbered-append : {A : Type 0} (text : ℕ → A → List ℕ) (k : ℕ) (xs ys : List A) → numbered text k (xs ++ ys) ≡ numbered text k xs ++ numbered text (k + length xs) ys
+numbered-append text k [] ys = ap (λ (n : ℕ). numbered text n ys) (omega arith)
+numbered-append text k (x ∷ xs) ys =
+    ap (λ (rest : List ℕ). text k x ++ rest) (numbered-append text (k + 1) xs ys ∙ ap (λ (n : ℕ). numbered text (k + 1) xs ++ numbered text n ys) (omega arith))
+    ∙ sym (append_assoc (text k x) (numbered text (k + 1) xs) (numbered text (k + length (x ∷ xs)) ys))
+
+-- those of the stem, and then those of the cycle, without the first of all
+pub further : {A : Type 0} (text : ℕ → A → List ℕ) (stem cycle : List A) (t t1 t2 : List ℕ) → 0 < length stem → t1 ≡ t ++ numbered text 1 (drop 1 stem) → t2 ≡ t1 ++ numbered text (length stem) cycle
+    → t2 ≡ t ++ numbered text 1 (drop 1 (stem ++ cycle))
+further text [] cycle t t1 t2 some p q = absurd (omega (arith, some))
+further text (x ∷ xs) cycle t t1 t2 some p q =
+    q ∙ ap (λ (front : List ℕ). front ++ numbered text (length (x ∷ xs)) cycle) p ∙ append_assoc t (numbered text 1 xs) (numbered text (length (x ∷ xs)) cycle)
+    ∙ ap (λ (rest : List ℕ). t ++ rest) (ap (λ (n : ℕ). numbered text 1 xs ++ numbered text n cycle) (omega arith) ∙ sym (numbered-append text 1 xs cycle))

@@ -7,7 +7,7 @@ use Rattle.smv_texts.specs.declared.outcome.Outcome.TheVariants.{True, False, Un
 
 abbrev pub outcome_of : Outcome → report.Outcome
 outcome_of True = report.True
-outcome_of (False s) = report.False s None
+outcome_of (False s path) = report.False s path
 outcome_of (Unknown limit) = report.Unknown limit
 
 abbrev pub finding_of : Outcome → Finding

@@ -3,14 +3,18 @@ ghost use Rattle.std.specs.Prelude.{◌≡◌, count_by, map};
 ghost use Rattle.smv_texts.specs.Outcomes.{finding_of};
 ghost use Rattle.smv_texts.specs.Report as lines;
 
-use kripke_model::states::State;
+use kripke_model::states::{Lasso, State};
 
 /// What is found of a specification.
 #[derive(Drop)]
 pub enum Outcome {
     True,
-    /// The least initial state at which it is false.
-    False(State),
+    False {
+        /// The least initial state at which it is false.
+        state: State,
+        /// A path that begins there and shows it.
+        path: Option<Lasso>,
+    },
     /// The node limit that was met.
     Unknown(u32),
 }
@@ -25,7 +29,7 @@ impl Outcome {
     pub(crate) fn is_false(&self) -> bool
         ensures { result ≡ lines.is_false (finding_of self.now) }
     {
-        matches!(self, Outcome::False(_))
+        matches!(self, Outcome::False { .. })
     }
 
     pub(crate) fn is_unknown(&self) -> bool

@@ -1,5 +1,5 @@
 // The report of a check, line by line.
-ghost use Rattle.std.specs.Prelude.{◌≡◌, ◌<◌, ◌≤◌, ◌++◌, decimal, length, map, IfOk, OnOk};
+ghost use Rattle.std.specs.Prelude.{◌≡◌, ◌<◌, ◌≤◌, ◌+◌, ◌++◌, decimal, drop, length, map, Some, IfOk, OnOk};
 ghost use Rattle.smv_texts.specs.Outcomes.{finding_of, outcome_of};
 ghost use Rattle.smv_texts.specs.Report as lines;
 
@@ -7,7 +7,7 @@ use crate::outcome::{Outcome, false_count, true_count, unknown_count};
 use crate::text::Text;
 use crate::values::{push_value, value_at};
 use kripke_model::models::{FlatVar, Ruled};
-use kripke_model::states::State;
+use kripke_model::states::{Lasso, State};
 use std::alloc::{AllocError, Global};
 
 /// The report of one outcome for each specification of the model, in order.
@@ -69,7 +69,7 @@ fn push_verdict(text: &mut Text, outcome: &Outcome) -> Result<(), AllocError>
 {
     match outcome {
         Outcome::True => text.push(b"true"),
-        Outcome::False(_) => text.push(b"false"),
+        Outcome::False { .. } => text.push(b"false"),
         Outcome::Unknown(limit) => {
             text.push(b"unknown: node limit ")?;
             text.push_number(*limit)
@@ -83,8 +83,60 @@ fn push_witness(text: &mut Text, model: &Ruled, outcome: &Outcome) -> Result<(),
 {
     match outcome {
         Outcome::True | Outcome::Unknown(_) => Ok(()),
-        Outcome::False(state) => push_state(text, model, 0, state),
+        Outcome::False { state, path } => {
+            push_state(text, model, 0, state)?;
+            match path {
+                None => Ok(()),
+                Some(path) => push_path(text, model, path),
+            }
+        }
     }
+}
+
+// What of a path is told below its first state.
+fn push_path(text: &mut Text, model: &Ruled, path: &Lasso) -> Result<(), AllocError>
+    ensures { OnOk result (text.new ≡ text.old ++ lines.path_lines model.now (Some path.now)) }
+{
+    push_further(text, model, path)?;
+    text.push(b"loop ")?;
+    text.push_number(path.stem.len())?;
+    text.push(b"\n")
+}
+
+// The states of a path from the second on. The first is in the stem, or in the cycle where the stem has none.
+fn push_further(text: &mut Text, model: &Ruled, path: &Lasso) -> Result<(), AllocError>
+    ensures { OnOk result (text.new ≡ text.old ++ lines.numbered (lines.state_lines model.now) 1 (drop 1 (path.now.stem ++ path.now.cycle))) }
+{
+    if path.stem.is_empty() {
+        return push_states(text, model, 1, after_first(&path.cycle));
+    }
+    push_states(text, model, 1, after_first(&path.stem))?;
+    push_states(text, model, path.stem.len(), &path.cycle)
+}
+
+fn after_first(states: &[State]) -> &[State]
+    ensures { result.now ≡ drop 1 states.now }
+{
+    match states.split_first() {
+        Some((_, rest)) => rest,
+        None => states,
+    }
+}
+
+// The states, with numbers from `first` on.
+fn push_states(
+    text: &mut Text,
+    model: &Ruled,
+    first: usize,
+    states: &[State],
+) -> Result<(), AllocError>
+    requires { first + length states.now ≤ 18446744073709551615 }
+    ensures { OnOk result (text.new ≡ text.old ++ lines.numbered (lines.state_lines model.now) first states.now) }
+{
+    for (place, state) in states.iter().enumerate() {
+        push_state(text, model, first + place, state)?;
+    }
+    Ok(())
 }
 
 // The state's number, and each variable with its value.

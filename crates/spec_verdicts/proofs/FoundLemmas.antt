@@ -50,12 +50,12 @@ states_of m limit fs each = each_weaker (IsFoundOf m limit) (λ f finding. Shows
 -- what is decided is found
 found_of : (m : System) (limit : ℕ) (f : Ctl) (o : Outcome) → IsDecided m f (outcome_of o) → IsFoundOf m limit f (finding_of o)
 found_of m limit f True is = (record { verdict = is; left_out = refl }, tt)
-found_of m limit f (False s) is = (record { verdict = λ holds. is.0.0.2 (holds s is.0.0.0 is.0.0.1); left_out = refl }, is)
+found_of m limit f (False s path) is = (record { verdict = λ holds. is.0.0.2 (holds s is.0.0.0 is.0.0.1); left_out = refl }, is)
 found_of m limit f (Unknown met) is = absurd is
 
 known : (m : System) (f : Ctl) (o : Outcome) → IsDecided m f (outcome_of o) → is_unknown (finding_of o) ≡ false
 known m f True is = refl
-known m f (False s) is = refl
+known m f (False s path) is = refl
 known m f (Unknown met) is = absurd is
 
 module _ (m : System) (limit : ℕ) (cs : List Condition) (c : Condition) (o : Outcome) (old new : Findings) (found : AreFound m limit cs old)

@@ -1,3 +1,4 @@
+pub mod KeptRuns
 pub mod LeastFailing
 pub mod FoundLemmas
 pub mod ReplyLemmas

@@ -1,11 +1,14 @@
 -- What is found of each specification of a model without faults: its truth, and what is shown where it is false.
-use Rattle.std.specs.Prelude.{◌≡◌, ℕ, List, [], ◌∷◌, Option, Some, None}
+use Rattle.std.specs.Prelude.{◌≡◌, ℕ, List, [], ◌∷◌, Option, Some, None, IsTrue}
 use Rattle.kripke_model.specs.Ctl.{Ctl, formula_of}
+use Rattle.kripke_model.specs.Falsifies.{is_traceable}
+use Rattle.kripke_model.specs.Path.{Lasso}
 use Rattle.kripke_model.specs.System.{System, State, Condition}
 use Rattle.kripke_model.specs.Step.{IsState, Initial}
 use Rattle.kripke_model.specs.Truth.{Sat, Initials}
 use Rattle.kripke_model.specs.Order.{IsLeast}
 use Rattle.smv_texts.specs.Report.{Outcome, True, False, Unknown, Finding}
+use Rattle.trace_loop.specs.Traces.{IsTraced, IsTraceOf}
 
 -- the verdict is the truth of the specification; where there is none the node limit is told
 abbrev pub IsVerdict : System → ℕ → Ctl → Outcome → Type 0
@@ -22,16 +25,22 @@ abbrev pub IsLeastFailing : System → Ctl → Option State → Type 0
 IsLeastFailing m f None = Initials m f
 IsLeastFailing m f (Some s) = IsLeast m (Fails m f) (Some s)
 
--- with a false verdict the least failing initial state is shown, and no path
+-- a path is shown exactly where the formula is traceable and some fair path begins at s; the path is fair, begins there
+-- and falsifies the formula
+abbrev pub ShowsPath : System → Ctl → State → Option Lasso → Type 0
+ShowsPath m f s None = IsTraced m f s → ⊥
+ShowsPath m f s (Some p) = IsTrue (is_traceable f) × IsTraceOf m f s p
+
+-- with a false verdict the least failing initial state is shown, and a path from it
 abbrev pub ShowsState : System → Ctl → Outcome → Type 0
 ShowsState m f True = Unit {0}
-ShowsState m f (False s path) = IsLeastFailing m f (Some s) × (path ≡ None)
+ShowsState m f (False s path) = IsLeastFailing m f (Some s) × ShowsPath m f s path
 ShowsState m f (Unknown met) = Unit {0}
 
 -- the formula is decided, and what is shown is shown
 abbrev pub IsDecided : System → Ctl → Outcome → Type 0
 IsDecided m f True = Initials m f
-IsDecided m f (False s path) = IsLeastFailing m f (Some s) × (path ≡ None)
+IsDecided m f (False s path) = IsLeastFailing m f (Some s) × ShowsPath m f s path
 IsDecided m f (Unknown met) = ⊥
 
 -- one finding for each specification, in order, each as R says
