@@ -1,13 +1,14 @@
 //! The truth of a specification as an answer, over both kinds of sets.
 
-ghost use Rattle.std.specs.Prelude.{◌≡◌};
+ghost use Rattle.std.specs.Prelude.{◌≡◌, Contains, map};
+ghost use Rattle.kripke_model.specs.Ctl.{formula_of};
 ghost use Rattle.kripke_model.specs.WellFormed.{ctl_of};
 ghost use Rattle.fair_fixpoint.specs.Walks.{HasModelLeaves};
 
 use crate::kinds::{diagrams, trees};
 use crate::reading::model_of;
 use crate::telling::{tell_found, tell_full, tell_refusal};
-use crate::verdicts::{least_failing, spec_formulas};
+use crate::verdicts::{judged_failing, spec_formulas};
 use case_text::asking::Answer;
 use case_text::fault::Fault;
 use kripke_model::expressions::Formula;
@@ -32,9 +33,10 @@ fn found_over<S: StateSets>(
 ) -> Result<String, AllocError>
     requires model { model.now ≡ (S.seen sets.old).over }
     requires leaves { HasModelLeaves model.now (ctl_of formula.now) }
+    requires formula { Contains (map (λ c. formula_of c.expr) model.now.specs) (ctl_of formula.now) }
 {
     let mut answer = String::new(alloc);
-    match least_failing(alloc, sets, model, formula) {
+    match judged_failing(alloc, sets, model, formula) {
         Ok(found) => tell_found(model, &found, &mut answer)?,
         Err(SetRefusal::Full { held }) => tell_full(&held, &mut answer)?,
         Err(SetRefusal::Memory) => return Err(AllocError),
@@ -44,7 +46,8 @@ fn found_over<S: StateSets>(
 
 /// What is found of the formula over trees.
 fn found_by_trees(alloc: Global, model: &Ruled, formula: &Formula) -> Result<String, AllocError>
-    requires { HasModelLeaves model.now (ctl_of formula.now) }
+    requires leaves { HasModelLeaves model.now (ctl_of formula.now) }
+    requires formula { Contains (map (λ c. formula_of c.expr) model.now.specs) (ctl_of formula.now) }
 {
     let mut sets = trees(alloc, model)?;
     found_over(alloc, &mut sets, model, formula)
@@ -52,7 +55,8 @@ fn found_by_trees(alloc: Global, model: &Ruled, formula: &Formula) -> Result<Str
 
 /// What is found of the formula over diagrams.
 fn found_by_diagrams(alloc: Global, model: &Ruled, formula: &Formula) -> Result<String, AllocError>
-    requires { HasModelLeaves model.now (ctl_of formula.now) }
+    requires leaves { HasModelLeaves model.now (ctl_of formula.now) }
+    requires formula { Contains (map (λ c. formula_of c.expr) model.now.specs) (ctl_of formula.now) }
 {
     match diagrams(alloc, model) {
         Ok(mut sets) => found_over(alloc, &mut sets, model, formula),
@@ -71,7 +75,8 @@ fn answer_formula(
     formula: &Formula,
     answer: &mut String,
 ) -> Result<(), AllocError>
-    requires { HasModelLeaves model.now (ctl_of formula.now) }
+    requires leaves { HasModelLeaves model.now (ctl_of formula.now) }
+    requires formula { Contains (map (λ c. formula_of c.expr) model.now.specs) (ctl_of formula.now) }
 {
     let trees = found_by_trees(alloc, model, formula)?;
     let diagrams = found_by_diagrams(alloc, model, formula)?;

@@ -6,6 +6,7 @@
 
 mod answers;
 mod kinds;
+mod paths;
 mod reading;
 mod telling;
 mod verdicts;

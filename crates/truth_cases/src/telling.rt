@@ -70,6 +70,9 @@ pub fn tell_found(model: &Ruled, found: &Found, answer: &mut String) -> Result<(
     if !found.parted {
         answer.push_str(", by sets that don't part the states")?;
     }
+    if !found.lawful {
+        answer.push_str(", by a path that doesn't show it")?;
+    }
     Ok(())
 }
 
