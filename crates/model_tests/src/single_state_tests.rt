@@ -1,13 +1,15 @@
 //! Looping paths, copies and readers, on the model in which x rises when go is 1.
 
-ghost use Rattle.std.specs.Prelude.{◌≡◌};
+ghost use Rattle.std.specs.Prelude.{◌≡◌, Contains, map};
+ghost use Rattle.kripke_model.specs.Ctl.{formula_of};
 ghost use Rattle.kripke_model.specs.Leaves.{HasLeafConstraints};
 ghost use Rattle.kripke_model.specs.Reading.{term_of};
 ghost use Rattle.kripke_model.specs.Term.{Term};
+ghost use Rattle.kripke_model.specs.WellFormed.{ctl_of};
 ghost use Rattle.kripke_model.specs.declared.expressions.Value.TheVariants.{Number};
 
 use crate::reading::model_of;
-use kripke_model::expressions::{Expr, Value};
+use kripke_model::expressions::{Expr, Formula, Value};
 use kripke_model::models::Ruled;
 use kripke_model::states::{Lasso, State};
 use kripke_model::walks::lasso_law;
@@ -16,6 +18,8 @@ use single_states::evaluation::{is_state, runs};
 use single_states::steps::{has_leaf_constraints, holds, is_fair_path, is_path, item_holds};
 use std::alloc::{AllocError, Global};
 use std::test::Fail;
+use trace_loop::falsifying::falsifies;
+use trace_loop::shape::is_traceable;
 
 /// The state with these values of x and go.
 fn state(alloc: Global, x: i32, go: i32) -> Result<State, AllocError> {
@@ -78,8 +82,26 @@ fn all_have_one(model: &Ruled) -> bool {
     true
 }
 
-/// Go is 1 for ever on the fair path, and x is 1 from the second state on. On the unfair one go is never 1. The broken one
-/// leaves x at 0 where go is 1.
+/// Whether the path falsifies the formula; `None` where it is no path, or no path can.
+fn shown(model: &Ruled, formula: &Formula, lasso: &Lasso) -> Option<bool>
+    requires { Contains (map (λ c. formula_of c.expr) model.now.specs) (ctl_of formula.now) }
+{
+    if !is_path(model, lasso) || !is_traceable(formula) {
+        return None;
+    }
+    Some(falsifies(model, formula, lasso))
+}
+
+/// The same of the model's one specification.
+fn shown_of_one(model: &Ruled, lasso: &Lasso) -> Option<bool> {
+    match model.formulas() {
+        [formula] => shown(model, formula, lasso),
+        _ => None,
+    }
+}
+
+/// Go is 1 for ever on the fair path, and x is 1 from the second state on, so the path does not falsify `AF x`. On the unfair one go is never 1, and it does. The
+/// broken one leaves x at 0 where go is 1.
 #[test]
 fn paths_copies_and_readers(rt: HostRuntime) -> Result<(), Fail> {
     let alloc = rt.alloc();
@@ -99,6 +121,9 @@ fn paths_copies_and_readers(rt: HostRuntime) -> Result<(), Fail> {
     assert!(rt; !is_path(&model, &broken));
     let fair = lasso(alloc, vec![in alloc; s.copy(alloc)?]?, 1, 1)?;
     assert!(rt; is_fair_path(&model, &fair));
+    assert!(rt; shown_of_one(&model, &fair) == Some(false));
+    assert!(rt; shown_of_one(&model, &unfair) == Some(true));
+    assert!(rt; shown_of_one(&model, &broken) == None);
     lasso_law(&model, &fair);
     let model = model.copy(alloc)?;
     assert_eq!(rt; counts(&model), [2, 2, 0, 0, 2]);
