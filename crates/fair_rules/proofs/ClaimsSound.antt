@@ -1,5 +1,5 @@
 -- A proof that meets its obligations proves its claim.
-use Rattle.std.proofs.Common.{◌≡◌, inl, inr, ℕ, zero, suc, ◌+◌, Bool, true, false, ◌||◌, List, [], ◌∷◌, Ok, pos, refl, subst}
+use Rattle.std.proofs.Common.{◌≡◌, inl, inr, ℕ, zero, suc, ◌+◌, Bool, true, false, not, ◌||◌, List, [], ◌∷◌, Ok, pos, refl, subst}
 use Rattle.std.specs.List.{list_any}
 use Rattle.std.proofs.lemmas.Bool.{or_cases, and_parts, false≢true}
 use Rattle.kripke_model.specs.declared.expressions.PathOp.{PathOp}
@@ -19,7 +19,7 @@ use Rattle.fair_rules.specs.ConstraintSets.{AreConstraintSets}
 use Rattle.path_laws.specs.Fairness.{IsFairOver}
 use Rattle.fair_rules.specs.Conclusions.{Release}
 use Rattle.fair_rules.specs.Rules.{Layer, InSomeLayer, AreNonfair, IsFairSet}
-use Rattle.fair_rules.specs.Claims.{Entry, Proof, both, join, join_layers, entry_set, is_one, is_zero, claimed, Meets, absent_argument, AreMet}
+use Rattle.fair_rules.specs.Claims.{Entry, Proof, both, join, join_layers, entry_set, is_one, claimed, Meets, absent_argument, AreMet}
 use Rattle.fair_rules.proofs.RulesSound.{In, ex_sound, ax_sound, eu_sound, au_sound, er_sound, ar_sound}
 
 -- ---- joins
@@ -44,12 +44,8 @@ pub one_is : (c : Checked (List Value)) → is_one c ≡ true → c ≡ Ok (Numb
 one_is (Ok (Number (pos (suc zero)) ∷ [])) e = refl
 one_is _ e = absurd (false≢true e)
 
-pub zero_is : (c : Checked (List Value)) → is_zero c ≡ true → c ≡ Ok (Number (pos 0) ∷ [])
-zero_is (Ok (Number (pos zero) ∷ [])) e = refl
-zero_is _ e = absurd (false≢true e)
-
-pub zero_not_one : (c : Checked (List Value)) → is_zero c ≡ true → c ≡ Ok (Number (pos 1) ∷ []) → ⊥
-zero_not_one c e sat = absurd (false≢true (subst (λ x. is_zero x ≡ true) sat e))
+not_one : (c : Checked (List Value)) → not (is_one c) ≡ true → c ≡ Ok (Number (pos 1) ∷ []) → ⊥
+not_one c e sat = absurd (false≢true (subst (λ x. not (is_one x) ≡ true) sat e))
 
 -- ---- what each rule proves
 
@@ -166,7 +162,7 @@ module _ (m : System) (count : ℕ) (C : ℕ → State → Type 0) (visited avoi
 
   pub claims_sound : (f : Ctl) (n : ℕ) → AreMet m visited avoided p f n → BothSigns f n
   claims_sound (Ctl.Leaf e) n met =
-      (λ s is_state inside. one_is (eval m e s s) inside, λ s is_state inside sat. zero_not_one (eval m e s s) inside sat)
+      (λ s is_state inside. one_is (eval m e s s) inside, λ s is_state inside sat. not_one (eval m e s s) inside sat)
   claims_sound (Ctl.Not f) n met =
       let h : BothSigns f (n + 1) = claims_sound f (n + 1) met in
       (h.1, λ s is_state inside sat. sat (h.0 s is_state inside))

@@ -13,7 +13,6 @@ pub mod Fixpoints
 pub mod Splits
 pub mod FreePart
 pub mod Falsified
-pub mod LeafSplit
 pub mod LatchProof
 pub mod Checks
 pub mod Blocks

@@ -1,8 +1,7 @@
 -- A proof as it is written: its lines in order, what each has to show, and its claim.
-use Rattle.std.specs.Prelude.{◌≡◌, ◌⊎◌, ℕ, ◌+◌, ◌<◌, ◌&&◌, ◌==◌, nat_lt, Bool, true, false, not, List, [], ◌∷◌, ◌++◌, length, All, AllPairs, IfSome, IsTrue, Option, Some, None, if◌then◌else◌}
+use Rattle.std.specs.Prelude.{◌≡◌, ℕ, ◌+◌, ◌&&◌, ◌==◌, nat_lt, Bool, true, false, not, List, [], ◌∷◌, ◌++◌, All, Option, Some, None, if◌then◌else◌}
 use Rattle.kripke_model.specs.Ctl.{Ctl}
 use Rattle.kripke_model.specs.System.{System, State}
-use Rattle.kripke_model.specs.Step.{IsState}
 use Rattle.kripke_model.specs.Truth.{Initials}
 use Rattle.kripke_model.specs.Signs.{Rule, rule_of, until_rule, node_count}
 use Rattle.path_laws.specs.StateSet.{StateSet}
@@ -119,24 +118,3 @@ pub record IsProofBlock (m : System) (visited avoided : List StateSet) (b : Bloc
 abbrev pub ClaimHolds : System → Ctl → Option State → Type 0
 ClaimHolds m f None = Initials m f
 ClaimHolds m f (Some s) = Initials m f → ⊥
-
--- ---- the shape of a block
-
--- a comes before b: by node, and `+` before `-`
-abbrev pub ComesBefore : Listed → Listed → Type 0
-ComesBefore a b = (a.node < b.node) ⊎ ((a.node ≡ b.node) × IsTrue (a.plus && not b.plus))
-
--- numbers of constraints below `count`, and one list of reach sets for each
-abbrev pub FitsConstraints : ℕ → Entry → Type 0
-FitsConstraints count (Entry.AU layers) = All (λ l. l.avoided < count) layers
-FitsConstraints count (Entry.ER set reaches untils) = length reaches ≡ count
-FitsConstraints count entry = Unit {0}
-
--- `count` constraints, at least one
-pub record IsInShape (m : System) (count : ℕ) (b : Block) (f : Ctl) (n : ℕ) : Type 0 where
-  pub asked : All (IsAsked m (proof_of b) f n) b.entries
-  pub rising : AllPairs ComesBefore b.entries
-  pub avoided : All (λ l. l.avoided < count) b.nonfair
-  pub reaches : length b.reaches ≡ count
-  pub fits : All (λ e. FitsConstraints count e.entry) b.entries
-  pub at_state : IfSome b.at (IsState m)

@@ -57,13 +57,10 @@ abbrev pub is_one : Checked (List Value) → Bool
 is_one (Ok (Number (pos (suc zero)) ∷ [])) = true
 is_one c = false
 
-abbrev pub is_zero : Checked (List Value) → Bool
-is_zero (Ok (Number (pos zero) ∷ [])) = true
-is_zero c = false
-
+-- where it is 1, and where it isn't; where it has no fault it is 0 there
 abbrev pub leaf_set : Bool → Checked (List Value) → Bool
 leaf_set true c = is_one c
-leaf_set false c = is_zero c
+leaf_set false c = not (is_one c)
 
 abbrev pub claimed : System → Proof → Ctl → ℕ → Bool → StateSet
 claimed m p (Ctl.Leaf e) n sign = λ s. leaf_set sign (eval m e s s)

@@ -1,6 +1,7 @@
 -- Constraints that are formulas: a proof of each over all paths, and the sets that it claims.
-use Rattle.std.specs.Prelude.{ℕ, ◌+◌, ◌<◌, Bool, true, false, List, [], ◌∷◌, length, slice_index_or}
-use Rattle.kripke_model.specs.Ctl.{formula_of}
+use Rattle.std.specs.Prelude.{ℕ, ◌+◌, ◌<◌, Bool, true, false, List, [], ◌∷◌, length, map, slice_index_or}
+use Rattle.kripke_model.specs.Ctl.{Ctl, formula_of}
+use Rattle.kripke_model.specs.Signs.{node_count}
 use Rattle.kripke_model.specs.System.{System, Condition}
 use Rattle.path_laws.specs.StateSet.{StateSet}
 use Rattle.fair_rules.specs.SetLists.{everything, nothing}
@@ -22,3 +23,18 @@ claimed_visited m proofs = one_at_least everything (claimed_from m proofs true 0
 
 abbrev pub claimed_avoided : System → (ℕ → Proof) → List StateSet
 claimed_avoided m proofs = one_at_least nothing (claimed_from m proofs false 0 m.constraints)
+
+-- ---- how large they are
+
+-- the nodes of a formula that has a path operator; one that has none is a leaf
+abbrev pub path_nodes : Ctl → ℕ
+path_nodes (Ctl.Leaf e) = 0
+path_nodes f = node_count f
+
+abbrev pub path_nodes_of : List Ctl → ℕ
+path_nodes_of [] = 0
+path_nodes_of (f ∷ fs) = path_nodes f + path_nodes_of fs
+
+-- and of all constraints that have one
+abbrev pub constraint_nodes : System → ℕ
+constraint_nodes m = path_nodes_of (map (λ c. formula_of c.expr) m.constraints)

@@ -34,6 +34,10 @@ has_state None s = false
 abbrev pub In : Sets → ℕ → State → Type 0
 In sets slot s = has_state (sets.pins slot) s ≡ true
 
+-- the states of a pin
+abbrev pub region : Sets → Pin → StateSet
+region sets pin = has_state (sets.pins pin.slot)
+
 abbrev pub IsLive : Sets → ℕ → Type 0
 IsLive sets slot = IsSome (sets.pins slot)
 

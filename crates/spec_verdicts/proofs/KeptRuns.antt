@@ -4,14 +4,14 @@ use Rattle.std.proofs.Math.Nat.{mul_assoc}
 use Rattle.std.proofs.lemmas.Nat.{mul-le}
 use Rattle.kripke_model.specs.Ctl.{Ctl}
 use Rattle.kripke_model.specs.System.{System, constraint_count}
-use Rattle.region_sets.specs.Sets.{Sets, is_one_of}
+use Rattle.region_sets.specs.Sets.{Sets, is_one_of, region}
 use Rattle.fair_fixpoint.specs.declared.runs.Run.{Run}
-use Rattle.fair_fixpoint.specs.Runs.{layer_views, list_regions, run_slots}
+use Rattle.fair_fixpoint.specs.Runs.{layer_views, run_slots}
 use Rattle.fair_fixpoint.specs.SatSets.{IsRunBy, IsWholeRun, pin_bound}
-use Rattle.fair_fixpoint.specs.Spreads.{region}
 use Rattle.fair_fixpoint.proofs.FairStates.{fair_states_are}
 use Rattle.fair_fixpoint.proofs.FreeTruth.{all_closed}
 use Rattle.fair_fixpoint.proofs.Satisfied.{run_kept}
+use Rattle.region_sets.specs.Ranks.{list_regions}
 
 pub whole_kept : (m : System) (f : Ctl) (a b : Sets) (run : Run) → ((k : ℕ) → is_one_of k (run_slots run) ≡ true → b.pins k ≡ a.pins k) → IsWholeRun m f a run → IsWholeRun m f b run
 whole_kept m f a b run kept whole =
