@@ -1,0 +1,92 @@
+-- The nodes of a formula in a list, from those of its parts.
+use Rattle.std.proofs.Common.{◌≡◌, ℕ, ◌+◌, ◌-◌, ◌<◌, List, [], ◌∷◌, ◌++◌, length, map, refl, sym, ◌∙◌, ap, arith, length-append, append_assoc}
+use Rattle.kripke_model.specs.Ctl.{Ctl}
+use Rattle.kripke_model.specs.Signs.{node_count}
+use Rattle.proof_form.specs.declared.preorder.Unary.{Unary}
+use Rattle.proof_form.specs.declared.preorder.Unary.TheVariants as unary
+use Rattle.proof_form.specs.declared.preorder.Binary.{Binary}
+use Rattle.proof_form.specs.declared.preorder.Binary.TheVariants as binary
+use Rattle.std.proofs.lemmas.List.{length-map}
+use Rattle.proof_form.specs.declared.preorder.Node.{Node}
+use Rattle.proof_form.specs.Preorder.{NodeView, one_of, two_of, node_view, node_views, nodes_from}
+
+map-append : {A B : Type 0} (f : A → B) (xs ys : List A) → map f (xs ++ ys) ≡ map f xs ++ map f ys
+map-append f [] ys = refl
+map-append f (x ∷ xs) ys = ap (λ zs. f x ∷ zs) (map-append f xs ys)
+
+pub some_nodes : (f : Ctl) → 0 < node_count f
+some_nodes (Ctl.Leaf e) = omega arith
+some_nodes (Ctl.Not f) = omega arith
+some_nodes (Ctl.And f g) = omega arith
+some_nodes (Ctl.Or f g) = omega arith
+some_nodes (Ctl.Implies f g) = omega arith
+some_nodes (Ctl.Iff f g) = omega arith
+some_nodes (Ctl.Quant op f) = omega arith
+some_nodes (Ctl.Until all f g) = omega arith
+
+pub one_count : (kind : Unary) (f : Ctl) → node_count (one_of kind f) ≡ 1 + node_count f
+one_count unary.Not f = refl
+one_count (unary.Quantified op) f = refl
+
+pub two_count : (kind : Binary) (f g : Ctl) → node_count (two_of kind f g) ≡ 1 + node_count f + node_count g
+two_count binary.And f g = refl
+two_count binary.Or f g = refl
+two_count binary.Implies f g = refl
+two_count binary.Iff f g = refl
+two_count (binary.Until all) f g = refl
+
+pub one_nodes : (kind : Unary) (f : Ctl) (b : ℕ) → nodes_from (one_of kind f) b ≡ nodes_from f b ++ (NodeView.One kind ∷ [])
+one_nodes unary.Not f b = refl
+one_nodes (unary.Quantified op) f b = refl
+
+pub two_nodes : (kind : Binary) (f g : Ctl) (b : ℕ)
+    → nodes_from (two_of kind f g) b ≡ nodes_from g b ++ (nodes_from f (b + node_count g) ++ (NodeView.Two kind (b + node_count g - 1) ∷ []))
+two_nodes binary.And f g b = refl
+two_nodes binary.Or f g b = refl
+two_nodes binary.Implies f g b = refl
+two_nodes binary.Iff f g b = refl
+two_nodes (binary.Until all) f g b = refl
+
+three : (x y z : List NodeView) (nx ny nz : ℕ) → length x ≡ nx → length y ≡ ny → length z ≡ nz → length (x ++ (y ++ z)) ≡ nx + (ny + nz)
+three x y z nx ny nz a b c = omega (arith, length-append x (y ++ z), length-append y z)
+
+-- there is one for each
+pub nodes_length : (f : Ctl) (b : ℕ) → length (nodes_from f b) ≡ node_count f
+nodes_length (Ctl.Leaf e) b = refl
+nodes_length (Ctl.Not f) b = omega (arith, length-append (nodes_from f b) (NodeView.One unary.Not ∷ []), nodes_length f b)
+nodes_length (Ctl.And f g) b = omega (arith, three (nodes_from g b) (nodes_from f (b + node_count g)) (NodeView.Two binary.And (b + node_count g - 1) ∷ []) (node_count g) (node_count f) 1 (nodes_length g b) (nodes_length f (b + node_count g)) refl)
+nodes_length (Ctl.Or f g) b = omega (arith, three (nodes_from g b) (nodes_from f (b + node_count g)) (NodeView.Two binary.Or (b + node_count g - 1) ∷ []) (node_count g) (node_count f) 1 (nodes_length g b) (nodes_length f (b + node_count g)) refl)
+nodes_length (Ctl.Implies f g) b = omega (arith, three (nodes_from g b) (nodes_from f (b + node_count g)) (NodeView.Two binary.Implies (b + node_count g - 1) ∷ []) (node_count g) (node_count f) 1 (nodes_length g b) (nodes_length f (b + node_count g)) refl)
+nodes_length (Ctl.Iff f g) b = omega (arith, three (nodes_from g b) (nodes_from f (b + node_count g)) (NodeView.Two binary.Iff (b + node_count g - 1) ∷ []) (node_count g) (node_count f) 1 (nodes_length g b) (nodes_length f (b + node_count g)) refl)
+nodes_length (Ctl.Quant op f) b = omega (arith, length-append (nodes_from f b) (NodeView.One (unary.Quantified op) ∷ []), nodes_length f b)
+nodes_length (Ctl.Until all f g) b = omega (arith, three (nodes_from g b) (nodes_from f (b + node_count g)) (NodeView.Two (binary.Until all) (b + node_count g - 1) ∷ []) (node_count g) (node_count f) 1 (nodes_length g b) (nodes_length f (b + node_count g)) refl)
+
+pub one_smaller : (kind : Unary) (f c : Ctl) → c ≡ one_of kind f → node_count f < node_count c
+one_smaller kind f c is = omega (arith, ap node_count is, one_count kind f)
+
+pub first_smaller : (kind : Binary) (f g c : Ctl) → c ≡ two_of kind f g → node_count f < node_count c
+first_smaller kind f g c is = omega (arith, ap node_count is, two_count kind f g)
+
+pub last_smaller : (kind : Binary) (f g c : Ctl) → c ≡ two_of kind f g → node_count g < node_count c
+last_smaller kind f g c is = omega (arith, ap node_count is, two_count kind f g)
+
+-- the list that the nodes were added to
+pub longer : (f : Ctl) (old new : List Node) → node_views new ≡ node_views old ++ nodes_from f (length old) → length new ≡ length old + node_count f
+longer f old new is = omega (arith, length-map new node_view, length-map old node_view, ap length is, length-append (node_views old) (nodes_from f (length old)), nodes_length f (length old))
+
+pub two_added : (kind : Binary) (f g c : Ctl) (n0 n1 n2 n3 : List Node) (node : Node) (last : ℕ) → c ≡ two_of kind f g
+    → node_views n1 ≡ node_views n0 ++ nodes_from g (length n0) → node_views n2 ≡ node_views n1 ++ nodes_from f (length n1)
+    → n3 ≡ n2 ++ node ∷ [] → node_view node ≡ NodeView.Two kind last → last + 1 ≡ length n1
+    → node_views n3 ≡ node_views n0 ++ nodes_from c (length n0)
+two_added kind f g c n0 n1 n2 n3 node last is p q items view place =
+    let b : ℕ = length n0 + node_count g in
+    let size : length n1 ≡ b = longer g n0 n1 p in
+    let at : last ≡ b - 1 = omega (arith, place, size) in
+    let own : List NodeView = NodeView.Two kind (b - 1) ∷ [] in
+    ap node_views items
+    ∙ map-append node_view n2 (node ∷ [])
+    ∙ ap (λ v. node_views n2 ++ (v ∷ [])) (view ∙ ap (NodeView.Two kind) at)
+    ∙ ap (λ vs. vs ++ own) (q ∙ ap (λ k. node_views n1 ++ nodes_from f k) size ∙ ap (λ vs. vs ++ nodes_from f b) p)
+    ∙ append_assoc (node_views n0 ++ nodes_from g (length n0)) (nodes_from f b) own
+    ∙ append_assoc (node_views n0) (nodes_from g (length n0)) (nodes_from f b ++ own)
+    ∙ ap (λ vs. node_views n0 ++ vs) (sym (two_nodes kind f g (length n0)) ∙ ap (λ x. nodes_from x (length n0)) (sym is))

@@ -1,0 +1,33 @@
+use Rattle.std.proofs.Common.{◌++◌, map, refl, sym, ◌∙◌, ap}
+use Rattle.std.proofs.lemmas.Result.{err_from_is_err_and}
+use Rattle.proof_form.specs.Form.{layer_sets, fair_sets, entries_sets, free_sets}
+use Rattle.proof_form.proofs.Copied.{first_live, second_live, first_refused, both_copied}
+use Rattle.proof_form.proofs.gathering.copy_free.Goals as goal
+
+pub copy_layers-requires : goal.copy_layers-requires
+copy_layers-requires g c = first_live (g.S.StateSets.seen c.args.sets.now) (free_sets c.args.part.now) (layer_sets c.deref.result.now) (fair_sets c.part.inside.fair ++ entries_sets (map (λ e. e.entry) c.part.inside.entries.items)) (ap free_sets (sym c.part.view_is) ∙ ap (λ ls. layer_sets ls ++ (fair_sets c.part.inside.fair ++ entries_sets (map (λ e. e.entry) c.part.inside.entries.items))) (sym c.deref.ensures.value)) c.requires
+
+pub returns-in_err-copy_layers : goal.returns-in_err-copy_layers
+returns-in_err-copy_layers g c =
+    let p = err_from_is_err_and c.from_residual.result c.from_residual.ensures.1 in
+    rw (p.1, p.2) (first_refused (g.S.StateSets.seen c.args.sets.now) (free_sets c.args.part.now) (layer_sets c.deref.result.now) (fair_sets c.part.inside.fair ++ entries_sets (map (λ e. e.entry) c.part.inside.entries.items)) (ap free_sets (sym c.part.view_is) ∙ ap (λ ls. layer_sets ls ++ (fair_sets c.part.inside.fair ++ entries_sets (map (λ e. e.entry) c.part.inside.entries.items))) (sym c.deref.ensures.value)) c.requires
+    c.in_err-copy_layers.field-0.0 c.in_err-copy_layers.ensures)
+
+pub copy_fair-requires : goal.copy_fair-requires
+copy_fair-requires g c = first_live (g.S.StateSets.seen c.copy_layers.new.sets) (fair_sets c.part.inside.fair ++ entries_sets (map (λ e. e.entry) c.part.inside.entries.items)) (fair_sets c.part.inside.fair) (entries_sets (map (λ e. e.entry) c.part.inside.entries.items)) refl (second_live (g.S.StateSets.seen c.args.sets.now) (free_sets c.args.part.now) (layer_sets c.deref.result.now) (fair_sets c.part.inside.fair ++ entries_sets (map (λ e. e.entry) c.part.inside.entries.items)) (ap free_sets (sym c.part.view_is) ∙ ap (λ ls. layer_sets ls ++ (fair_sets c.part.inside.fair ++ entries_sets (map (λ e. e.entry) c.part.inside.entries.items))) (sym c.deref.ensures.value)) c.requires c.in_ok-copy_layers.ensures)
+
+pub returns-in_err-copy_fair : goal.returns-in_err-copy_fair
+returns-in_err-copy_fair g c =
+    let p = err_from_is_err_and c.from_residual-in_err-copy_fair.result c.from_residual-in_err-copy_fair.ensures.1 in
+    rw (p.1, p.2) (both_copied (g.S.StateSets.seen c.args.sets.now) (free_sets c.args.part.now) (layer_sets c.deref.result.now) (fair_sets c.part.inside.fair ++ entries_sets (map (λ e. e.entry) c.part.inside.entries.items)) (ap free_sets (sym c.part.view_is) ∙ ap (λ ls. layer_sets ls ++ (fair_sets c.part.inside.fair ++ entries_sets (map (λ e. e.entry) c.part.inside.entries.items))) (sym c.deref.ensures.value)) c.requires c.in_ok-copy_layers.ensures
+    (first_refused (g.S.StateSets.seen c.copy_layers.new.sets) (fair_sets c.part.inside.fair ++ entries_sets (map (λ e. e.entry) c.part.inside.entries.items)) (fair_sets c.part.inside.fair) (entries_sets (map (λ e. e.entry) c.part.inside.entries.items)) refl (second_live (g.S.StateSets.seen c.args.sets.now) (free_sets c.args.part.now) (layer_sets c.deref.result.now) (fair_sets c.part.inside.fair ++ entries_sets (map (λ e. e.entry) c.part.inside.entries.items)) (ap free_sets (sym c.part.view_is) ∙ ap (λ ls. layer_sets ls ++ (fair_sets c.part.inside.fair ++ entries_sets (map (λ e. e.entry) c.part.inside.entries.items))) (sym c.deref.ensures.value)) c.requires c.in_ok-copy_layers.ensures)
+    c.in_err-copy_fair.field-0.0 c.in_err-copy_fair.ensures))
+
+pub copy_free_entries-requires : goal.copy_free_entries-requires
+copy_free_entries-requires g c =
+    second_live (g.S.StateSets.seen c.copy_layers.new.sets) (fair_sets c.part.inside.fair ++ entries_sets (map (λ e. e.entry) c.part.inside.entries.items)) (fair_sets c.part.inside.fair) (entries_sets (map (λ e. e.entry) c.deref-2.result.now)) (ap (λ es. fair_sets c.part.inside.fair ++ entries_sets (map (λ e. e.entry) es)) (sym c.deref-2.ensures.value)) (second_live (g.S.StateSets.seen c.args.sets.now) (free_sets c.args.part.now) (layer_sets c.deref.result.now) (fair_sets c.part.inside.fair ++ entries_sets (map (λ e. e.entry) c.part.inside.entries.items)) (ap free_sets (sym c.part.view_is) ∙ ap (λ ls. layer_sets ls ++ (fair_sets c.part.inside.fair ++ entries_sets (map (λ e. e.entry) c.part.inside.entries.items))) (sym c.deref.ensures.value)) c.requires c.in_ok-copy_layers.ensures) c.in_ok-copy_fair.ensures
+
+pub returns : goal.returns
+returns g c =
+    both_copied (g.S.StateSets.seen c.args.sets.now) (free_sets c.args.part.now) (layer_sets c.deref.result.now) (fair_sets c.part.inside.fair ++ entries_sets (map (λ e. e.entry) c.part.inside.entries.items)) (ap free_sets (sym c.part.view_is) ∙ ap (λ ls. layer_sets ls ++ (fair_sets c.part.inside.fair ++ entries_sets (map (λ e. e.entry) c.part.inside.entries.items))) (sym c.deref.ensures.value)) c.requires c.in_ok-copy_layers.ensures
+    (both_copied (g.S.StateSets.seen c.copy_layers.new.sets) (fair_sets c.part.inside.fair ++ entries_sets (map (λ e. e.entry) c.part.inside.entries.items)) (fair_sets c.part.inside.fair) (entries_sets (map (λ e. e.entry) c.deref-2.result.now)) (ap (λ es. fair_sets c.part.inside.fair ++ entries_sets (map (λ e. e.entry) es)) (sym c.deref-2.ensures.value)) (second_live (g.S.StateSets.seen c.args.sets.now) (free_sets c.args.part.now) (layer_sets c.deref.result.now) (fair_sets c.part.inside.fair ++ entries_sets (map (λ e. e.entry) c.part.inside.entries.items)) (ap free_sets (sym c.part.view_is) ∙ ap (λ ls. layer_sets ls ++ (fair_sets c.part.inside.fair ++ entries_sets (map (λ e. e.entry) c.part.inside.entries.items))) (sym c.deref.ensures.value)) c.requires c.in_ok-copy_layers.ensures) c.in_ok-copy_fair.ensures c.copy_free_entries.ensures)

@@ -1,0 +1,14 @@
+pub mod Form
+pub mod Seen
+pub mod Shape
+pub mod Meaning
+pub mod Pinned
+pub mod Agrees
+pub mod Filling
+pub mod Copying
+pub mod Preorder
+pub mod RuleTable
+pub mod EntrySets
+pub mod Claimed
+pub mod ConstraintClaims
+pub mod Tested
