@@ -1,0 +1,68 @@
+-- Entries that are added for the signs of a node.
+use Rattle.std.proofs.Common.{◌≡◌, ℕ, zero, suc, ◌-◌, ◌<◌, ◌≤◌, Bool, true, false, List, [], ◌∷◌, ◌++◌, length, get_or, Ok, Err, refl, sym, ◌∙◌, ap, arith}
+use Rattle.std.proofs.lemmas.List.{get_or-map}
+use Rattle.path_laws.specs.StateSet.{StateSet}
+use Rattle.region_sets.specs.declared.pins.Pin.{Pin}
+use Rattle.region_sets.specs.declared.pins.SetRefusal.{SetRefusal}
+use Rattle.region_sets.specs.declared.pins.SetRefusal.TheVariants.{Memory}
+use Rattle.region_sets.specs.Sets.{Sets, Adds, region}
+use Rattle.region_sets.specs.Ranks.{AreLive}
+use Rattle.region_sets.proofs.Slots.{is_one_of-left, is_one_of-right}
+use Rattle.fair_rules.specs.SetLists.{nothing}
+use Rattle.fair_rules.specs.Block.{same_sign}
+use Rattle.fair_fixpoint.specs.declared.runs.NodeRun.{NodeRun}
+use Rattle.fair_fixpoint.specs.Found.{ranks_view}
+use Rattle.fair_fixpoint.specs.Formulas.{node_view}
+use Rattle.fair_fixpoint.specs.NodeRules.{sign_set}
+use Rattle.fair_fixpoint.specs.Nodes.{RanksView, NodeView}
+use Rattle.fair_fixpoint.specs.Runs.{node_slots, nodes_slots}
+use Rattle.fair_fixpoint.specs.SatSets.{node_of}
+use Rattle.proof_form.specs.declared.form.Rule.{Rule as Given}
+use Rattle.proof_form.specs.Form.{Rule, Entry}
+use Rattle.proof_form.specs.Seen.{seen_rule}
+use Rattle.rank_extract.specs.Given.{given, entry_at}
+use Rattle.rank_extract.specs.Made.{IsMade, AreAdded, rule_own, rule_seen, rule_size, entry_own, entry_seen, entry_size}
+use Rattle.rank_extract.specs.Signs.{sign_pin}
+use Rattle.rank_extract.proofs.Adding.{one_added, one_refused, one_released}
+use Rattle.rank_extract.proofs.Holders.{entry_kind}
+
+-- ---- a node of a list
+
+node_there : (s : Sets) (nodes : List NodeRun) (n : ℕ) (d : NodeRun) → 1 ≤ n → n ≤ length nodes → node_of s nodes n ≡ node_view s (get_or nodes (n - 1) d)
+node_there s nodes n d first there = get_or-map (node_view s) nodes (n - 1) d (record { plus = nothing; minus = nothing; ranks = RanksView.Plain }) (omega (arith, first, there))
+
+pub node_live : (s : Sets) (nodes : List NodeRun) (k : ℕ) (d : NodeRun) → AreLive s (nodes_slots nodes) → k < length nodes → AreLive s (node_slots (get_or nodes k d))
+node_live s [] k d live lt = absurd (omega arith)
+node_live s (x ∷ xs) zero d live lt = λ j e. live j (is_one_of-left j (node_slots x) (nodes_slots xs) e)
+node_live s (x ∷ xs) (suc k) d live lt = λ j e. node_live s xs k d (λ i h. live i (is_one_of-right i (node_slots x) (nodes_slots xs) h)) (omega arith) j e
+
+sign_there : (s : Sets) (node : NodeRun) (plus : Bool) → region s (sign_pin plus node) ≡ sign_set plus (node_view s node)
+sign_there s node true = refl
+sign_there s node false = refl
+
+-- the entry of a node's sign is of its set and of the sets by which it grew
+pub entry_is : (s : Sets) (F : StateSet) (nodes : List NodeRun) (n : ℕ) (some plus : Bool) (d : NodeRun) → 1 ≤ n → n ≤ length nodes
+    → record { node = n; plus = plus; rule = given F (same_sign some plus) (region s (sign_pin plus (get_or nodes (n - 1) d))) (ranks_view s (get_or nodes (n - 1) d).ranks) } ≡ entry_at F (node_of s nodes) n some plus
+entry_is s F nodes n some plus d first there =
+    let node : NodeRun = get_or nodes (n - 1) d in
+    ap (λ (G : StateSet). record { node = n; plus = plus; rule = given F (same_sign some plus) G (ranks_view s node.ranks) }) (sign_there s node plus)
+    ∙ ap (λ (v : NodeView). record { node = n; plus = plus; rule = given F (same_sign some plus) (sign_set plus v) v.ranks }) (sym (node_there s nodes n d first there))
+
+-- ---- an entry that is made of a rule, and pushed
+
+abbrev pub entry_by : ℕ → Bool → Rule StateSet → Entry StateSet
+entry_by n plus v = record { node = n; plus = plus; rule = v }
+
+module _ {a b : Sets} (n : ℕ) (plus : Bool) (v : Rule StateSet) where
+  pub entry_added : {T : Type 0} (rule : Given Pin) (old new : List (Entry Pin)) (y : T) → IsMade rule_own rule_seen rule_size a b v (Ok rule) → new ≡ old ++ (record { node = n; plus = plus; rule = seen_rule rule } ∷ [])
+      → AreAdded entry_own entry_seen entry_size a b (entry_by n plus v ∷ []) old new (Ok y)
+  entry_added rule old new y made pushed =
+      one_added entry_kind (record { node = n; plus = plus; rule = seen_rule rule }) old new y made.call (ap (λ (r : Rule StateSet). record { node = n; plus = plus; rule = r }) made.view) pushed
+
+  pub entry_refused : {T : Type 0} {e : SetRefusal} (old : List (Entry Pin)) → IsMade {X = Given Pin} rule_own rule_seen rule_size a b v (Err e) → AreAdded {T = T} entry_own entry_seen entry_size a b (entry_by n plus v ∷ []) old old (Err e)
+  entry_refused {T} {e} old made = one_refused entry_kind {T = T} {v = entry_by n plus v} e old made.call
+
+  pub entry_released : {T : Type 0} {c : Sets} (rule : Given Pin) (old new : List (Entry Pin)) → IsMade rule_own rule_seen rule_size a b v (Ok rule) → Adds c b (rule_own rule) → c.fulls ≡ b.fulls → new ≡ old
+      → AreAdded {T = T} entry_own entry_seen entry_size a c (entry_by n plus v ∷ []) old new (Err Memory)
+  entry_released {T} {c} rule old new made back fulls same =
+      one_released entry_kind {T = T} {v = entry_by n plus v} (record { node = n; plus = plus; rule = seen_rule rule }) old new made.call back fulls same

@@ -1,0 +1,62 @@
+-- The entries of a node, and the signs that it asks of its parts.
+use Rattle.std.specs.Prelude.{ℕ, Bool, true, false, not, ◌||◌, List, []}
+use Rattle.path_laws.specs.StateSet.{StateSet}
+use Rattle.region_sets.specs.declared.pins.Pin.{Pin}
+use Rattle.fair_fixpoint.specs.declared.runs.NodeRun.{NodeRun}
+use Rattle.fair_fixpoint.specs.declared.formulas.Connective.{Connective}
+use Rattle.fair_fixpoint.specs.declared.formulas.Kind.{Kind}
+use Rattle.fair_fixpoint.specs.declared.formulas.Kind.TheVariants.{Connected, Quantified, Between}
+use Rattle.fair_fixpoint.specs.Nodes.{NodeView}
+use Rattle.fair_fixpoint.specs.Formulas.{is_existential}
+use Rattle.proof_form.specs.Form.{Entry}
+use Rattle.rank_extract.specs.Given.{own_entries}
+
+-- a connective has no entries of its own
+abbrev pub kind_entries : StateSet → (ℕ → NodeView) → ℕ → Kind → Bool → Bool → List (Entry StateSet)
+kind_entries fair at n (Connected c) plus minus = []
+kind_entries fair at n (Quantified op) plus minus = own_entries fair at n (is_existential op) plus minus
+kind_entries fair at n (Between all) plus minus = own_entries fair at n (not all) plus minus
+
+-- the signs that are wanted of the first part, by those that are wanted of the node
+abbrev pub first_plus : Kind → Bool → Bool → Bool
+first_plus (Connected Connective.Not) plus minus = minus
+first_plus (Connected Connective.And) plus minus = plus
+first_plus (Connected Connective.Or) plus minus = plus
+first_plus (Connected Connective.Implies) plus minus = minus
+first_plus (Connected Connective.Iff) plus minus = plus || minus
+first_plus (Quantified op) plus minus = plus
+first_plus (Between all) plus minus = plus
+
+abbrev pub first_minus : Kind → Bool → Bool → Bool
+first_minus (Connected Connective.Not) plus minus = plus
+first_minus (Connected Connective.And) plus minus = minus
+first_minus (Connected Connective.Or) plus minus = minus
+first_minus (Connected Connective.Implies) plus minus = plus
+first_minus (Connected Connective.Iff) plus minus = plus || minus
+first_minus (Quantified op) plus minus = minus
+first_minus (Between all) plus minus = minus
+
+-- and of the last one
+abbrev pub last_plus : Kind → Bool → Bool → Bool
+last_plus (Connected Connective.Not) plus minus = plus
+last_plus (Connected Connective.And) plus minus = plus
+last_plus (Connected Connective.Or) plus minus = plus
+last_plus (Connected Connective.Implies) plus minus = plus
+last_plus (Connected Connective.Iff) plus minus = plus || minus
+last_plus (Quantified op) plus minus = plus
+last_plus (Between all) plus minus = plus
+
+abbrev pub last_minus : Kind → Bool → Bool → Bool
+last_minus (Connected Connective.Not) plus minus = minus
+last_minus (Connected Connective.And) plus minus = minus
+last_minus (Connected Connective.Or) plus minus = minus
+last_minus (Connected Connective.Implies) plus minus = minus
+last_minus (Connected Connective.Iff) plus minus = plus || minus
+last_minus (Quantified op) plus minus = minus
+last_minus (Between all) plus minus = minus
+
+-- ---- the pin of a sign
+
+abbrev pub sign_pin : Bool → NodeRun → Pin
+sign_pin true node = node.plus
+sign_pin false node = node.minus
