@@ -1,0 +1,12 @@
+pub mod Lists
+pub mod InTurn
+pub mod Renamed
+pub mod Choice
+pub mod OneLine
+pub mod Many
+pub mod FirstLines
+pub mod UntilLast
+pub mod Cuts
+pub mod Spaced
+pub mod Numerals
+pub mod Places

@@ -1,0 +1,6 @@
+pub mod Formats
+pub mod WholeLines
+pub mod Cursor
+pub mod Halves
+pub mod Words
+pub mod Number

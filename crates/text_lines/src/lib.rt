@@ -1,0 +1,7 @@
+//! Texts that are read line by line.
+#![tactic(auto)]
+
+pub mod cursor;
+mod halves;
+pub mod numbers;
+pub mod words;
