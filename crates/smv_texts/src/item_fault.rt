@@ -6,13 +6,13 @@ ghost use Rattle.smv_texts.specs.Report.{numbered};
 ghost use Rattle.smv_texts.specs.declared.ending.Ending.TheVariants.{ModelRefused};
 
 use crate::reasons::push_on_line;
-use crate::text::Text;
-use crate::values::{push_value, value_at};
 use crate::{Ending, Reply};
 use kripke_model::expressions::FaultKind;
 use kripke_model::models::{FlatVar, Ruled};
 use kripke_model::states::State;
 use std::alloc::{AllocError, Global};
+use value_texts::text::Text;
+use value_texts::values::{push_value, value_at};
 
 /// The first item of a model that faults, at its least pair of states.
 #[derive(Drop)]

@@ -10,9 +10,7 @@ mod refusal;
 mod reply;
 mod report;
 mod status;
-mod text;
 mod usage;
-mod values;
 
 pub use ending::Ending;
 pub use fault::Fault;

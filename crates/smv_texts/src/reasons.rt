@@ -4,9 +4,9 @@ ghost use Rattle.smv_texts.specs.Reasons.{flat_reason, limit_word, on_line};
 ghost use Rattle.smv_texts.specs.Refusals.{reason};
 ghost use Rattle.smv_texts.specs.Told.{told_flat, told_static};
 
-use crate::text::Text;
 use kripke_model::refusals::{FlatRefusal, StaticRefusal, Which};
 use std::alloc::AllocError;
+use value_texts::text::Text;
 
 /// Adds the number of a refusal, and the line that it tells.
 pub(crate) fn push_on_line(text: &mut Text, number: &[u8], line: u32) -> Result<(), AllocError>

@@ -4,10 +4,10 @@ ghost use Rattle.smv_texts.specs.Refusals.{reason};
 ghost use Rattle.smv_texts.specs.Told.{TellsRefusal, told};
 
 use crate::reasons::{push_flat_reason, push_on_line, push_static_reason};
-use crate::text::Text;
 use crate::{Ending, Reply};
 use kripke_model::refusals::{FlatRefusal, StaticRefusal};
 use std::alloc::{AllocError, Global};
+use value_texts::text::Text;
 
 /// Why a model's text is refused, or that memory ran out.
 #[derive(Debug, Drop)]

@@ -4,11 +4,11 @@ ghost use Rattle.smv_texts.specs.Outcomes.{finding_of, outcome_of};
 ghost use Rattle.smv_texts.specs.Report as lines;
 
 use crate::outcome::{Outcome, false_count, true_count, unknown_count};
-use crate::text::Text;
-use crate::values::{push_value, value_at};
 use kripke_model::models::{FlatVar, Ruled};
 use kripke_model::states::{Lasso, State};
 use std::alloc::{AllocError, Global};
+use value_texts::text::Text;
+use value_texts::values::{push_value, value_at};
 
 /// The report of one outcome for each specification of the model, in order.
 pub fn report_text(

@@ -1,4 +1,5 @@
-// A text that grows at its end.
+//! A text that grows at its end.
+
 ghost use Rattle.std.specs.Prelude.{◌≡◌, ◌++◌, [], List, ℕ, OnOk, decimal};
 
 use itoa::{Buffer, Integer};
@@ -7,7 +8,7 @@ use std::marker::Model;
 
 /// A text that grows at its end. Contracts see it as the list of its bytes.
 #[derive(Drop)]
-pub(crate) struct Text {
+pub struct Text {
     bytes: Vec<u8>,
 }
 
@@ -20,7 +21,8 @@ impl Model for Text {
 }
 
 impl Text {
-    pub(crate) fn new(alloc: Global) -> Text
+    /// A text without bytes.
+    pub fn new(alloc: Global) -> Text
         ensures { result ≡ [] }
     {
         Text {
@@ -28,21 +30,23 @@ impl Text {
         }
     }
 
-    pub(crate) fn push(&mut self, bytes: &[u8]) -> Result<(), AllocError>
+    /// Adds the bytes.
+    pub fn push(&mut self, bytes: &[u8]) -> Result<(), AllocError>
         ensures { OnOk result (self.new ≡ self.old ++ bytes.now) }
     {
         self.bytes.extend_from_slice(bytes)
     }
 
     /// Adds the number in decimal.
-    pub(crate) fn push_number<I: Integer>(&mut self, n: I) -> Result<(), AllocError>
+    pub fn push_number<I: Integer>(&mut self, n: I) -> Result<(), AllocError>
         ensures { OnOk result (self.new ≡ self.old ++ I.text n) }
     {
         let mut buffer = Buffer::new();
         self.push(buffer.format(n).as_bytes())
     }
 
-    pub(crate) fn into_bytes(self) -> Vec<u8>
+    /// The bytes of the text.
+    pub fn into_bytes(self) -> Vec<u8>
         ensures { result.items ≡ self }
     {
         self.bytes

@@ -1,4 +1,5 @@
-// Values as they are written.
+//! Values as they are written.
+
 ghost use Rattle.std.specs.Prelude.{◌≡◌, ◌++◌, [], slice_index_or, OnOk};
 ghost use Rattle.kripke_model.specs.Shown.{process_name, value_text};
 ghost use Rattle.kripke_model.specs.System.{value_in};
@@ -10,7 +11,8 @@ use kripke_model::models::Ruled;
 use kripke_model::states::State;
 use std::alloc::AllocError;
 
-pub(crate) fn value_at(state: &State, x: usize) -> Value
+/// The value of variable x, or 0 where the state has none.
+pub fn value_at(state: &State, x: usize) -> Value
     ensures { result ≡ value_in state.now x }
 {
     match state.values().get(x) {
@@ -19,13 +21,8 @@ pub(crate) fn value_at(state: &State, x: usize) -> Value
     }
 }
 
-// A value of variable x. A value of the selector prints as its process.
-pub(crate) fn push_value(
-    text: &mut Text,
-    model: &Ruled,
-    x: usize,
-    value: Value,
-) -> Result<(), AllocError>
+/// Adds a value of variable x. A value of the selector is written as its process.
+pub fn push_value(text: &mut Text, model: &Ruled, x: usize, value: Value) -> Result<(), AllocError>
     ensures { OnOk result (text.new ≡ text.old ++ value_text model.now x value) }
 {
     match value {
