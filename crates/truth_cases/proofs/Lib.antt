@@ -1,2 +1,1 @@
 mod RunPins
-mod SpecLeaves

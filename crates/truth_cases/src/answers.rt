@@ -5,24 +5,18 @@ ghost use Rattle.kripke_model.specs.Ctl.{formula_of};
 ghost use Rattle.kripke_model.specs.WellFormed.{ctl_of};
 ghost use Rattle.fair_fixpoint.specs.Walks.{HasModelLeaves};
 
-use crate::kinds::{diagrams, trees};
-use crate::reading::model_of;
-use crate::telling::{tell_found, tell_full, tell_refusal};
-use crate::verdicts::{judged_failing, spec_formulas};
+use crate::telling::tell_found;
+use crate::verdicts::judged_failing;
+use case_models::formulas::spec_formulas;
+use case_models::kinds::{diagrams, trees};
+use case_models::reading::{model_of, with_spec};
+use case_models::telling::{tell_full, tell_refusal};
 use case_text::asking::Answer;
 use case_text::fault::Fault;
 use kripke_model::expressions::Formula;
 use kripke_model::models::Ruled;
 use region_sets::{SetRefusal, StateSets};
 use std::alloc::{AllocError, Global};
-
-/// The text with one more specification.
-fn with_spec(alloc: Global, text: &[u8], spec: &[u8]) -> Result<Vec<u8>, AllocError> {
-    let mut whole = text.to_vec(alloc)?;
-    whole.extend_from_slice(b"SPEC ")?;
-    whole.extend_from_slice(spec)?;
-    Ok(whole)
-}
 
 /// What is found of the formula over the sets.
 fn found_over<S: StateSets>(

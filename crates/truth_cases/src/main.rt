@@ -5,9 +5,7 @@
 #![tactic(auto)]
 
 mod answers;
-mod kinds;
 mod paths;
-mod reading;
 mod telling;
 mod verdicts;
 

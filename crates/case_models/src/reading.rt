@@ -6,7 +6,7 @@ use smv_instantiate::flatten;
 use smv_lexer::{LexRefusal, lex};
 use smv_parser::{ParseRefusal, parse};
 use smv_static::accept;
-use std::alloc::Global;
+use std::alloc::{AllocError, Global};
 use thiserror::Error;
 
 /// The most states of a model: trees have a leaf for each.
@@ -46,4 +46,12 @@ pub fn model_of(alloc: Global, text: &[u8]) -> Result<Ruled, Refusal> {
         return Err(Refusal::TooManyStates);
     }
     Ok(model)
+}
+
+/// The text with one more specification.
+pub fn with_spec(alloc: Global, text: &[u8], spec: &[u8]) -> Result<Vec<u8>, AllocError> {
+    let mut whole = text.to_vec(alloc)?;
+    whole.extend_from_slice(b"SPEC ")?;
+    whole.extend_from_slice(spec)?;
+    Ok(whole)
 }
