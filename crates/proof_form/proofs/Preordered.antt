@@ -1,12 +1,12 @@
 -- The nodes of a formula in a list, from those of its parts.
-use Rattle.std.proofs.Common.{◌≡◌, ℕ, ◌+◌, ◌-◌, ◌<◌, List, [], ◌∷◌, ◌++◌, length, map, refl, sym, ◌∙◌, ap, arith, length-append, append_assoc}
+use Rattle.std.proofs.Common.{◌≡◌, ℕ, zero, suc, ◌+◌, ◌-◌, ◌<◌, List, [], ◌∷◌, ◌++◌, length, map, get_or, refl, sym, ◌∙◌, ap, arith, length-append, append_assoc}
 use Rattle.kripke_model.specs.Ctl.{Ctl}
 use Rattle.kripke_model.specs.Signs.{node_count}
 use Rattle.proof_form.specs.declared.preorder.Unary.{Unary}
 use Rattle.proof_form.specs.declared.preorder.Unary.TheVariants as unary
 use Rattle.proof_form.specs.declared.preorder.Binary.{Binary}
 use Rattle.proof_form.specs.declared.preorder.Binary.TheVariants as binary
-use Rattle.std.proofs.lemmas.List.{length-map}
+use Rattle.std.proofs.lemmas.List.{length-map, get_or_append_left, get_or-append-add}
 use Rattle.proof_form.specs.declared.preorder.Node.{Node}
 use Rattle.proof_form.specs.Preorder.{NodeView, one_of, two_of, node_view, node_views, nodes_from}
 
@@ -90,3 +90,26 @@ two_added kind f g c n0 n1 n2 n3 node last is p q items view place =
     ∙ append_assoc (node_views n0 ++ nodes_from g (length n0)) (nodes_from f b) own
     ∙ append_assoc (node_views n0) (nodes_from g (length n0)) (nodes_from f b ++ own)
     ∙ ap (λ vs. node_views n0 ++ vs) (sym (two_nodes kind f g (length n0)) ∙ ap (λ x. nodes_from x (length n0)) (sym is))
+
+-- a node at its place
+pub node_at : (nodes : List Node) (k : ℕ) (x : Node) → k < length nodes → x ≡ get_or nodes k x → (d : NodeView) → node_view x ≡ get_or (node_views nodes) k d
+node_at [] k x lt is d = absurd (omega (arith, lt))
+node_at (n ∷ nodes) zero x lt is d = ap node_view is
+node_at (n ∷ nodes) (suc k) x lt is d = node_at nodes k x (omega (arith, lt)) is d
+
+-- ---- three lists in a row, of which the last has one element
+
+module _ {A : Type 0} (d : A) where
+  pub in_last : (xs : List A) (z : A) (k : ℕ) → k ≡ length xs → get_or (xs ++ (z ∷ [])) k d ≡ z
+  in_last xs z k e = ap (λ j. get_or (xs ++ (z ∷ [])) j d) (omega (arith, e)) ∙ get_or-append-add xs (z ∷ []) 0 d
+
+  pub in_first : (xs ys : List A) (k : ℕ) → k < length xs → get_or (xs ++ ys) k d ≡ get_or xs k d
+  in_first xs ys k lt = get_or_append_left xs ys d k lt
+
+  pub in_middle : (xs ys zs : List A) (k j : ℕ) → j ≡ length xs + k → k < length ys → get_or (xs ++ (ys ++ zs)) j d ≡ get_or ys k d
+  in_middle xs ys zs k j e lt =
+      ap (λ i. get_or (xs ++ (ys ++ zs)) i d) e ∙ get_or-append-add xs (ys ++ zs) k d ∙ get_or_append_left ys zs d k lt
+
+  pub in_third : (xs ys : List A) (z : A) (j : ℕ) → j ≡ length xs + length ys → get_or (xs ++ (ys ++ (z ∷ []))) j d ≡ z
+  in_third xs ys z j e =
+      ap (λ i. get_or (xs ++ (ys ++ (z ∷ []))) i d) e ∙ get_or-append-add xs (ys ++ (z ∷ [])) (length ys) d ∙ in_last ys z (length ys) refl

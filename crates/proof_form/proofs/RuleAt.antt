@@ -17,9 +17,7 @@ use Rattle.proof_form.specs.Form.{Entry}
 use Rattle.proof_form.specs.Preorder.{NodeView, one_of, two_of, node_view, node_views, nodes_from}
 use Rattle.proof_form.specs.RuleTable.{IsOfNode, node_rule}
 use Rattle.proof_form.specs.Shape.{HasRule, kind_of, rule_for}
-use Rattle.proof_form.proofs.Preordered.{some_nodes, one_count, two_count, one_nodes, two_nodes, nodes_length}
-use Rattle.proof_form.proofs.Claiming.{node_at as placed_node}
-use Rattle.proof_form.proofs.ClaimLists.{in_first, in_last, in_middle, in_third}
+use Rattle.proof_form.proofs.Preordered.{some_nodes, one_count, two_count, one_nodes, two_nodes, nodes_length, in_first, in_last, in_middle, in_third, node_at as placed_node}
 
 module _ (i : ℕ) (sign : Bool) where
   abbrev rule_at : Ctl → ℕ → Option Rule

@@ -8,7 +8,4 @@ pub mod Filling
 pub mod Copying
 pub mod Preorder
 pub mod RuleTable
-pub mod EntrySets
-pub mod Claimed
-pub mod ConstraintClaims
-pub mod Tested
+pub mod ShapeParts

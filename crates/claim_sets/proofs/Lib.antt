@@ -1,0 +1,13 @@
+pub mod FoundEntries
+pub mod Grounds
+pub mod ClaimPins
+pub mod Claiming
+pub mod Placed
+pub mod ClaimLists
+pub mod ClaimsMade
+pub mod ConstraintSides
+pub mod Given
+pub mod Regions
+pub mod Joined
+pub mod KeptProofs
+pub mod FreeClaimLists

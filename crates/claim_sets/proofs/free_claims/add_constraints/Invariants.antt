@@ -1,0 +1,7 @@
+use Rattle.std.proofs.Common.{map}
+use Rattle.kripke_model.specs.WellFormed.{ctl_of}
+use Rattle.claim_sets.proofs.FreeClaimLists.{IsListed}
+use Rattle.claim_sets.proofs.free_claims.add_constraints.Given as goal
+
+abbrev pub invariant-loop-k : goal.invariant-loop-k
+invariant-loop-k g l = IsListed l.part (map ctl_of l.formulas) (g.S.StateSets.seen l.fn.sets) (g.S.StateSets.seen l.sets) l.k l.lists.items

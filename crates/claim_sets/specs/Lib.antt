@@ -1,0 +1,4 @@
+pub mod EntrySets
+pub mod Claimed
+pub mod ConstraintClaims
+pub mod FreeClaims

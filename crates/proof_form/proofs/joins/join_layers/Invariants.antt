@@ -1,6 +1,0 @@
-use Rattle.proof_form.specs.Form.{layer_sets}
-use Rattle.proof_form.proofs.Joined.{IsJoining}
-use Rattle.proof_form.proofs.joins.join_layers.Given as goal
-
-abbrev pub invariant-loop-k : goal.invariant-loop-k
-invariant-loop-k g l = IsJoining (g.S.StateSets.seen l.fn.sets) (g.S.StateSets.seen l.sets) (layer_sets l.layers) l.k l.all

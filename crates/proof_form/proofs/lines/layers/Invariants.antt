@@ -1,9 +1,0 @@
-use Rattle.fair_rules.specs.SetLists.{nothing}
-use Rattle.proof_form.specs.Pinned.{layers_over}
-use Rattle.proof_form.proofs.Passing.{IsGoing}
-use Rattle.proof_form.proofs.LayerLines.{lines_by}
-use Rattle.proof_form.proofs.lines.layers.Given as goal
-
-abbrev pub invariant-loop-k : goal.invariant-loop-k
-invariant-loop-k g l = IsGoing 6 (g.S.StateSets.seen l.fn.sets) (g.S.StateSets.seen l.sets) (lines_by (g.S.StateSets.seen l.fn.sets) l.constraints l.fn.f l.fn.out) nothing
-    (layers_over (g.S.StateSets.seen l.fn.sets) l.layers) l.fn.line l.k l.line l.earlier

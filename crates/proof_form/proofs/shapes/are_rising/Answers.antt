@@ -1,0 +1,19 @@
+use Rattle.std.proofs.Common.{refl, arith}
+use Rattle.proof_form.specs.Shape.{ComesBefore}
+use Rattle.proof_form.proofs.Rising.{one_more, rises, stand_so}
+use Rattle.proof_form.proofs.ShapeOrder.{comes_through}
+use Rattle.proof_form.proofs.ShapeTests.{refuted}
+use Rattle.proof_form.proofs.shapes.are_rising.Goals as goal
+
+pub returns-then-not-comes_before : goal.returns-then-not-comes_before
+returns-then-not-comes_before g c =
+    refuted c.comes_before.result c.if-not-comes_before.true c.comes_before.ensures.1
+    (stand_so ComesBefore c.args.entries.now c.loop-i.i c.index-entries-i.result c.index-entries-i-in-loop-i.result (omega (arith, c.loop-i.auto.i)) (omega (arith, c.loop-i-test.true)) c.index-entries-i.is c.index-entries-i-in-loop-i.is)
+
+pub loop-i-preserved : goal.loop-i-preserved
+loop-i-preserved g c =
+    one_more ComesBefore c.args.entries.now c.loop-i.i c.index-entries-i.result c.index-entries-i-in-loop-i.result (omega (arith, c.loop-i.auto.i)) (omega (arith, c.loop-i-test.true)) c.index-entries-i.is c.index-entries-i-in-loop-i.is
+    (c.comes_before.ensures.0 c.if-not-comes_before.false) c.loop-i.invariant
+
+pub returns : goal.returns
+returns g c = (λ h. rises ComesBefore c.args.entries.now (λ x y z. comes_through x y z) c.loop-i.i (omega (arith, c.loop-i-test.false)) c.loop-i.invariant, λ h. refl)

@@ -1,0 +1,7 @@
+use Rattle.proof_lines.proofs.EntryLoops.{IsGone, IsFree, free_list}
+use Rattle.proof_lines.proofs.entry_lists.free_entry_tests.Given as goal
+
+abbrev pub invariant-loop-at : goal.invariant-loop-at
+invariant-loop-at g l =
+    let start = g.S.StateSets.seen l.fn.sets in
+    IsGone start (g.S.StateSets.seen l.sets) (IsFree start l.frame l.lists) (free_list start l.frame l.lists) l.entries l.fn.line l.at l.line

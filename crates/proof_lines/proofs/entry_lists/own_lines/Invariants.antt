@@ -1,0 +1,7 @@
+use Rattle.proof_lines.proofs.EntryLoops.{IsGone, IsOwn, own_list}
+use Rattle.proof_lines.proofs.entry_lists.own_lines.Given as goal
+
+abbrev pub invariant-loop-k : goal.invariant-loop-k
+invariant-loop-k g l =
+    let start = g.S.StateSets.seen l.fn.sets in
+    IsGone start (g.S.StateSets.seen l.sets) (IsOwn start l.frame l.claims) (own_list start l.frame l.claims) l.entries l.fn.line l.k l.line
