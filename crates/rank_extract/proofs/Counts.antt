@@ -60,19 +60,36 @@ last_part cs ds =
     let r : nodes_in ds ≤ sum_by node_count (map (λ (c : Condition). c.expr) cs ++ map (λ (c : Condition). c.expr) ds) = right_part (map (λ (c : Condition). c.expr) cs) (map (λ (c : Condition). c.expr) ds) in
     omega (arith, e, r)
 
+first_part : (cs ds : List Condition) → nodes_in cs ≤ nodes_in (cs ++ ds)
+first_part cs ds =
+    let e : nodes_in (cs ++ ds) ≡ sum_by node_count (map (λ (c : Condition). c.expr) cs ++ map (λ (c : Condition). c.expr) ds) = ap (sum_by node_count) (map-append (λ (c : Condition). c.expr) cs ds) in
+    omega (arith, e, sum_by-append node_count (map (λ (c : Condition). c.expr) cs) (map (λ (c : Condition). c.expr) ds))
+
 spec_total : (m : System) → nodes_in m.specs ≤ node_total m
 spec_total m =
     let a : nodes_in m.specs ≤ nodes_in (conditions m) = last_part (m.inits ++ m.invars ++ m.trans ++ m.constraints) m.specs in
     let b : nodes_in (conditions m) ≤ node_total m = right_part (map (λ (x : Assignment). x.right) m.assigns) (map (λ (x : Condition). x.expr) (conditions m)) in
     omega (arith, a, b)
 
-pub spec_nodes_few : (m : System) → IsFlat m → (k : ℕ) (d : Condition) → k < length m.specs → signs.node_count (formula_of (get_or m.specs k d).expr) ≤ 200000
-spec_nodes_few m flat k d lt =
-    let e : Term = (get_or m.specs k d).expr in
-    let same : get_or (map (λ (c : Condition). c.expr) m.specs) k e ≡ e = get_or-map (λ (c : Condition). c.expr) m.specs k d e lt in
-    let one : node_count (get_or (map (λ (c : Condition). c.expr) m.specs) k e) ≤ sum_by node_count (map (λ (c : Condition). c.expr) m.specs) =
-    get_or-le-sum_by node_count (map (λ (c : Condition). c.expr) m.specs) k e (omega (arith, lt, length-map m.specs (λ (c : Condition). c.expr))) in
-    let whole : nodes_in m.specs ≤ node_total m = spec_total m in
+constraint_total : (m : System) → nodes_in m.constraints ≤ node_total m
+constraint_total m =
+    let a : nodes_in m.constraints ≤ nodes_in (m.inits ++ m.invars ++ m.trans ++ m.constraints) = last_part (m.inits ++ m.invars ++ m.trans) m.constraints in
+    let b : nodes_in (m.inits ++ m.invars ++ m.trans ++ m.constraints) ≤ nodes_in (conditions m) = first_part (m.inits ++ m.invars ++ m.trans ++ m.constraints) m.specs in
+    let c : nodes_in (conditions m) ≤ node_total m = right_part (map (λ (x : Assignment). x.right) m.assigns) (map (λ (x : Condition). x.expr) (conditions m)) in
+    omega (arith, a, b, c)
+
+few_in : (m : System) → IsFlat m → (cs : List Condition) → nodes_in cs ≤ node_total m → (k : ℕ) (d : Condition) → k < length cs → signs.node_count (formula_of (get_or cs k d).expr) ≤ 200000
+few_in m flat cs whole k d lt =
+    let e : Term = (get_or cs k d).expr in
+    let same : get_or (map (λ (c : Condition). c.expr) cs) k e ≡ e = get_or-map (λ (c : Condition). c.expr) cs k d e lt in
+    let one : node_count (get_or (map (λ (c : Condition). c.expr) cs) k e) ≤ sum_by node_count (map (λ (c : Condition). c.expr) cs) =
+    get_or-le-sum_by node_count (map (λ (c : Condition). c.expr) cs) k e (omega (arith, lt, length-map cs (λ (c : Condition). c.expr))) in
     let less : node_total m ≤ 200000 = flat.limits.nodes in
-    let here : node_count (get_or (map (λ (c : Condition). c.expr) m.specs) k e) ≡ node_count e = ap node_count same in
+    let here : node_count (get_or (map (λ (c : Condition). c.expr) cs) k e) ≡ node_count e = ap node_count same in
     omega (arith, formula_nodes e, one, here, whole, less)
+
+pub spec_nodes_few : (m : System) → IsFlat m → (k : ℕ) (d : Condition) → k < length m.specs → signs.node_count (formula_of (get_or m.specs k d).expr) ≤ 200000
+spec_nodes_few m flat k d lt = few_in m flat m.specs (spec_total m) k d lt
+
+pub constraint_nodes_few : (m : System) → IsFlat m → (k : ℕ) (d : Condition) → k < length m.constraints → signs.node_count (formula_of (get_or m.constraints k d).expr) ≤ 200000
+constraint_nodes_few m flat k d lt = few_in m flat m.constraints (constraint_total m) k d lt

@@ -1,5 +1,5 @@
 -- Entries that are added for the signs of a node.
-use Rattle.std.proofs.Common.{◌≡◌, ℕ, zero, suc, ◌-◌, ◌<◌, ◌≤◌, Bool, true, false, List, [], ◌∷◌, ◌++◌, length, get_or, Ok, Err, refl, sym, ◌∙◌, ap, arith}
+use Rattle.std.proofs.Common.{◌≡◌, ℕ, zero, suc, ◌-◌, ◌<◌, ◌≤◌, Bool, true, false, List, [], ◌∷◌, ◌++◌, length, get_or, Result, Ok, Err, refl, sym, ◌∙◌, ap, subst, arith}
 use Rattle.std.proofs.lemmas.List.{get_or-map}
 use Rattle.path_laws.specs.StateSet.{StateSet}
 use Rattle.region_sets.specs.declared.pins.Pin.{Pin}
@@ -22,7 +22,7 @@ use Rattle.proof_form.specs.Form.{Rule, Entry}
 use Rattle.proof_form.specs.Seen.{seen_rule}
 use Rattle.rank_extract.specs.Given.{given, entry_at}
 use Rattle.rank_extract.specs.Made.{IsMade, AreAdded, rule_own, rule_seen, rule_size, entry_own, entry_seen, entry_size}
-use Rattle.rank_extract.specs.Signs.{sign_pin}
+use Rattle.rank_extract.specs.Signs.{sign_pin, sign_entry}
 use Rattle.rank_extract.proofs.Adding.{one_added, one_refused, one_released}
 use Rattle.rank_extract.proofs.Holders.{entry_kind}
 
@@ -66,3 +66,33 @@ module _ {a b : Sets} (n : ℕ) (plus : Bool) (v : Rule StateSet) where
       → AreAdded {T = T} entry_own entry_seen entry_size a c (entry_by n plus v ∷ []) old new (Err Memory)
   entry_released {T} {c} rule old new made back fulls same =
       one_released entry_kind {T = T} {v = entry_by n plus v} (record { node = n; plus = plus; rule = seen_rule rule }) old new made.call back fulls same
+
+-- ---- by what is written for a sign of a node
+
+abbrev sign_rule : Sets → Pin → NodeRun → Bool → Bool → Rule StateSet
+sign_rule a fair node plus some_there = given (region a fair) some_there (region a (sign_pin plus node)) (ranks_view a node.ranks)
+
+module _ {a b : Sets} (fair : Pin) (node : NodeRun) (n : ℕ) (some plus there : Bool) (there_is : there ≡ same_sign some plus) where
+  by_sign : (r : Result (Given Pin) SetRefusal) → IsMade rule_own rule_seen rule_size a b (sign_rule a fair node plus there) r → IsMade rule_own rule_seen rule_size a b (sign_rule a fair node plus (same_sign some plus)) r
+  by_sign r made = subst (λ (some_there : Bool). IsMade rule_own rule_seen rule_size a b (sign_rule a fair node plus some_there) r) there_is made
+
+  pub sign_added : {T : Type 0} (rule : Given Pin) (old new : List (Entry Pin)) (y : T)
+      → IsMade rule_own rule_seen rule_size a b (given (region a fair) there (region a (sign_pin plus node)) (ranks_view a node.ranks)) (Ok rule)
+      → new ≡ old ++ (record { node = n; plus = plus; rule = seen_rule rule } ∷ []) → AreAdded entry_own entry_seen entry_size a b (sign_entry a fair node n some plus ∷ []) old new (Ok y)
+  sign_added rule old new y made pushed = entry_added n plus (sign_rule a fair node plus (same_sign some plus)) rule old new y (by_sign (Ok rule) made) pushed
+
+  pub sign_refused : {T : Type 0} {e : SetRefusal} (old : List (Entry Pin))
+      → IsMade {X = Given Pin} rule_own rule_seen rule_size a b (given (region a fair) there (region a (sign_pin plus node)) (ranks_view a node.ranks)) (Err e)
+      → AreAdded {T = T} entry_own entry_seen entry_size a b (sign_entry a fair node n some plus ∷ []) old old (Err e)
+  sign_refused {T} {e} old made = entry_refused n plus (sign_rule a fair node plus (same_sign some plus)) {T = T} old (by_sign (Err e) made)
+
+  pub sign_released : {T : Type 0} {c : Sets} (rule : Given Pin) (old new : List (Entry Pin))
+      → IsMade rule_own rule_seen rule_size a b (given (region a fair) there (region a (sign_pin plus node)) (ranks_view a node.ranks)) (Ok rule)
+      → Adds c b (rule_own rule) → c.fulls ≡ b.fulls → new ≡ old → AreAdded {T = T} entry_own entry_seen entry_size a c (sign_entry a fair node n some plus ∷ []) old new (Err Memory)
+  sign_released {T} {c} rule old new made back fulls same = entry_released n plus (sign_rule a fair node plus (same_sign some plus)) {T = T} rule old new (by_sign (Ok rule) made) back fulls same
+
+-- the entry of a node's sign where it is one of a list
+pub sign_entry_is : (s : Sets) (fair : Pin) (nodes : List NodeRun) (n : ℕ) (some plus : Bool) (node : NodeRun) → 1 ≤ n → n ≤ length nodes → node ≡ get_or nodes (n - 1) node
+    → sign_entry s fair node n some plus ≡ entry_at (region s fair) (node_of s nodes) n some plus
+sign_entry_is s fair nodes n some plus node first there is =
+    ap (λ (x : NodeRun). sign_entry s fair x n some plus) is ∙ entry_is s (region s fair) nodes n some plus node first there

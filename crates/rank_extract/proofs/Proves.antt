@@ -52,10 +52,10 @@ own_key : (n : ℕ) (sign : Bool) → (eqb n n && same_sign sign sign) ≡ true
 own_key n true = and_from (eqb n n) true (eq-eqb n n refl) refl
 own_key n false = and_from (eqb n n) true (eq-eqb n n refl) refl
 
-abbrev IsFound : List (Entry StateSet) → Entry StateSet → Type 0
+abbrev pub IsFound : List (Entry StateSet) → Entry StateSet → Type 0
 IsFound es e = look_up es e.node e.plus ≡ entry_of e.rule
 
-all_found : (es : List (Entry StateSet)) → AreRising es → Each (IsFound es) es
+pub all_found : (es : List (Entry StateSet)) → AreRising es → Each (IsFound es) es
 all_found [] h = tt
 all_found (x ∷ xs) h = (
   cond-true (eqb x.node x.node && same_sign x.plus x.plus) (entry_of x.rule) (look_up xs x.node x.plus) (own_key x.node x.plus),
@@ -64,7 +64,7 @@ all_found (x ∷ xs) h = (
       xs h.0 (all_found xs h.1),
 )
 
-own_list : (m : System) (vs avs : List StateSet) (p : claims.Proof) (es : List (Entry StateSet)) → Each (λ e. p.entries e.node e.plus ≡ entry_of e.rule) es → AreOwn m vs avs p (map listed_of es)
+pub own_list : (m : System) (vs avs : List StateSet) (p : claims.Proof) (es : List (Entry StateSet)) → Each (λ e. p.entries e.node e.plus ≡ entry_of e.rule) es → AreOwn m vs avs p (map listed_of es)
 own_list m vs avs p [] h = tt
 own_list m vs avs p (e ∷ es) h = (h.0, own_list m vs avs p es h.1)
 

@@ -1,5 +1,5 @@
 -- What is written of a run proves what the run shows.
-use Rattle.std.specs.Prelude.{ℕ, ◌<◌, true, false, length, slice_index_or, Option, None}
+use Rattle.std.specs.Prelude.{ℕ, ◌<◌, true, false, List, length, map, slice_index_or, Option, None, Some}
 use Rattle.kripke_model.specs.Ctl.{Ctl, formula_of}
 use Rattle.kripke_model.specs.Leaves.{HasLeafConstraints}
 use Rattle.kripke_model.specs.Step.{IsState}
@@ -10,9 +10,13 @@ use Rattle.region_sets.specs.Sets.{Sets}
 use Rattle.fair_rules.specs.Claims.{claimed}
 use Rattle.fair_rules.specs.Checks.{AllHold}
 use Rattle.fair_fixpoint.specs.declared.runs.Run.{Run}
-use Rattle.proof_form.specs.Form.{FreePart}
+use Rattle.fair_fixpoint.specs.ConstraintSets.{IsWhole}
+use Rattle.fair_fixpoint.specs.Pruned.{IsPrunedTo}
+use Rattle.fair_fixpoint.specs.Runs.{LayerView}
+use Rattle.proof_form.specs.Form.{Entry, FreePart}
 use Rattle.proof_form.specs.Meaning.{free_lines, free_proof, IsProofOf}
 use Rattle.proof_form.specs.Shape.{FitsFreely}
+use Rattle.rank_extract.specs.FreeMade.{AreWrittenFor, written_free}
 use Rattle.rank_extract.specs.Extracts.{IsLiveRun, Shows, run_proof}
 
 -- the free part shows what it has to, and claims each constraint true wherever it is true over all paths, and false
@@ -36,3 +40,11 @@ RunsProve m = (f : Ctl) (now : Sets) (run : Run) → IsLiveRun m f now run → (
 abbrev pub LeafRunsProve : System → Type 0
 LeafRunsProve m = HasLeafConstraints m → (f : Ctl) (now : Sets) (run : Run) → IsLiveRun m f now run → (st : Option State)
     → Shows m now run st → IsProofOf m f (run_proof f now run st None)
+
+-- what is written for the constraints' formulas, where all states are looked at and one constraint is visited, which each
+-- state meets, is such a free part
+abbrev pub FreePartsProve : System → Type 0
+FreePartsProve m = (HasLeafConstraints m → ⊥) → (visited : List StateSet) → IsWhole m visited → (Z fair : StateSet) (layers : List LayerView) (reaches : List (List StateSet))
+    → ((s : State) → IsState m s → s ∈ Z) → IsPrunedTo m visited Z layers fair reaches
+    → (parts : List (List (Entry StateSet))) → AreWrittenFor m visited Z fair (map (λ c. formula_of c.expr) m.constraints) parts
+    → IsWholeFree m (Some (written_free fair layers reaches parts))

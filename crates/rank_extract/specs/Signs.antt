@@ -2,6 +2,9 @@
 use Rattle.std.specs.Prelude.{ℕ, Bool, true, false, not, ◌||◌, List, []}
 use Rattle.path_laws.specs.StateSet.{StateSet}
 use Rattle.region_sets.specs.declared.pins.Pin.{Pin}
+use Rattle.region_sets.specs.Sets.{Sets, region}
+use Rattle.fair_rules.specs.Block.{same_sign}
+use Rattle.fair_fixpoint.specs.Found.{ranks_view}
 use Rattle.fair_fixpoint.specs.declared.runs.NodeRun.{NodeRun}
 use Rattle.fair_fixpoint.specs.declared.formulas.Connective.{Connective}
 use Rattle.fair_fixpoint.specs.declared.formulas.Kind.{Kind}
@@ -9,7 +12,7 @@ use Rattle.fair_fixpoint.specs.declared.formulas.Kind.TheVariants.{Connected, Qu
 use Rattle.fair_fixpoint.specs.Nodes.{NodeView}
 use Rattle.fair_fixpoint.specs.Formulas.{is_existential}
 use Rattle.proof_form.specs.Form.{Entry}
-use Rattle.rank_extract.specs.Given.{own_entries}
+use Rattle.rank_extract.specs.Given.{given, own_entries}
 
 -- a connective has no entries of its own
 abbrev pub kind_entries : StateSet → (ℕ → NodeView) → ℕ → Kind → Bool → Bool → List (Entry StateSet)
@@ -60,3 +63,11 @@ last_minus (Between all) plus minus = minus
 abbrev pub sign_pin : Bool → NodeRun → Pin
 sign_pin true node = node.plus
 sign_pin false node = node.minus
+
+-- the entry of a sign of the node, which has number n
+abbrev pub sign_entry : Sets → Pin → NodeRun → ℕ → Bool → Bool → Entry StateSet
+sign_entry now fair node n some plus = record {
+  node = n;
+  plus = plus;
+  rule = given (region now fair) (same_sign some plus) (region now (sign_pin plus node)) (ranks_view now node.ranks);
+}

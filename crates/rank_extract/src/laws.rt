@@ -1,6 +1,6 @@
 //! Laws of the definitions. The functions compute nothing.
 
-ghost use Rattle.rank_extract.specs.Laws.{LeafRunsProve, RunsProve};
+ghost use Rattle.rank_extract.specs.Laws.{FreePartsProve, LeafRunsProve, RunsProve};
 
 use kripke_model::models::Ruled;
 
@@ -8,4 +8,5 @@ use kripke_model::models::Ruled;
 pub fn written_law(model: &Ruled)
     ensures runs { RunsProve model.now }
     ensures leaves { LeafRunsProve model.now }
+    ensures free { FreePartsProve model.now }
 {}
