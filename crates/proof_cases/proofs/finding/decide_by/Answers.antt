@@ -1,0 +1,36 @@
+use Rattle.std.proofs.Common.{refl, sym, subst, arith}
+use Rattle.kripke_model.specs.WellFormed.{ctl_of}
+use Rattle.fair_fixpoint.specs.Runs.{run_slots}
+use Rattle.fair_fixpoint.proofs.Walked.{some_nodes}
+use Rattle.spec_verdicts.proofs.LeastFailing.{minus_of_run}
+use Rattle.proof_form.specs.Shape.{spec_formula}
+use Rattle.rank_extract.specs.Extracts.{IsLiveRun, Shows}
+use Rattle.proof_cases.proofs.Lessened.{live_same}
+use Rattle.proof_cases.proofs.Shown.{live_run, on_some, only_spec, shown}
+use Rattle.proof_cases.proofs.finding.decide_by.Goals as goal
+
+pub minus-requires-clause-there : goal.minus-requires-clause-there
+minus-requires-clause-there g c = omega (arith, c.requires.run.2.over.nodes.count, some_nodes (ctl_of c.args.formula.now))
+
+pub least_initial-requires : goal.least_initial-requires
+least_initial-requires g c =
+    c.requires.live c.minus.result.now.slot
+    (minus_of_run c.args.run.now c.minus.result.now c.minus.ensures (omega (arith, c.requires.run.2.over.nodes.count, some_nodes (ctl_of c.args.formula.now))))
+
+pub test_extracted-requires-clause-run : goal.test_extracted-requires-clause-run
+test_extracted-requires-clause-run g c =
+    let m = c.args.model.now in
+    let a = g.S.StateSets.seen c.args.sets.now in
+    let b = g.S.StateSets.seen c.least_initial.new.sets in
+    on_some (λ f. IsLiveRun m f b c.args.run.now) (spec_formula m 1) (ctl_of c.args.formula.now) (only_spec m (ctl_of c.args.formula.now) c.requires.spec)
+    (live_run m (ctl_of c.args.formula.now) a b c.args.run.now (λ k. c.in_ok-failing.ensures.call.pins.kept k refl) c.requires.run
+    (live_same a b (run_slots c.args.run.now) (λ k. c.in_ok-failing.ensures.call.pins.kept k refl) c.requires.live))
+
+pub test_extracted-requires-clause-shown : goal.test_extracted-requires-clause-shown
+test_extracted-requires-clause-shown g c =
+    let m = c.args.model.now in
+    let a = g.S.StateSets.seen c.args.sets.now in
+    let b = g.S.StateSets.seen c.least_initial.new.sets in
+    subst (λ o. Shows m b c.args.run.now o) (sym c.in_ok-at.ensures)
+    (shown m (ctl_of c.args.formula.now) a b c.args.run.now c.minus.result.now c.in_ok-failing.failing (sym c.requires.over) (λ k. c.in_ok-failing.ensures.call.pins.kept k refl) c.minus.ensures
+    (omega (arith, c.requires.run.2.over.nodes.count, some_nodes (ctl_of c.args.formula.now))) c.requires.decided c.in_ok-failing.ensures.least)
