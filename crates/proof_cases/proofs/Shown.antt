@@ -1,5 +1,5 @@
 -- What the least initial state of a formula's negative set shows.
-use Rattle.std.proofs.Common.{◌≡◌, inl, inr, ℕ, ◌≤◌, true, List, [], ◌∷◌, length, map, get_or, Option, Some, None, IsSomeAnd, refl, sym, subst, ap, arith}
+use Rattle.std.proofs.Common.{◌≡◌, inl, inr, ℕ, ◌≤◌, List, [], ◌∷◌, length, map, get_or, Option, Some, None, IsSomeAnd, refl, sym, subst, ap, arith}
 use Rattle.std.specs.Prelude.{option_map, slice_get}
 use Rattle.std.specs.List.{slice_index_or}
 use Rattle.kripke_model.specs.Ctl.{Ctl, formula_of}
@@ -7,7 +7,6 @@ use Rattle.kripke_model.specs.Order.{IsLeast}
 use Rattle.kripke_model.specs.Step.{IsState, Initial}
 use Rattle.kripke_model.specs.System.{System, State, Condition}
 use Rattle.kripke_model.specs.Truth.{Sat}
-use Rattle.path_laws.specs.StateSet.{◌∈◌}
 use Rattle.fair_rules.specs.SetLists.{everything}
 use Rattle.fair_rules.specs.Split.{IsSplit}
 use Rattle.region_sets.specs.declared.pins.Pin.{Pin}

@@ -1,5 +1,5 @@
 -- The pins of entries, one of which is changed.
-use Rattle.std.proofs.Common.{◌≡◌, ℕ, zero, suc, ◌+◌, ◌<◌, List, [], ◌∷◌, ◌++◌, get_or, set, length, map, sym, ◌∙◌, subst, ap, arith, append_assoc, append-nil}
+use Rattle.std.proofs.Common.{◌≡◌, ℕ, zero, suc, ◌<◌, List, [], ◌∷◌, ◌++◌, get_or, set, length, refl, sym, ◌∙◌, subst, ap, arith, append_assoc, append-nil}
 use Rattle.std.proofs.lemmas.List.{map-append}
 use Rattle.region_sets.specs.declared.pins.Pin.{Pin}
 use Rattle.region_sets.specs.Sets.{Sets, Adds}
@@ -67,3 +67,22 @@ entries_held {a} {b} p l f e h gone =
     let left : HasPins b (slots p ++ ([] ++ (slots f ++ slots e))) = (released (slots l) gone).held (slots p) (slots f ++ slots e) (subst (HasPins a) (four p l f e) h) in
     let at : (slots p ++ slots f) ++ (slots e ++ []) ≡ slots p ++ ([] ++ (slots f ++ slots e)) = ap (λ y. (slots p ++ slots f) ++ y) (append-nil (slots e)) ∙ append_assoc (slots p) (slots f) (slots e) in
     part b (slots p ++ slots f) (slots e) [] (subst (HasPins b) (sym at) left)
+
+-- a free part's pins are let go, and the pins of the other parts are as before
+pub free_less : {a b : Sets} (p q l m f g e h : List Pin) → m ≡ l → g ≡ f → h ≡ e → Lessens a b (slots p) (slots q) → Lessens a b (slots (p ++ (l ++ (f ++ e)))) (slots (q ++ (m ++ (g ++ h))))
+free_less {a} {b} p q l m f g e h layers fair entries less =
+    let rest : List Pin = l ++ (f ++ e) in
+    let one : Lessens a b (slots p ++ slots rest) (slots q ++ slots rest) = beside (slots p) (slots q) [] (slots rest) less in
+    let same : q ++ rest ≡ q ++ (m ++ (g ++ h)) = rw (layers, fair, entries) refl in
+    subst (λ (x : List Pin). Lessens a b (slots (p ++ rest)) (slots x)) same
+    (subst (λ old. Lessens a b old (slots (q ++ rest))) (sym (slots-append p rest))
+    (subst (λ new. Lessens a b (slots p ++ slots rest) new) (sym (slots-append q rest)) one))
+
+pub free_held : (a : Sets) (p rest : List Pin) → HasPins a (slots (p ++ rest)) → HasPins a (slots p)
+free_held a p rest h = part a [] (slots p) (slots rest) (subst (HasPins a) (slots-append p rest) h)
+
+-- where an entry's sets stay, those of its list do
+pub same_at : (es : List (Entry Pin)) (k : ℕ) (e f : Entry Pin) → k < length es → e ≡ get_or es k e → rule_sets f.rule ≡ rule_sets e.rule → entries_sets (set es k f) ≡ entries_sets es
+same_at [] k e f lt is same = absurd (omega (arith, lt))
+same_at (x ∷ es) zero e f lt is same = ap (λ ys. ys ++ entries_sets es) (same ∙ ap (λ (y : Entry Pin). rule_sets y.rule) is)
+same_at (x ∷ es) (suc k) e f lt is same = ap (λ ys. rule_sets x.rule ++ ys) (same_at es k e f (omega (arith, lt)) is same)

@@ -14,6 +14,7 @@ ghost use Rattle.rank_extract.specs.Extracts.{IsLiveRun, Shows};
 ghost use Rattle.proof_cases.specs.LetGo.{HasPins, Keeps, Lessens};
 
 use crate::bare::without_layers;
+use crate::wrong::{Change, changed};
 use case_models::initials::least_initial;
 use fair_fixpoint::runs::Run;
 use fair_fixpoint::sat::sat_sets;
@@ -61,18 +62,20 @@ fn is_proved_bare<S: StateSets>(
     proved
 }
 
-/// Whether the proof of the model's first specification is one, with its layers and without. Each pin of it is released.
+/// Whether the proof is one of the specification, with its layers, and one of the first, without. Each pin of it is
+/// released.
 fn test_both<S: StateSets>(
     alloc: Global,
     sets: &mut S,
     model: &Ruled,
+    spec: u32,
     proof: Proof<Pin>,
 ) -> Result<Tested, SetRefusal>
     requires over { (S.seen sets.old).over ≡ model.now }
     requires pins { HasPins (S.seen sets.old) (proof_slots proof) }
     ensures { Lessens (S.seen sets.old) (S.seen sets.new) (proof_slots proof) [] }
 {
-    let proved = obligations(alloc, sets, model, 1, &proof);
+    let proved = obligations(alloc, sets, model, spec, &proof);
     let bare = is_proved_bare(alloc, sets, model, proof);
     Ok(Tested {
         proved: proved?,
@@ -80,13 +83,30 @@ fn test_both<S: StateSets>(
     })
 }
 
-/// Makes a proof of the model's first specification, or that it is false at the state, and tests it.
+/// Makes a change to the proof, and tests it. Each pin of it is released.
+fn test_changed<S: StateSets>(
+    alloc: Global,
+    sets: &mut S,
+    model: &Ruled,
+    proof: Proof<Pin>,
+    change: Change,
+) -> Result<Tested, SetRefusal>
+    requires over { (S.seen sets.old).over ≡ model.now }
+    requires pins { HasPins (S.seen sets.old) (proof_slots proof) }
+    ensures { Lessens (S.seen sets.old) (S.seen sets.new) (proof_slots proof) [] }
+{
+    let proof = changed(alloc, sets, proof, change);
+    test_both(alloc, sets, model, change.spec(), proof)
+}
+
+/// Makes a proof of the model's first specification, or that it is false at the state, and tests it with the change.
 fn test_extracted<S: StateSets>(
     alloc: Global,
     sets: &mut S,
     model: &Ruled,
     run: &Run,
     at: Option<State>,
+    change: Change,
 ) -> Result<Tested, SetRefusal>
     requires over { (S.seen sets.old).over ≡ model.now }
     requires run { IsSomeAnd (spec_formula model.now 1) (λ f. IsLiveRun model.now f (S.seen sets.old) run.now) }
@@ -94,7 +114,7 @@ fn test_extracted<S: StateSets>(
     ensures { Keeps (S.seen sets.old) (S.seen sets.new) }
 {
     let proof = extract(alloc, sets, model, run, 1, at)?;
-    test_both(alloc, sets, model, proof)
+    test_changed(alloc, sets, model, proof, change)
 }
 
 /// The same state.
@@ -110,13 +130,14 @@ fn copy_of(alloc: Global, at: &Option<State>) -> Result<Option<State>, AllocErro
     }
 }
 
-/// What the sets of the model's first specification say, and whether its proof by them is one.
+/// What the sets of the model's first specification say, and whether its proof by them, with the change, is one.
 fn decide_by<S: StateSets>(
     alloc: Global,
     sets: &mut S,
     model: &Ruled,
     formula: &Formula,
     run: &Run,
+    change: Change,
 ) -> Result<Found, SetRefusal>
     requires over { (S.seen sets.old).over ≡ model.now }
     requires spec { ctl_of formula.now ∷ [] ≡ map (λ c. formula_of c.expr) model.now.specs }
@@ -127,7 +148,7 @@ fn decide_by<S: StateSets>(
 {
     let failing = least_initial(sets, run.minus(1))?;
     let at = copy_of(alloc, &failing)?;
-    let tested = test_extracted(alloc, sets, model, run, at)?;
+    let tested = test_extracted(alloc, sets, model, run, at, change)?;
     let Tested { proved, bare } = tested;
     Ok(Found {
         failing,
@@ -136,19 +157,21 @@ fn decide_by<S: StateSets>(
     })
 }
 
-/// The least initial state where the model's first specification is false, and whether the proof of that is one.
+/// The least initial state where the model's first specification is false, and whether the proof of that,
+/// with the change, is one.
 pub fn decide<S: StateSets>(
     alloc: Global,
     sets: &mut S,
     model: &Ruled,
     formula: &Formula,
+    change: Change,
 ) -> Result<Found, SetRefusal>
     requires over { (S.seen sets.old).over ≡ model.now }
     requires spec { ctl_of formula.now ∷ [] ≡ map (λ c. formula_of c.expr) model.now.specs }
     requires leaves { HasModelLeaves model.now (ctl_of formula.now) }
 {
     let run = sat_sets(alloc, sets, model, formula)?;
-    let found = decide_by(alloc, sets, model, formula, &run);
+    let found = decide_by(alloc, sets, model, formula, &run, change);
     run.release(sets);
     found
 }

@@ -8,6 +8,7 @@ mod answers;
 mod bare;
 mod finding;
 mod telling;
+mod wrong;
 
 use crate::answers::Proofs;
 use case_text::asking::Asking;

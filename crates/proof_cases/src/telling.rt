@@ -25,3 +25,8 @@ pub fn tell_found(model: &Ruled, found: &Found, answer: &mut String) -> Result<(
         (true, true) => ", proved",
     })
 }
+
+/// Adds whether the proof is one.
+pub fn tell_tested(found: &Found, answer: &mut String) -> Result<(), AllocError> {
+    answer.push_str(if found.proved { "proved" } else { "not proved" })
+}

@@ -1,4 +1,4 @@
-use Rattle.proof_cases.proofs.Lessened.{alone, then_less}
+use Rattle.proof_cases.proofs.Lessened.{alone}
 use Rattle.proof_cases.proofs.bare.strip_entries.Goals as goal
 
 pub strip_at-requires-clause-pins : goal.strip_at-requires-clause-pins
