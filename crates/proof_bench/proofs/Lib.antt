@@ -1,0 +1,3 @@
+mod Shown
+mod Pins
+mod Specs

@@ -1,0 +1,7 @@
+use Rattle.fair_fixpoint.specs.Runs.{run_slots}
+use Rattle.proof_bench.proofs.Pins.{still_live}
+use Rattle.proof_bench.proofs.measuring.measure.Goals as goal
+
+pub release-requires-clause-live : goal.release-requires-clause-live
+release-requires-clause-live g c =
+    still_live (g.S.StateSets.seen c.sat_sets.new.sets) (g.S.StateSets.seen c.make_by-made.new.sets) (run_slots c.in_ok-run.run') c.make_by-made.ensures c.in_ok-run.ensures.call.pins.there

@@ -1,0 +1,187 @@
+//! Makes the proofs of the specifications of models, and says what each has beside the run that it comes from, and how
+//! long it takes to make it.
+//!
+//! The words are the names of files of models. Without words it makes the proofs for a ring of three inverters, and says
+//! no time.
+#![tactic(auto)]
+
+ghost use Rattle.std.specs.Prelude.{◌≡◌, ◌+◌, Some};
+ghost use Rattle.kripke_model.specs.WellFormed.{ctl_of};
+ghost use Rattle.fair_fixpoint.specs.Walks.{HasModelLeaves};
+ghost use Rattle.proof_form.specs.Shape.{spec_formula};
+
+mod counting;
+mod measuring;
+mod spec_at;
+mod times;
+
+use crate::counting::Counts;
+use crate::measuring::{Measured, measure};
+use crate::spec_at::spec_at;
+use crate::times::Times;
+use anyhow::{Context, Result, bail};
+use case_models::kinds::diagrams;
+use case_models::reading::model_of;
+use case_models::telling::{tell_full, tell_refusal};
+use kripke_model::expressions::Formula;
+use kripke_model::models::Ruled;
+use region_sets::SetRefusal;
+use smv_rings::gen_text;
+use std::{env, fs};
+
+/// What is measured of all specifications.
+#[derive(Clone, Copy)]
+struct Sum {
+    specs: usize,
+    counts: Counts,
+    pins: usize,
+    times: Times,
+}
+
+impl Sum {
+    fn zero() -> Sum {
+        Sum {
+            specs: 0,
+            counts: Counts::zero(),
+            pins: 0,
+            times: Times { run: 0, proof: 0 },
+        }
+    }
+
+    fn plus(self, measured: Measured) -> Sum {
+        Sum {
+            specs: self.specs.saturating_add(1),
+            counts: self.counts.plus(measured.counts),
+            pins: self.pins.saturating_add(measured.pins),
+            times: self.times.plus(measured.times),
+        }
+    }
+}
+
+/// Says what proofs have beside runs of so many pins, and, where it is told, their times.
+fn tell(
+    rt: &HostRuntime,
+    what: &str,
+    counts: Counts,
+    pins: usize,
+    times: Option<Times>,
+) -> Result<()> {
+    let Counts {
+        entries,
+        layers,
+        sets,
+    } = counts;
+    print!(rt;
+        "{what}: entries {entries}, layers {layers}, sets {sets} of {pins} pins of the run"
+    )?;
+    if let Some(times) = times {
+        let ratio = times.ratio(rt.alloc())?;
+        print!(rt; "; extract takes {ratio} of sat_sets")?;
+    }
+    println!(rt; "")?;
+    Ok(())
+}
+
+/// Measures a specification, counted from 1, over diagrams of its own. Where there is no room, says so.
+fn measure_over(
+    rt: &HostRuntime,
+    model: &Ruled,
+    formula: &Formula,
+    spec: u32,
+    said: &mut String,
+) -> Result<Option<Measured>>
+    requires spec { spec_formula model.now spec ≡ Some (ctl_of formula.now) }
+    requires leaves { HasModelLeaves model.now (ctl_of formula.now) }
+{
+    let mut sets = match diagrams(rt.alloc(), model) {
+        Ok(sets) => sets,
+        Err(refusal) => {
+            tell_refusal(&refusal, said)?;
+            return Ok(None);
+        }
+    };
+    match measure(rt, &mut sets, model, formula, spec) {
+        Ok(measured) => Ok(Some(measured)),
+        Err(SetRefusal::Full { held }) => {
+            tell_full(&held, said)?;
+            Ok(None)
+        }
+        Err(SetRefusal::Memory) => bail!("no memory"),
+    }
+}
+
+/// Measures a specification, counted from 1, and says so. Gives the sum with it.
+fn run_spec(
+    rt: &HostRuntime,
+    name: &str,
+    model: &Ruled,
+    formula: &Formula,
+    spec: u32,
+    timed: bool,
+    sum: Sum,
+) -> Result<Sum>
+    requires spec { spec_formula model.now spec ≡ Some (ctl_of formula.now) }
+    requires leaves { HasModelLeaves model.now (ctl_of formula.now) }
+{
+    let mut said = String::new(rt.alloc());
+    let Some(measured) = measure_over(rt, model, formula, spec, &mut said)? else {
+        println!(rt; "{name} spec {spec}: {said}")?;
+        return Ok(sum);
+    };
+    let verdict = if measured.holds { "true" } else { "false" };
+    let what = format!(in rt.alloc(); "{name} spec {spec} {verdict}")?;
+    let times = if timed { Some(measured.times) } else { None };
+    tell(rt, what.as_str(), measured.counts, measured.pins, times)?;
+    Ok(sum.plus(measured))
+}
+
+/// Measures each specification of the model. Gives the sum with them.
+fn run_model(rt: &HostRuntime, name: &str, model: &Ruled, timed: bool, sum: Sum) -> Result<Sum> {
+    let mut all = sum;
+    let Ok(count) = u32::try_from(model.formulas().len()) else {
+        bail!("too many specifications");
+    };
+    for before in 0..count {
+        let Some(formula) = spec_at(model, before) else {
+            return Ok(all);
+        };
+        all = run_spec(rt, name, model, formula, before + 1, timed, all)?;
+    }
+    Ok(all)
+}
+
+/// Measures each specification of a file's model. Gives the sum with them.
+fn run_file(rt: &HostRuntime, name: &str, sum: Sum) -> Result<Sum> {
+    let text = fs::read_to_string(rt, name).context(format_args!("reading {name}"))?;
+    match model_of(rt.alloc(), text.as_str().as_bytes()) {
+        Ok(model) => run_model(rt, name, &model, true, sum),
+        Err(refusal) => {
+            println!(rt; "{name}: {refusal}")?;
+            Ok(sum)
+        }
+    }
+}
+
+/// Measures the specifications of a ring of three inverters.
+fn run_ring(rt: &HostRuntime) -> Result<()> {
+    let text = gen_text(rt.alloc(), 3)?;
+    let Ok(model) = model_of(rt.alloc(), &text) else {
+        bail!("no model");
+    };
+    let _sum = run_model(rt, "ring of 3", &model, false, Sum::zero())?;
+    Ok(())
+}
+
+fn main(rt: HostRuntime) -> Result<()> {
+    let mut sum = Sum::zero();
+    let mut files: usize = 0;
+    for name in env::args(&rt)?.skip(1) {
+        sum = run_file(&rt, name.as_str(), sum)?;
+        files = files.saturating_add(1);
+    }
+    if files == 0 {
+        return run_ring(&rt);
+    }
+    let what = format!(in rt.alloc(); "{count} specifications", count = sum.specs)?;
+    tell(&rt, what.as_str(), sum.counts, sum.pins, Some(sum.times))
+}
