@@ -6,4 +6,4 @@ pub mod OrderMarks
 pub mod PlaceLemmas
 pub mod ReadLemmas
 pub mod RowLemmas
-mod Declared
+pub mod Declared

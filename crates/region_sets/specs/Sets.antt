@@ -10,12 +10,14 @@ use Rattle.region_sets.specs.declared.pins.Pin.{Pin}
 use Rattle.region_sets.specs.declared.pins.SetRefusal.{SetRefusal}
 use Rattle.region_sets.specs.declared.pins.SetRefusal.TheVariants.{Full, Memory}
 
+-- the size of the store, and the order in which the variables have their bits (none where there are no bits)
 pub record Gauge : Type 0 where
   pub levels : ℕ
   pub limit : ℕ
+  pub order : List ℕ
 
 -- the model, what each slot's pin stands for while it is live, how many are live, how many always find room,
--- how often there was none, and the size of the store
+-- how often there was none, and what no call changes of the store
 pub record Sets : Type 0 where
   pub over : System
   pub pins : ℕ → Option StateSet
