@@ -26,6 +26,7 @@ pub enum Constraints<'a> {
 fn all_or_none<S: StateSets>(sets: &mut S, all: bool) -> Result<Pin, SetRefusal>
     ensures call { IsCall 1 (S.seen sets.old) (S.seen sets.new) (pin_slots result) result }
     ensures set { IfOk result (λ pin. SameOn (S.seen sets.old).over (region (S.seen sets.new) pin) (whole all)) }
+    ensures products { S.products sets.new ≡ S.products sets.old }
 {
     if all { sets.full() } else { sets.empty() }
 }
@@ -37,6 +38,7 @@ fn unmet<S: StateSets>(sets: &mut S, k: u32) -> Result<Pin, SetRefusal>
     requires leaf { IsLeafConstraint (S.seen sets.old).over k }
     ensures call { IsCall 3 (S.seen sets.old) (S.seen sets.new) (pin_slots result) result }
     ensures set { IfOk result (λ pin. SameOn (S.seen sets.old).over (region (S.seen sets.new) pin) (leaf_side (S.seen sets.old).over false (k - 1))) }
+    ensures products { S.products sets.new ≡ S.products sets.old }
 {
     let full = sets.full()?;
     match sets.constraint(k) {
@@ -60,6 +62,7 @@ fn leaf_pin<S: StateSets>(sets: &mut S, k: u32, sign: bool) -> Result<Pin, SetRe
     requires leaf { IsLeafConstraint (S.seen sets.old).over k }
     ensures call { IsCall 3 (S.seen sets.old) (S.seen sets.new) (pin_slots result) result }
     ensures set { IfOk result (λ pin. SameOn (S.seen sets.old).over (region (S.seen sets.new) pin) (leaf_side (S.seen sets.old).over sign (k - 1))) }
+    ensures products { S.products sets.new ≡ S.products sets.old }
 {
     if sign {
         sets.constraint(k)
@@ -99,6 +102,7 @@ fn model_pin<S: StateSets>(
     ensures call { IsCall 3 (S.seen sets.old) (S.seen sets.new) (pin_slots result) result }
     ensures set { IfOk result (λ pin. SameOn (S.seen sets.old).over (region (S.seen sets.new) pin)
         (set_at (model_sides (S.seen sets.old).over (S.seen sets.old) lists.now sign) (k - 1))) }
+    ensures products { S.products sets.new ≡ S.products sets.old }
 {
     match claim_of(lists, k) {
         Some(claim) => sets.copy(claim.side(sign)),
@@ -119,6 +123,7 @@ pub fn constraint_pin<S: StateSets>(
     ensures call { IsCall 3 (S.seen sets.old) (S.seen sets.new) (pin_slots result) result }
     ensures set { IfOk result (λ pin. SameOn (S.seen sets.old).over (region (S.seen sets.new) pin)
         (set_at (constraint_list (S.seen sets.old) constraints.now sign) (k - 1))) }
+    ensures products { S.products sets.new ≡ S.products sets.old }
 {
     match constraints {
         Constraints::All => all_or_none(sets, sign),

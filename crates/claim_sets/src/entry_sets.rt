@@ -93,6 +93,7 @@ fn join_with<S: StateSets>(sets: &mut S, a: &Pin, b: Pin) -> Result<Pin, SetRefu
     requires b { IsLive (S.seen sets.old) b.slot }
     ensures call { IsReplacing (S.seen sets.old) (S.seen sets.new) b result }
     ensures set { IfOk result (λ pin. region (S.seen sets.new) pin ≡ either (region (S.seen sets.old) a.now) (region (S.seen sets.old) b)) }
+    ensures products { S.products sets.new ≡ S.products sets.old }
 {
     let set = sets.join(a, &b);
     sets.release(b);
@@ -113,6 +114,7 @@ fn rule_pin<S: StateSets>(
     ensures set { IfOk result (λ pin. (layers : List rules.Layer) → join_layers layers ≡ region (S.seen sets.old) nonfair.now
         → region (S.seen sets.new) pin
         ≡ entry_set layers (entry_of (map_rule (region (S.seen sets.old)) (seen_rule rule.now))) (region (S.seen sets.old) argument.now)) }
+    ensures products { S.products sets.new ≡ S.products sets.old }
 {
     match rule {
         Rule::EX(set) => sets.copy(set),
@@ -144,6 +146,7 @@ pub fn entry_pin<S: StateSets>(
     ensures call { IsCall 2 (S.seen sets.old) (S.seen sets.new) (pin_slots result) result }
     ensures set { IfOk result (λ pin. (p : claims.Proof) → IsGroundOf (S.seen sets.old) ground.now p
         → region (S.seen sets.new) pin ≡ entry_set p.nonfair (p.entries node plus) (region (S.seen sets.old) argument.now)) }
+    ensures products { S.products sets.new ≡ S.products sets.old }
 {
     match find(&ground.entries, node, plus) {
         Some(rule) => rule_pin(sets, ground.nonfair, rule, argument),

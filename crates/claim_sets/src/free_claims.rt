@@ -29,6 +29,7 @@ pub fn release_claim_lists<S: StateSets>(sets: &mut S, mut lists: Vec<Vec<Claim>
     requires once { AreDistinct (lists_claims_slots lists.items) }
     ensures pins { Adds (S.seen sets.new) (S.seen sets.old) (lists_claims_slots lists.items) }
     ensures fulls { (S.seen sets.new).fulls ≡ (S.seen sets.old).fulls }
+    ensures products { S.products sets.new ≡ S.products sets.old }
 {
     while let Some(list) = lists.pop() {
         release_claims(sets, list);
@@ -55,6 +56,7 @@ fn path_claims<S: StateSets>(
     ensures pins { IfOk result (λ claims. length (claims_slots claims.items) ≡ 2 * path_nodes (ctl_of formula.now)) }
     ensures claims { IfOk result (λ claims. (p : Proof) → IsGroundOf (S.seen sets.old) ground.now p
         → ArePathClaims (S.seen sets.old).over (S.seen sets.new) p (ctl_of formula.now) claims.items) }
+    ensures products { S.products sets.new ≡ S.products sets.old }
 {
     if is_leaf(formula) {
         Ok(Vec::new(alloc))
@@ -79,6 +81,7 @@ fn constraint_list<S: StateSets>(
     ensures pins { IfOk result (λ claims. length (claims_slots claims.items) ≡ 2 * path_nodes (ctl_of formula.now)) }
     ensures claims { IfOk result (λ claims. (j : ℕ) → j + 1 ≡ k → ArePathClaims (S.seen sets.old).over (S.seen sets.new)
         (free_proof (Some (map_free (region (S.seen sets.old)) part.now)) j) (ctl_of formula.now) claims.items) }
+    ensures products { S.products sets.new ≡ S.products sets.old }
 {
     let ground = Ground {
         full,
@@ -101,9 +104,10 @@ fn add_constraint<S: StateSets>(
     requires ground { IsFreeGround (S.seen sets.old) full.now nonfair.now part.now }
     requires leaves { HasModelLeaves (S.seen sets.old).over (ctl_of formula.now) }
     requires few { length lists.old.items < 4294967295 }
-    ensures { IsListing (2 * path_nodes (ctl_of formula.now) + 8) (2 * path_nodes (ctl_of formula.now)) (S.seen sets.old) (S.seen sets.new)
+    ensures listing { IsListing (2 * path_nodes (ctl_of formula.now) + 8) (2 * path_nodes (ctl_of formula.now)) (S.seen sets.old) (S.seen sets.new)
         lists.old.items lists.new.items (ArePathClaims (S.seen sets.old).over (S.seen sets.new)
         (free_proof (Some (map_free (region (S.seen sets.old)) part.now)) (length lists.old.items)) (ctl_of formula.now)) result }
+    ensures products { S.products sets.new ≡ S.products sets.old }
 {
     let k = lists.len() as u32 + 1;
     let list = constraint_list(alloc, sets, full, nonfair, part, k, formula)?;
@@ -137,6 +141,7 @@ fn add_constraints<S: StateSets>(
     ensures claims { OnOk result ((k : ℕ) (f : Ctl) → k < length formulas.now → ArePathClaims (S.seen sets.old).over (S.seen sets.new)
         (free_proof (Some (map_free (region (S.seen sets.old)) part.now)) k) (slice_index_or (map ctl_of formulas.now) k f)
         (claims_at lists.new.items k)) }
+    ensures products { S.products sets.new ≡ S.products sets.old }
 {
     for k in 0..formulas.len() {
         add_constraint(alloc, sets, full, nonfair, part, &formulas[k], lists)?;
@@ -161,6 +166,7 @@ pub fn constraint_claims<S: StateSets>(
     ensures fitting { IfOk result (λ lists. AreFitting model.now lists.items) }
     ensures claims { IfOk result (λ lists. HaveClaims model.now (S.seen sets.new)
         (free_proof (Some (map_free (region (S.seen sets.old)) part.now))) lists.items) }
+    ensures products { S.products sets.new ≡ S.products sets.old }
 {
     model.rules_law();
     let mut lists = Vec::new(alloc);

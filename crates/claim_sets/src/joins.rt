@@ -14,6 +14,7 @@ pub fn join_all<S: StateSets>(sets: &mut S, pins: &[Pin]) -> Result<Pin, SetRefu
     requires { AreLive (S.seen sets.old) (slots pins.now) }
     ensures call { IsCall 2 (S.seen sets.old) (S.seen sets.new) (pin_slots result) result }
     ensures set { IfOk result (λ pin. region (S.seen sets.new) pin ≡ join (regions (S.seen sets.old) pins.now)) }
+    ensures products { S.products sets.new ≡ S.products sets.old }
 {
     let mut all = sets.empty()?;
     for k in 0..pins.len() {
@@ -33,6 +34,7 @@ pub fn join_layers<S: StateSets>(sets: &mut S, layers: &[Layer<Pin>]) -> Result<
     ensures call { IsCall 2 (S.seen sets.old) (S.seen sets.new) (pin_slots result) result }
     ensures set { IfOk result (λ pin. region (S.seen sets.new) pin
         ≡ join (regions (S.seen sets.old) (layer_sets layers.now))) }
+    ensures products { S.products sets.new ≡ S.products sets.old }
 {
     let mut all = sets.empty()?;
     for k in 0..layers.len() {

@@ -15,3 +15,4 @@ pub mod BlockParts
 pub mod BlockClaims
 pub mod FreeParts
 pub mod WholeTests
+mod LineSums

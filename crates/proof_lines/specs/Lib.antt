@@ -1,3 +1,4 @@
 pub mod Frames
 pub mod Cases
 pub mod Tested
+pub mod LineCounts

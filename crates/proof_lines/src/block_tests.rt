@@ -1,6 +1,6 @@
 //! The lines of a proof from `nonfair` on.
 
-ghost use Rattle.std.specs.Prelude.{◌≡◌, ◌+◌, ◌*◌, [], IfOk, false, true};
+ghost use Rattle.std.specs.Prelude.{◌≡◌, ◌≤◌, ◌+◌, ◌*◌, [], IfOk, false, true};
 ghost use Rattle.kripke_model.specs.Signs.{node_count};
 ghost use Rattle.kripke_model.specs.System.{constraint_count};
 ghost use Rattle.region_sets.specs.Sets.{IsCall, IsLive, region};
@@ -13,6 +13,7 @@ ghost use Rattle.proof_lines.specs.Cases.{AreEnds, AreLists, IsCase, formula_in,
 ghost use Rattle.claim_sets.specs.Claimed.{AreClaims, claims_of, claims_slots};
 ghost use Rattle.claim_sets.specs.ConstraintClaims.{constraint_list, constraints_count, model_sides};
 ghost use Rattle.proof_lines.specs.Frames.{IsFrame, IsFrameOf};
+ghost use Rattle.proof_lines.specs.LineCounts.{own_line_count};
 ghost use Rattle.proof_lines.specs.Tested.{AreTested};
 
 use crate::cases::{Case, Ends};
@@ -47,6 +48,8 @@ fn main_lines<S: StateSets>(
         (block_lines case.now.model.now (constraint_list (S.seen sets.old) frame.now.constraints true)
         (constraint_list (S.seen sets.old) frame.now.constraints false) (block_of (states_of (S.seen sets.old) case.now))
         (formula_in case.now) 1) line.old yes line.new) }
+    ensures products { S.products sets.new ≤ S.products sets.old
+        + own_line_count case.now.proof.now }
 {
     let proof = case.proof;
     if !shared_lines(sets, frame, &proof.nonfair, &proof.fair, line)? {
@@ -78,6 +81,8 @@ fn claimed_lines<'a, S: StateSets>(
         (block_lines case.now.model.now (model_sides case.now.model.now (S.seen sets.old) lists.now true)
         (model_sides case.now.model.now (S.seen sets.old) lists.now false) (block_of (states_of (S.seen sets.old) case.now))
         (formula_in case.now) 1) line.old yes line.new) }
+    ensures products { S.products sets.new ≤ S.products sets.old
+        + own_line_count case.now.proof.now }
 {
     let proof = case.proof;
     let fair = &proof.fair;
@@ -116,6 +121,8 @@ pub fn own_block<S: StateSets>(
         (block_lines case.now.model.now (model_sides case.now.model.now (S.seen sets.old) lists.now true)
         (model_sides case.now.model.now (S.seen sets.old) lists.now false) (block_of (states_of (S.seen sets.old) case.now))
         (formula_in case.now) 1) line.old yes line.new) }
+    ensures products { S.products sets.new ≤ S.products sets.old
+        + own_line_count case.now.proof.now }
 {
     let proof = case.proof;
     let nonfair = join_layers(sets, &proof.nonfair)?;

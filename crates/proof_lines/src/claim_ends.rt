@@ -24,6 +24,7 @@ fn start_line<S: StateSets>(sets: &mut S, set: &Pin, line: &mut u64) -> Result<b
     ensures call { IsCall 2 (S.seen sets.old) (S.seen sets.new) [] result }
     ensures tested { IfOk result (λ yes. AreTested (S.seen sets.old).over
         ((Check.Starts (region (S.seen sets.old) set.now) ∷ []) ∷ []) line.old yes line.new) }
+    ensures products { S.products sets.new ≡ S.products sets.old }
 {
     if !starts(sets, set)? {
         return Ok(false);
@@ -63,6 +64,7 @@ pub fn end_lines<S: StateSets>(
     ensures tested { IfOk result (λ yes. (p : Proof) (f : Ctl)
         → AreClaims model.now (S.seen sets.old) claims.now (claims_of model.now p f 1 0)
         → AreTested model.now (claim_lines model.now p f 1 at.now) line.old yes line.new) }
+    ensures products { S.products sets.new ≡ S.products sets.old }
 {
     let own = &claims[claims.len() - 1];
     match at {

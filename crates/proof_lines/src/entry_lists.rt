@@ -1,6 +1,6 @@
 //! The lines of a formula's entries, in order, by the claims of its nodes.
 
-ghost use Rattle.std.specs.Prelude.{◌≡◌, ◌-◌, ◌<◌, ◌≤◌, [], All, IfOk, List, Some, ℕ, false, length, map, true};
+ghost use Rattle.std.specs.Prelude.{◌≡◌, ◌+◌, ◌-◌, ◌<◌, ◌≤◌, [], All, IfOk, List, Some, ℕ, false, length, map, true};
 ghost use Rattle.kripke_model.specs.Ctl.{Ctl};
 ghost use Rattle.kripke_model.specs.Signs.{node_count};
 ghost use Rattle.path_laws.specs.StateSet.{StateSet};
@@ -17,6 +17,7 @@ ghost use Rattle.claim_sets.specs.Claimed.{AreClaims, ClaimView, claims_of, clai
 ghost use Rattle.claim_sets.specs.ConstraintClaims.{HaveClaims, claims_at, constraint_list, constraints_count, lists_claims_slots};
 ghost use Rattle.proof_lines.specs.Frames.{IsFrame, IsFrameOf};
 ghost use Rattle.claim_sets.specs.Claimed.{AreBefore};
+ghost use Rattle.proof_lines.specs.LineCounts.{entries_line_count, free_entries_line_count, rule_line_count};
 ghost use Rattle.proof_lines.specs.Tested.{AreTested};
 
 use crate::entries::rule_lines;
@@ -49,6 +50,8 @@ fn node_lines<S: StateSets>(
         (asked_lines (constraint_list (S.seen sets.old) frame.now.constraints true)
         (constraint_list (S.seen sets.old) frame.now.constraints false) p (demand_in views place sign)
         (entry_of (map_rule (region (S.seen sets.old)) (seen_rule rule.now)))) line.old yes line.new) }
+    ensures products { S.products sets.new ≤ S.products sets.old
+        + rule_line_count (seen_rule rule.now) }
 {
     match claims[place].asks {
         Asks::Nothing => Ok(true),
@@ -94,6 +97,7 @@ fn asked_entry<S: StateSets>(
         (constraint_list (S.seen sets.old) frame.now.constraints false) p
         (demand_at (S.seen sets.old).over p f 1 entry.now.node entry.now.plus)
         (entry_of (map_rule (region (S.seen sets.old)) entry.now.rule))) line.old yes line.new) }
+    ensures products { S.products sets.new ≤ S.products sets.old + rule_line_count entry.now.rule }
 {
     let place = claims.len() - entry.node as usize;
     node_lines(sets, frame, claims, place, entry.plus, &entry.rule, line)
@@ -120,6 +124,7 @@ pub fn own_lines<S: StateSets>(
         (listed_lines (S.seen sets.old).over (constraint_list (S.seen sets.old) frame.now.constraints true)
         (constraint_list (S.seen sets.old) frame.now.constraints false) p f 1
         (map listed_of (map (map_entry (region (S.seen sets.old))) entries.now))) line.old yes line.new) }
+    ensures products { S.products sets.new ≤ S.products sets.old + entries_line_count entries.now }
 {
     for k in 0..entries.len() {
         if !asked_entry(sets, frame, claims, &entries[k], line)? {
@@ -154,6 +159,8 @@ fn free_entry<S: StateSets>(
         (asked_lines free_visited free_avoided (free_proof (Some part) (free.now.constraint - 1))
         (free_demand (S.seen sets.old).over part (map_free_entry (region (S.seen sets.old)) free.now))
         (entry_of (map_rule (region (S.seen sets.old)) free.now.entry.rule))) line.old yes line.new) }
+    ensures products { S.products sets.new ≤ S.products sets.old
+        + rule_line_count free.now.entry.rule }
 {
     let claims = &lists[free.constraint as usize - 1];
     asked_entry(sets, frame, claims, &free.entry, line)
@@ -183,6 +190,8 @@ pub fn free_entry_tests<S: StateSets>(
         → HaveClaims (S.seen sets.old).over (S.seen sets.old) (free_proof (Some part)) lists.now
         → AreTested (S.seen sets.old).over (free_entry_lines (S.seen sets.old).over part
         (map (map_free_entry (region (S.seen sets.old))) entries.now)) line.old yes line.new) }
+    ensures products { S.products sets.new ≤ S.products sets.old
+        + free_entries_line_count entries.now }
 {
     for at in 0..entries.len() {
         if !free_entry(sets, frame, lists, &entries[at], line)? {

@@ -1,6 +1,6 @@
 //! The lines of what a proof gives for the constraints' formulas.
 
-ghost use Rattle.std.specs.Prelude.{◌≡◌, ℕ, [], length, IfOk, Some};
+ghost use Rattle.std.specs.Prelude.{◌≡◌, ◌+◌, ◌≤◌, ℕ, [], length, IfOk, Some};
 ghost use Rattle.region_sets.specs.Sets.{IsCall, region};
 ghost use Rattle.region_sets.specs.Ranks.{AreLive, slots};
 ghost use Rattle.proof_form.specs.Form.{free_sets, map_free};
@@ -10,6 +10,7 @@ ghost use Rattle.proof_lines.specs.Cases.{AreEnds, AreLists};
 ghost use Rattle.claim_sets.specs.ConstraintClaims.{HaveClaims};
 ghost use Rattle.claim_sets.specs.FreeClaims.{IsFreeGround};
 ghost use Rattle.proof_lines.specs.Frames.{IsFrame, IsFrameOf};
+ghost use Rattle.proof_lines.specs.LineCounts.{free_line_count};
 ghost use Rattle.proof_lines.specs.Tested.{AreTested};
 ghost use Rattle.claim_sets.specs.declared.constraint_pins.Constraints.TheVariants as constraints;
 
@@ -43,6 +44,7 @@ fn part_lines<S: StateSets>(
     ensures call { IsCall 8 (S.seen sets.old) (S.seen sets.new) [] result }
     ensures tested { IfOk result (λ yes. AreTested (S.seen sets.old).over
         (free_lines (S.seen sets.old).over (Some (map_free (region (S.seen sets.old)) part.now))) line.old yes line.new) }
+    ensures products { S.products sets.new ≤ S.products sets.old + free_line_count part.now }
 {
     count(line);
     if !shared_lines(sets, frame, &part.nonfair, &part.fair, line)? {
@@ -71,6 +73,7 @@ pub fn free_block<'a, S: StateSets>(
     ensures call { IsCall 8 (S.seen sets.old) (S.seen sets.new) [] result }
     ensures tested { IfOk result (λ yes. AreTested model.now
         (free_lines model.now (Some (map_free (region (S.seen sets.old)) part.now))) line.old yes line.new) }
+    ensures products { S.products sets.new ≤ S.products sets.old + free_line_count part.now }
 {
     let fair = &part.fair;
     let frame = Frame {

@@ -1,6 +1,6 @@
 //! The lines of what a proof's entries share: the states without a fair path, and those with one.
 
-ghost use Rattle.std.specs.Prelude.{◌≡◌, [], ◌∷◌, length, map, All, IfOk, true, false};
+ghost use Rattle.std.specs.Prelude.{◌≡◌, ◌+◌, ◌≤◌, [], ◌∷◌, length, map, All, IfOk, true, false};
 ghost use Rattle.region_sets.specs.Sets.{IsCall, region};
 ghost use Rattle.region_sets.specs.Ranks.{AreLive, slots};
 ghost use Rattle.fair_rules.specs.SetLists.{everything, nothing};
@@ -11,6 +11,7 @@ ghost use Rattle.proof_form.specs.Shape.{Avoids};
 ghost use Rattle.claim_sets.specs.ConstraintClaims.{constraint_list, constraints_count};
 ghost use Rattle.proof_lines.specs.Cases.{shared};
 ghost use Rattle.proof_lines.specs.Frames.{IsFrame};
+ghost use Rattle.proof_lines.specs.LineCounts.{fair_line_count};
 ghost use Rattle.proof_lines.specs.Tested.{AreTested};
 
 use crate::frames::{Frame, few_law};
@@ -32,6 +33,7 @@ fn nonfair_lines<S: StateSets>(
     ensures tested { IfOk result (λ yes. AreTested (S.seen sets.old).over
         ([] ∷ layer_lines (constraint_list (S.seen sets.old) frame.now.constraints false) everything nothing nothing
         (map layer_of (map (map_layer (region (S.seen sets.old))) nonfair.now))) line.old yes line.new) }
+    ensures products { S.products sets.new ≤ S.products sets.old + length nonfair.now }
 {
     count(line);
     layers(
@@ -58,6 +60,7 @@ fn fair_lines<S: StateSets>(
     ensures tested { IfOk result (λ yes. AreTested (S.seen sets.old).over
         ([] ∷ reach_lines (region (S.seen sets.old) fair.now.inside) (constraint_list (S.seen sets.old) frame.now.constraints true)
         (map (map (region (S.seen sets.old))) fair.now.reach)) line.old yes line.new) }
+    ensures products { S.products sets.new ≤ S.products sets.old + fair_line_count fair.now }
 {
     few_law(&frame.constraints);
     count(line);
@@ -90,6 +93,8 @@ pub fn shared_lines<S: StateSets>(
         (shared (constraint_list (S.seen sets.old) frame.now.constraints true) (constraint_list (S.seen sets.old) frame.now.constraints false)
         (map layer_of (map (map_layer (region (S.seen sets.old))) nonfair.now)) (region (S.seen sets.old) fair.now.inside)
         (map (map (region (S.seen sets.old))) fair.now.reach)) line.old yes line.new) }
+    ensures products { S.products sets.new ≤ S.products sets.old
+        + (length nonfair.now + fair_line_count fair.now) }
 {
     if !nonfair_lines(sets, frame, nonfair, line)? {
         return Ok(false);

@@ -1,6 +1,6 @@
 //! The test of a whole proof.
 
-ghost use Rattle.std.specs.Prelude.{◌≡◌, ◌↔◌, ◌+◌, ◌*◌, [], length, option_copied, option_map, IfOk, IsTrue, Some};
+ghost use Rattle.std.specs.Prelude.{◌≡◌, ◌≤◌, ◌↔◌, ◌+◌, ◌*◌, [], length, option_copied, option_map, IfOk, IsTrue, Some};
 ghost use Rattle.kripke_model.specs.Signs.{node_count};
 ghost use Rattle.kripke_model.specs.WellFormed.{ctl_of};
 ghost use Rattle.region_sets.specs.Sets.{IsCall, region};
@@ -14,6 +14,7 @@ ghost use Rattle.proof_lines.specs.Cases.{AreEnds, AreLists, IsCase, formula_in,
 ghost use Rattle.claim_sets.specs.Claimed.{HasModelLeaves};
 ghost use Rattle.claim_sets.specs.ConstraintClaims.{HaveClaims};
 ghost use Rattle.claim_sets.specs.FreeClaims.{IsFreeGround};
+ghost use Rattle.proof_lines.specs.LineCounts.{set_line_count};
 ghost use Rattle.proof_lines.specs.Tested.{AreTested};
 
 use crate::block_tests::own_block;
@@ -51,6 +52,8 @@ fn listed_lines<S: StateSets>(
     ensures call { IsCall (2 * node_count (formula_in case.now) + 12) (S.seen sets.old) (S.seen sets.new) [] result }
     ensures tested { IfOk result (λ yes. AreTested case.now.model.now
         (obligations case.now.model.now (formula_in case.now) (states_of (S.seen sets.old) case.now)) line.old yes line.new) }
+    ensures products { S.products sets.new ≤ S.products sets.old
+        + set_line_count case.now.proof.now }
 {
     if !free_block(sets, ends, case.model, nonfair, part, lists, line)? {
         return Ok(false);
@@ -75,6 +78,8 @@ fn layered_lines<S: StateSets>(
     ensures call { IsCall (2 * (node_count (formula_in case.now) + constraint_nodes case.now.model.now) + 12) (S.seen sets.old) (S.seen sets.new) [] result }
     ensures tested { IfOk result (λ yes. AreTested case.now.model.now
         (obligations case.now.model.now (formula_in case.now) (states_of (S.seen sets.old) case.now)) line.old yes line.new) }
+    ensures products { S.products sets.new ≤ S.products sets.old
+        + set_line_count case.now.proof.now }
 {
     let lists = constraint_claims(alloc, sets, case.model, ends.full, nonfair, part)?;
     let yes = listed_lines(alloc, sets, ends, case, nonfair, part, &lists, line);
@@ -97,6 +102,8 @@ fn part_then_block<S: StateSets>(
     ensures call { IsCall (2 * (node_count (formula_in case.now) + constraint_nodes case.now.model.now) + 13) (S.seen sets.old) (S.seen sets.new) [] result }
     ensures tested { IfOk result (λ yes. AreTested case.now.model.now
         (obligations case.now.model.now (formula_in case.now) (states_of (S.seen sets.old) case.now)) line.old yes line.new) }
+    ensures products { S.products sets.new ≤ S.products sets.old
+        + set_line_count case.now.proof.now }
 {
     let nonfair = join_layers(sets, &part.nonfair)?;
     let yes = layered_lines(alloc, sets, ends, case, &nonfair, part, line);
@@ -117,6 +124,8 @@ fn lines_between<S: StateSets>(
     ensures call { IsCall (2 * (node_count (formula_in case.now) + constraint_nodes case.now.model.now) + 13) (S.seen sets.old) (S.seen sets.new) [] result }
     ensures tested { IfOk result (λ yes. AreTested case.now.model.now
         (obligations case.now.model.now (formula_in case.now) (states_of (S.seen sets.old) case.now)) line.old yes line.new) }
+    ensures products { S.products sets.new ≤ S.products sets.old
+        + set_line_count case.now.proof.now }
 {
     let proof = case.proof;
     match &proof.free {
@@ -141,6 +150,7 @@ pub fn test_lines<'a, S: StateSets>(
     ensures call { IsCall (8 * (node_count (ctl_of formula.now) + constraint_nodes model.now + 2)) (S.seen sets.old) (S.seen sets.new) [] result }
     ensures tested { IfOk result (λ yes. AreTested model.now
         (obligations model.now (ctl_of formula.now) (over_states (S.seen sets.old) proof.now)) line.old yes line.new) }
+    ensures products { S.products sets.new ≤ S.products sets.old + set_line_count proof.now }
 {
     let full = sets.full()?;
     match sets.empty() {
@@ -179,6 +189,7 @@ fn proves<S: StateSets>(
     requires live { AreLive (S.seen sets.old) (proof_slots proof.now) }
     ensures call { IsCall (8 * (node_count (ctl_of formula.now) + constraint_nodes model.now + 2)) (S.seen sets.old) (S.seen sets.new) [] result }
     ensures answer { IfOk result (λ yes. IsTrue yes ↔ IsProofOf model.now (ctl_of formula.now) (over_states (S.seen sets.old) proof.now)) }
+    ensures products { S.products sets.new ≤ S.products sets.old + set_line_count proof.now }
 {
     if !is_in_shape(alloc, model, formula, proof)? {
         return Ok(false);
@@ -216,6 +227,7 @@ pub fn obligations<S: StateSets>(
     ensures call { IsCall (test_pins model.now spec) (S.seen sets.old) (S.seen sets.new) [] result }
     ensures answer { IfOk result (λ yes. IsTrue yes ↔ ProvesSpec model.now spec (over_states (S.seen sets.old) proof.now)) }
     ensures sound { IfOk result (λ yes. IsTrue yes → ClaimHolds model.now spec proof.now.claim) }
+    ensures products { S.products sets.new ≤ S.products sets.old + set_line_count proof.now }
 {
     proofs_law(model);
     match formula_of(model, spec) {

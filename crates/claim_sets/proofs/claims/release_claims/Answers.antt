@@ -26,4 +26,5 @@ loop-claim-preserved g c =
       i.1 ∙ ap (λ ks. ks ++ i.0) popped ∙ append_assoc (claims_slots c.pop.new.self.items) (claim_slots c.in-Some.claim) i.0,
       adds_after c.release.ensures.pins i.2,
       c.release.ensures.fulls ∙ i.3,
+      c.release.ensures.products ∙ i.4,
     )

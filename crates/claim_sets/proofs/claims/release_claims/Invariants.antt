@@ -9,6 +9,7 @@ invariant-loop-claim g l = (gone : List ℕ)
     × (claims_slots l.initial.claims.items ≡ claims_slots l.claims.items ++ gone)
     × Adds (g.S.StateSets.seen l.sets) (g.S.StateSets.seen l.initial.sets) gone
     × ((g.S.StateSets.seen l.sets).fulls ≡ (g.S.StateSets.seen l.initial.sets).fulls)
+    × (g.S.StateSets.products l.sets ≡ g.S.StateSets.products l.initial.sets)
 
 abbrev pub decreases-loop-claim : goal.decreases-loop-claim
 decreases-loop-claim g l = goal.left-loop-claim g l

@@ -27,4 +27,5 @@ loop-list-preserved g c =
       i.1 ∙ ap (λ ks. ks ++ i.0) popped ∙ append_assoc (lists_claims_slots c.pop.new.self.items) (claims_slots c.in-Some.list.items) i.0,
       adds_after c.release_claims.ensures.pins i.2,
       c.release_claims.ensures.fulls ∙ i.3,
+      c.release_claims.ensures.products ∙ i.4,
     )

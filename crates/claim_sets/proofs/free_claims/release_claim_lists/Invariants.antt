@@ -9,6 +9,7 @@ invariant-loop-list g l = (gone : List ℕ)
     × (lists_claims_slots l.initial.lists.items ≡ lists_claims_slots l.lists.items ++ gone)
     × Adds (g.S.StateSets.seen l.sets) (g.S.StateSets.seen l.initial.sets) gone
     × ((g.S.StateSets.seen l.sets).fulls ≡ (g.S.StateSets.seen l.initial.sets).fulls)
+    × (g.S.StateSets.products l.sets ≡ g.S.StateSets.products l.initial.sets)
 
 abbrev pub decreases-loop-list : goal.decreases-loop-list
 decreases-loop-list g l = goal.left-loop-list g l

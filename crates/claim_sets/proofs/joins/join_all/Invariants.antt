@@ -1,5 +1,9 @@
+use Rattle.std.proofs.Common.{◌≡◌}
 use Rattle.claim_sets.proofs.Joined.{IsJoining}
 use Rattle.claim_sets.proofs.joins.join_all.Given as goal
 
 abbrev pub invariant-loop-k : goal.invariant-loop-k
-invariant-loop-k g l = IsJoining (g.S.StateSets.seen l.fn.sets) (g.S.StateSets.seen l.sets) l.pins l.k l.all
+invariant-loop-k g l = record {
+  joining : IsJoining (g.S.StateSets.seen l.fn.sets) (g.S.StateSets.seen l.sets) l.pins l.k l.all;
+  products : g.S.StateSets.products l.sets ≡ g.S.StateSets.products l.fn.sets;
+}

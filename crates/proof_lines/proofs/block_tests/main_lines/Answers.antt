@@ -1,7 +1,8 @@
-use Rattle.std.proofs.Common.{true, false, subst, ◌∙◌, ap}
+use Rattle.std.proofs.Common.{arith, true, false, subst, ◌∙◌, ap}
 use Rattle.region_sets.proofs.Changes.{stays_live}
 use Rattle.proof_lines.proofs.BlockParts.{EntriesTested, SharedTested, ends_tested, entries_alive, entries_fail, entries_fit, entries_number, fair_alive, layers_avoid, layers_live, reach_count, shared_fails, some_claims, state_there}
 use Rattle.proof_lines.proofs.Framed.{frame_then}
+use Rattle.proof_lines.proofs.LineSums.{own_counted}
 use Rattle.proof_lines.proofs.block_tests.main_lines.Goals as goal
 
 pub shared_lines-requires-clause-avoids : goal.shared_lines-requires-clause-avoids
@@ -110,3 +111,52 @@ returns-clause-tested g c =
     (subst (λ b. SharedTested c.args.case.now c.args.frame.now (g.S.StateSets.seen c.args.sets.now) c.args.claims.now c.requires.case c.requires.frame c.requires.own c.requires.claims
     c.deref.result.now c.proof.inside.fair c.args.line.now b c.shared_lines.new.line) c.if-not-branch.false c.in_ok-shared_lines.ensures.tested) b c.own_lines.new.line) c.if-not-branch-2.false c.in_ok-own_lines.ensures.tested)
     c.end_lines.result c.end_lines.new.line c.end_lines.ensures.tested
+
+pub returns-in_err-shared_lines-clause-products : goal.returns-in_err-shared_lines-clause-products
+returns-in_err-shared_lines-clause-products g c =
+    omega (
+      arith,
+      c.shared_lines.ensures.products,
+      own_counted c.args.case.now.proof.now c.deref.result.now c.proof.inside.fair c.proof.inside.entries.items (c.deref.ensures.value ∙ ap (λ p. p.nonfair) c.proof.view_is) (ap (λ p. p.fair) c.proof.view_is)
+          (ap (λ p. p.entries) c.proof.view_is),
+    )
+
+pub returns-then-not-branch-clause-products : goal.returns-then-not-branch-clause-products
+returns-then-not-branch-clause-products g c =
+    omega (
+      arith,
+      c.shared_lines.ensures.products,
+      own_counted c.args.case.now.proof.now c.deref.result.now c.proof.inside.fair c.proof.inside.entries.items (c.deref.ensures.value ∙ ap (λ p. p.nonfair) c.proof.view_is) (ap (λ p. p.fair) c.proof.view_is)
+          (ap (λ p. p.entries) c.proof.view_is),
+    )
+
+pub returns-in_err-own_lines-clause-products : goal.returns-in_err-own_lines-clause-products
+returns-in_err-own_lines-clause-products g c =
+    omega (
+      arith,
+      c.shared_lines.ensures.products,
+      c.own_lines.ensures.products,
+      own_counted c.args.case.now.proof.now c.deref.result.now c.proof.inside.fair c.deref-2.result.now (c.deref.ensures.value ∙ ap (λ p. p.nonfair) c.proof.view_is) (ap (λ p. p.fair) c.proof.view_is)
+          (c.deref-2.ensures.value ∙ ap (λ p. p.entries) c.proof.view_is),
+    )
+
+pub returns-then-not-branch-2-clause-products : goal.returns-then-not-branch-2-clause-products
+returns-then-not-branch-2-clause-products g c =
+    omega (
+      arith,
+      c.shared_lines.ensures.products,
+      c.own_lines.ensures.products,
+      own_counted c.args.case.now.proof.now c.deref.result.now c.proof.inside.fair c.deref-2.result.now (c.deref.ensures.value ∙ ap (λ p. p.nonfair) c.proof.view_is) (ap (λ p. p.fair) c.proof.view_is)
+          (c.deref-2.ensures.value ∙ ap (λ p. p.entries) c.proof.view_is),
+    )
+
+pub returns-clause-products : goal.returns-clause-products
+returns-clause-products g c =
+    omega (
+      arith,
+      c.shared_lines.ensures.products,
+      c.own_lines.ensures.products,
+      c.end_lines.ensures.products,
+      own_counted c.args.case.now.proof.now c.deref.result.now c.proof.inside.fair c.deref-2.result.now (c.deref.ensures.value ∙ ap (λ p. p.nonfair) c.proof.view_is) (ap (λ p. p.fair) c.proof.view_is)
+          (c.deref-2.ensures.value ∙ ap (λ p. p.entries) c.proof.view_is),
+    )

@@ -1,4 +1,4 @@
-use Rattle.std.proofs.Common.{List, map, sym, ◌∙◌, ap, subst}
+use Rattle.std.proofs.Common.{◌≡◌, ◌+◌, length, arith, List, map, sym, ◌∙◌, ap, subst}
 use Rattle.region_sets.specs.declared.pins.Pin.{Pin}
 use Rattle.region_sets.specs.Sets.{region}
 use Rattle.fair_rules.specs.Claims as claims
@@ -8,6 +8,7 @@ use Rattle.proof_form.specs.Form.{Layer, map_layer, map_rule, rule_sets}
 use Rattle.proof_form.specs.Seen.{seen_rule}
 use Rattle.proof_form.specs.Meaning.{entry_of, layer_of}
 use Rattle.proof_lines.proofs.EntryLines.{ex_lines, ax_lines, ar_lines, eu_lines, au_lines, er_lines, parts_live}
+use Rattle.proof_lines.specs.LineCounts.{fair_line_count, rule_line_count}
 use Rattle.proof_lines.proofs.entries.rule_lines.Goals as goal
 
 pub returns-in-EX-clause-tested : goal.returns-in-EX-clause-tested
@@ -64,3 +65,33 @@ fair_release_entry-requires-clause-list g c =
     subst (λ (ps : List Pin). AreLive (g.S.StateSets.seen c.args.sets.now) (slots ps)) (sym c.deref-in-ER.ensures.value)
     (parts_live (g.S.StateSets.seen c.args.sets.now) c.in-ER.fair c.in-ER.list.items
     (subst (λ (u : declared.Rule Pin). AreLive (g.S.StateSets.seen c.args.sets.now) (slots (rule_sets (seen_rule u)))) c.in-ER.is c.requires.rule)).1
+
+pub returns-in-EX-clause-products : goal.returns-in-EX-clause-products
+returns-in-EX-clause-products g c =
+    let count : rule_line_count (seen_rule c.args.rule.now) ≡ 1 = ap (λ (u : declared.Rule Pin). rule_line_count (seen_rule u)) c.in-EX.is in
+    omega (arith, c.next_entry.ensures.products, count)
+
+pub returns-in-AX-clause-products : goal.returns-in-AX-clause-products
+returns-in-AX-clause-products g c =
+    let count : rule_line_count (seen_rule c.args.rule.now) ≡ 1 = ap (λ (u : declared.Rule Pin). rule_line_count (seen_rule u)) c.in-AX.is in
+    omega (arith, c.each_next_entry.ensures.products, count)
+
+pub returns-in-AR-clause-products : goal.returns-in-AR-clause-products
+returns-in-AR-clause-products g c =
+    let count : rule_line_count (seen_rule c.args.rule.now) ≡ 1 = ap (λ (u : declared.Rule Pin). rule_line_count (seen_rule u)) c.in-AR.is in
+    omega (arith, c.stay_entry.ensures.products, count)
+
+pub returns-in-EU-clause-products : goal.returns-in-EU-clause-products
+returns-in-EU-clause-products g c =
+    let count : rule_line_count (seen_rule c.args.rule.now) ≡ length c.in-EU.list.items = ap (λ (u : declared.Rule Pin). rule_line_count (seen_rule u)) c.in-EU.is in
+    omega (arith, c.until_entry.ensures.products, ap length c.deref.ensures.value, count)
+
+pub returns-in-AU-clause-products : goal.returns-in-AU-clause-products
+returns-in-AU-clause-products g c =
+    let count : rule_line_count (seen_rule c.args.rule.now) ≡ length c.in-AU.list.items = ap (λ (u : declared.Rule Pin). rule_line_count (seen_rule u)) c.in-AU.is in
+    omega (arith, c.layer_entry.ensures.products, ap length c.deref-in-AU.ensures.value, count)
+
+pub returns-in-ER-clause-products : goal.returns-in-ER-clause-products
+returns-in-ER-clause-products g c =
+    let count : rule_line_count (seen_rule c.args.rule.now) ≡ fair_line_count c.in-ER.fair + length c.in-ER.list.items = ap (λ (u : declared.Rule Pin). rule_line_count (seen_rule u)) c.in-ER.is in
+    omega (arith, c.fair_release_entry.ensures.products, ap length c.deref-in-ER.ensures.value, count)

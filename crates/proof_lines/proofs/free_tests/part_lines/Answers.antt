@@ -2,6 +2,7 @@ use Rattle.std.proofs.Common.{true, false, length, ◌∙◌, ap, subst, arith}
 use Rattle.region_sets.proofs.Changes.{stays_live}
 use Rattle.proof_lines.proofs.FreeParts.{GivenTested, entries_tested, part_entries_alive, part_entries_fit, part_entries_named, part_entries_numbered, part_fair_alive, part_layers_alive, part_layers_avoid, part_reach_count, shared_fails}
 use Rattle.proof_lines.proofs.Framed.{frame_then}
+use Rattle.proof_lines.proofs.LineSums.{part_counted}
 use Rattle.proof_lines.proofs.free_tests.part_lines.Goals as goal
 
 pub shared_lines-requires-clause-avoids : goal.shared_lines-requires-clause-avoids
@@ -79,3 +80,31 @@ returns-clause-tested g c =
     c.deref.result.now c.part.inside.fair c.deref-2.result.now
     (c.deref.ensures.value ∙ ap (λ p. p.nonfair) c.part.view_is) (ap (λ p. p.fair) c.part.view_is) (c.deref-2.ensures.value ∙ ap (λ p. p.entries) c.part.view_is) c.count.new.line b c.shared_lines.new.line) c.if-not-branch.false c.in_ok-shared_lines.ensures.tested)
     c.free_entry_tests.result c.free_entry_tests.new.line c.free_entry_tests.ensures.tested
+
+pub returns-in_err-shared_lines-clause-products : goal.returns-in_err-shared_lines-clause-products
+returns-in_err-shared_lines-clause-products g c =
+    omega (
+      arith,
+      c.shared_lines.ensures.products,
+      part_counted c.args.part.now c.deref.result.now c.part.inside.fair c.part.inside.entries.items (c.deref.ensures.value ∙ ap (λ p. p.nonfair) c.part.view_is) (ap (λ p. p.fair) c.part.view_is)
+          (ap (λ p. p.entries) c.part.view_is),
+    )
+
+pub returns-then-not-branch-clause-products : goal.returns-then-not-branch-clause-products
+returns-then-not-branch-clause-products g c =
+    omega (
+      arith,
+      c.shared_lines.ensures.products,
+      part_counted c.args.part.now c.deref.result.now c.part.inside.fair c.part.inside.entries.items (c.deref.ensures.value ∙ ap (λ p. p.nonfair) c.part.view_is) (ap (λ p. p.fair) c.part.view_is)
+          (ap (λ p. p.entries) c.part.view_is),
+    )
+
+pub returns-clause-products : goal.returns-clause-products
+returns-clause-products g c =
+    omega (
+      arith,
+      c.shared_lines.ensures.products,
+      c.free_entry_tests.ensures.products,
+      part_counted c.args.part.now c.deref.result.now c.part.inside.fair c.deref-2.result.now (c.deref.ensures.value ∙ ap (λ p. p.nonfair) c.part.view_is) (ap (λ p. p.fair) c.part.view_is)
+          (c.deref-2.ensures.value ∙ ap (λ p. p.entries) c.part.view_is),
+    )

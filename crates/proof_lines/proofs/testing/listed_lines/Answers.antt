@@ -8,6 +8,7 @@ use Rattle.proof_form.specs.Meaning.{free_lines}
 use Rattle.proof_lines.specs.Tested.{AreTested}
 use Rattle.proof_lines.proofs.CasesKept.{case_then, ends_then, lists_then}
 use Rattle.proof_lines.proofs.WholeTests.{part_fails, part_shape, part_then}
+use Rattle.proof_lines.proofs.LineSums.{with_part}
 use Rattle.proof_lines.proofs.testing.listed_lines.Goals as goal
 
 pub free_block-requires-clause-over : goal.free_block-requires-clause-over
@@ -44,3 +45,12 @@ returns-clause-tested g c =
 
 pub returns-clause-call : goal.returns-clause-call
 returns-clause-call g c = then_call (2 * node_count (formula_in c.args.case.now) + 12) c.free_block.ensures.call c.own_block.ensures.call (omega arith) (omega arith)
+
+pub returns-in_err-free_block-clause-products : goal.returns-in_err-free_block-clause-products
+returns-in_err-free_block-clause-products g c = omega (arith, c.free_block.ensures.products, with_part c.args.case.now.proof.now c.args.part.now c.requires.part)
+
+pub returns-then-not-branch-clause-products : goal.returns-then-not-branch-clause-products
+returns-then-not-branch-clause-products g c = omega (arith, c.free_block.ensures.products, with_part c.args.case.now.proof.now c.args.part.now c.requires.part)
+
+pub returns-clause-products : goal.returns-clause-products
+returns-clause-products g c = omega (arith, c.free_block.ensures.products, c.own_block.ensures.products, with_part c.args.case.now.proof.now c.args.part.now c.requires.part)
