@@ -1,6 +1,6 @@
 use kripke_model::Name;
 use smv_outside::{
-    DiskFiles, Entry, Files, LoadFault, MemFiles, MemSink, Sink, SinkFault, StdSink,
+    DiskFiles, Entry, Files, LoadFault, MemFiles, MemSink, SaveFault, Sink, SinkFault, StdSink,
     have_distinct_names,
 };
 use std::alloc::{AllocError, Global};
@@ -16,6 +16,10 @@ fn entry(alloc: Global, name: &str, bytes: &[u8]) -> Result<Entry, AllocError> {
 
 fn load<F: Files>(files: &mut F, name: &str, most: usize) -> Result<Vec<u8>, LoadFault> {
     files.load(name, most)
+}
+
+fn save<F: Files>(files: &mut F, name: &str, bytes: &[u8]) -> Result<(), SaveFault> {
+    files.save(name, bytes)
 }
 
 fn put<S: Sink>(sink: &mut S, bytes: &[u8]) -> Result<(), SinkFault> {
@@ -36,6 +40,23 @@ fn files_in_memory_answer_by_their_entries(rt: HostRuntime) -> Result<(), Fail> 
     assert_eq!(rt; load(&mut files, "m", 3).err(), Some(LoadFault::Failed));
     assert_eq!(rt; load(&mut files, "o", 3).err(), Some(LoadFault::NotThere));
     assert_eq!(rt; load(&mut files, "n", 0)?.len(), 0);
+    assert_eq!(rt; files.contents().len(), 2);
+    Ok(())
+}
+
+// Call 2 fails: the file that it names is gone.
+#[test]
+fn files_in_memory_keep_what_is_saved(rt: HostRuntime) -> Result<(), Fail> {
+    let alloc = rt.alloc();
+    let entries = vec![in alloc; entry(alloc, "m", b"abc")?, entry(alloc, "n", b"d")?]?;
+    assert!(rt; have_distinct_names(&entries));
+    let mut files = MemFiles::new(alloc, entries, vec![in alloc; 2]?);
+    save(&mut files, "m", b"ef")?;
+    save(&mut files, "o", b"")?;
+    assert_eq!(rt; save(&mut files, "n", b"g"), Err(SaveFault::Failed));
+    assert_eq!(rt; load(&mut files, "m", 3)?.as_slice(), b"ef".as_slice());
+    assert_eq!(rt; load(&mut files, "o", 3)?.len(), 0);
+    assert_eq!(rt; load(&mut files, "n", 3).err(), Some(LoadFault::NotThere));
     assert_eq!(rt; files.contents().len(), 2);
     Ok(())
 }
@@ -67,6 +88,19 @@ fn the_disk_gives_what_was_written(rt: HostRuntime) -> Result<(), Fail> {
         assert_eq!(rt; load(&mut files, name, most).err(), Some(want), "at {name}");
     }
     fs::remove_file(&rt, "file")?;
+    Ok(())
+}
+
+// The second save is shorter than the first one. A directory is no file that could be made.
+#[test]
+fn the_disk_keeps_what_is_saved(rt: HostRuntime) -> Result<(), Fail> {
+    let mut files = DiskFiles::new(rt.alloc(), &rt);
+    for bytes in [b"a longer text".as_slice(), b"short".as_slice()] {
+        save(&mut files, "saved", bytes)?;
+        assert_eq!(rt; load(&mut files, "saved", 99)?.as_slice(), bytes);
+    }
+    assert_eq!(rt; save(&mut files, ".", b"ab"), Err(SaveFault::Failed));
+    fs::remove_file(&rt, "saved")?;
     Ok(())
 }
 

@@ -90,7 +90,7 @@ pub told_fault : (w : Work) (name : List ℕ) (contents : Option Contents) (befo
 told_fault w name contents before after f Failed from counts more there lacks told =
     subst (Foresees (Do w) contents before after) (sym told) (record { name = name; loads = inl (subst (λ source. IsSourceName source name) (sym from) refl); came = counts })
 told_fault w name contents before after f NotThere from counts more there lacks told =
-    subst (Foresees (Do w) contents before after) (sym told) (record { name = name; loads = inl (subst (λ source. IsSourceName source name) (sym from) refl); came = (counts.0, counts.1, lacks refl) })
+    subst (Foresees (Do w) contents before after) (sym told) (record { name = name; loads = inl (subst (λ source. IsSourceName source name) (sym from) refl); came = (counts.0, counts.1, lacks refl, counts.2) })
 told_fault w name contents before after f (TooLong taken) from counts more there lacks told = long_answer w name contents before after taken f from counts (more taken refl) (there taken refl) told
 told_fault w name contents before after f Memory from counts more there lacks told = absurd told
 
