@@ -30,10 +30,10 @@ module _ {Line Text X Y : Type 0} (text : Line → Text) (Good : Line → Type 0
   abbrev lines : X ⊎ Y → List Line
   lines = lines_of_either lines_x lines_y
 
-  first_begins : (texts : List Text) → Begins text Good FitsX lines_x texts → Begins text Good Fits lines texts
+  pub first_begins : (texts : List Text) → Begins text Good FitsX lines_x texts → Begins text Good Fits lines texts
   first_begins texts b = record { part = inl b.part; fits = b.fits; front = b.front; rest = b.rest; whole = b.whole; texts_are = b.texts_are; good = b.good }
 
-  last_begins : (texts : List Text) → Begins text Good FitsY lines_y texts → Begins text Good Fits lines texts
+  pub last_begins : (texts : List Text) → Begins text Good FitsY lines_y texts → Begins text Good Fits lines texts
   last_begins texts b = record { part = inr b.part; fits = b.fits; front = b.front; rest = b.rest; whole = b.whole; texts_are = b.texts_are; good = b.good }
 
   pub one_of : (texts : List Text) → GoesOn text Good Fits lines texts → GoesOn text Good FitsX lines_x texts ⊎ GoesOn text Good FitsY lines_y texts

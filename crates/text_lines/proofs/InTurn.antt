@@ -1,5 +1,5 @@
 -- A part and one behind it are read in turn.
-use Rattle.std.proofs.Common.{◌≡◌, ℕ, zero, suc, ◌+◌, ◌≤◌, List, [], ◌∷◌, ◌++◌, length, map, take, refl, sym, ◌∙◌, ap, subst, arith, append_assoc, length-append}
+use Rattle.std.proofs.Common.{◌≡◌, ℕ, zero, suc, ◌+◌, ◌≤◌, List, [], ◌∷◌, ◌++◌, length, map, take, refl, sym, ◌∙◌, ap, subst, arith, append_assoc, append-nil, length-append}
 use Rattle.std.specs.Prelude.{All}
 use Rattle.std.proofs.lemmas.List.{map-append, length-map}
 use Rattle.std.proofs.lemmas.List.Elements.{All-append}
@@ -34,10 +34,42 @@ take_over [] ys n k e = ap (λ i. take i ys) (omega (arith, e))
 take_over (x ∷ xs) ys zero k e = absurd (omega (arith, e))
 take_over (x ∷ xs) ys (suc n) k e = ap (λ zs. x ∷ zs) (take_over xs ys n k (omega (arith, e)))
 
+-- the lines of a part are among so many that reach past them
+pub take_past : {Line Text : Type 0} (text : Line → Text) (ls : List Line) (texts us : List Text) → texts ≡ map text ls ++ us → (n k : ℕ) → n ≡ length ls + k → take n texts ≡ map text ls ++ take k us
+take_past text ls texts us is n k e = ap (take n) is ∙ take_over (map text ls) us n k (omega (arith, e, length-map ls text))
+
 take_short : {A : Type 0} (xs ys : List A) (n : ℕ) → n ≤ length xs → take n (xs ++ ys) ≡ take n xs
 take_short xs ys zero le = refl
 take_short [] ys (suc n) le = absurd (omega (arith, le))
 take_short (x ∷ xs) ys (suc n) le = ap (λ zs. x ∷ zs) (take_short xs ys n (omega (arith, le)))
+
+-- ---- beginnings, with given lines behind the part
+
+module _ {Line Text : Type 0} (text : Line → Text) (Good : Line → Type 0) {X : Type 0} (Fits : X → Type 0) (lines : X → List Line) where
+  record IsFront (more : List Line) (texts : List Text) : Type 0 where
+    pub part : X
+    pub fits : Fits part
+    pub front : List Line
+    pub rest : List Line
+    pub whole : lines part ++ more ≡ front ++ rest
+    pub texts_are : map text front ≡ texts
+    pub good : All Good front
+
+  goes_on_front : (texts : List Text) (g : GoesOn text Good Fits lines texts) → IsFront g.more texts
+  goes_on_front texts g = record { part = g.part; fits = g.fits; front = g.front; rest = g.rest; whole = g.whole; texts_are = g.texts_are; good = g.good }
+
+  front_goes_on : (more : List Line) (texts : List Text) → IsFront more texts → GoesOn text Good Fits lines texts
+  front_goes_on more texts g = record { part = g.part; fits = g.fits; more = more; front = g.front; rest = g.rest; whole = g.whole; texts_are = g.texts_are; good = g.good }
+
+  begins_front : (texts : List Text) → Begins text Good Fits lines texts → IsFront [] texts
+  begins_front texts b = record { part = b.part; fits = b.fits; front = b.front; rest = b.rest; whole = append-nil (lines b.part) ∙ b.whole; texts_are = b.texts_are; good = b.good }
+
+  front_begins : (texts : List Text) → IsFront [] texts → Begins text Good Fits lines texts
+  front_begins texts b = record { part = b.part; fits = b.fits; front = b.front; rest = b.rest; whole = sym (append-nil (lines b.part)) ∙ b.whole; texts_are = b.texts_are; good = b.good }
+
+  -- what begins a part goes on in one
+  pub begins_goes_on : (texts : List Text) → Begins text Good Fits lines texts → GoesOn text Good Fits lines texts
+  begins_goes_on texts b = front_goes_on [] texts (begins_front texts b)
 
 module _ {Line Text X Y : Type 0} (text : Line → Text) (Good : Line → Type 0) (FitsX : X → Type 0) (lines_x : X → List Line) (FitsY : X → Y → Type 0) (lines_y : X → Y → List Line) where
   abbrev Fits : X × Y → Type 0
@@ -75,7 +107,7 @@ module _ {Line Text X Y : Type 0} (text : Line → Text) (Good : Line → Type 0
   }
 
   -- what begins a first part begins both
-  first_begins : HasLast → (texts : List Text) → Begins text Good FitsX lines_x texts → Begins text Good Fits lines texts
+  pub first_begins : HasLast → (texts : List Text) → Begins text Good FitsX lines_x texts → Begins text Good Fits lines texts
   first_begins has texts b =
       let y = has b.part b.fits in
       record {
@@ -89,7 +121,7 @@ module _ {Line Text X Y : Type 0} (text : Line → Text) (Good : Line → Type 0
       }
 
   -- and what begins a last one, behind its first one
-  last_begins : (x : X) (texts us vs : List Text) → IsRead text Good FitsX lines_x x texts us → Begins text Good (FitsY x) (lines_y x) vs → Begins text Good Fits lines (map text (lines_x x) ++ vs)
+  pub last_begins : (x : X) (texts us vs : List Text) → IsRead text Good FitsX lines_x x texts us → Begins text Good (FitsY x) (lines_y x) vs → Begins text Good Fits lines (map text (lines_x x) ++ vs)
   last_begins x texts us vs p b = record {
     part = (x, b.part);
     fits = (p.fits, b.fits);
@@ -126,10 +158,11 @@ module _ {Line Text X Y : Type 0} (text : Line → Text) (Good : Line → Type 0
   -- the first part is the one that was read, where any goes on behind its lines
   module _ (known : AreKnown text Good FitsX lines_x) (x : X) (texts us : List Text) (p : IsRead text Good FitsX lines_x x texts us) where
     take_behind : (n k : ℕ) → n ≡ length (lines_x x) + k → take n texts ≡ map text (lines_x x) ++ take k us
-    take_behind n k e = ap (take n) p.texts_are ∙ take_over (map text (lines_x x)) us n k (omega (arith, e, length-map (lines_x x) text))
+    take_behind = take_past text (lines_x x) texts us p.texts_are
 
-    last_goes_on : (j : ℕ) → GoesOn text Good Fits lines (take (length (lines_x x) + j) texts) → GoesOn text Good (FitsY x) (lines_y x) (take j us)
-    last_goes_on j g = go g.part.0 same g.part.1 g.fits.1 g.whole
+    -- what begins both, with these lines behind them, begins the last one with the same lines behind it
+    last_front : (more : List Line) (j : ℕ) → IsFront text Good Fits lines more (take (length (lines_x x) + j) texts) → IsFront text Good (FitsY x) (lines_y x) more (take j us)
+    last_front more j g = go g.part.0 same g.part.1 g.fits.1 g.whole
       where
         texts_are : map text g.front ≡ map text (lines_x x) ++ take j us
         texts_are = g.texts_are ∙ take_behind (length (lines_x x) + j) j (omega arith)
@@ -137,23 +170,22 @@ module _ {Line Text X Y : Type 0} (text : Line → Text) (Good : Line → Type 0
         long : length (lines_x x) ≤ length g.front
         long = omega (arith, ap length texts_are, length-append (map text (lines_x x)) (take j us), length-map g.front text, length-map (lines_x x) text)
 
-        all_texts : map text (lines_x g.part.0) ++ (map text (lines_y g.part.0 g.part.1) ++ map text g.more) ≡ map text (lines_x x) ++ (take j us ++ map text g.rest)
+        all_texts : map text (lines_x g.part.0) ++ (map text (lines_y g.part.0 g.part.1) ++ map text more) ≡ map text (lines_x x) ++ (take j us ++ map text g.rest)
         all_texts =
-            sym (append_assoc (map text (lines_x g.part.0)) (map text (lines_y g.part.0 g.part.1)) (map text g.more))
-            ∙ ap (λ t. t ++ map text g.more) (sym (map-append text (lines_x g.part.0) (lines_y g.part.0 g.part.1)))
-            ∙ sym (map-append text (lines g.part) g.more) ∙ ap (map text) g.whole ∙ map-append text g.front g.rest
+            sym (append_assoc (map text (lines_x g.part.0)) (map text (lines_y g.part.0 g.part.1)) (map text more))
+            ∙ ap (λ t. t ++ map text more) (sym (map-append text (lines_x g.part.0) (lines_y g.part.0 g.part.1)))
+            ∙ sym (map-append text (lines g.part) more) ∙ ap (map text) g.whole ∙ map-append text g.front g.rest
             ∙ ap (λ t. t ++ map text g.rest) texts_are ∙ append_assoc (map text (lines_x x)) (take j us) (map text g.rest)
 
         same : g.part.0 ≡ x
-        same = known g.part.0 x g.fits.0 p.fits (map text (lines_y g.part.0 g.part.1) ++ map text g.more) (take j us ++ map text g.rest) all_texts
+        same = known g.part.0 x g.fits.0 p.fits (map text (lines_y g.part.0 g.part.1) ++ map text more) (take j us ++ map text g.rest) all_texts
 
-        found : (y : Y) → FitsY x y → (lines_x x ++ lines_y x y) ++ g.more ≡ g.front ++ g.rest → GoesOn text Good (FitsY x) (lines_y x) (take j us)
+        found : (y : Y) → FitsY x y → (lines_x x ++ lines_y x y) ++ more ≡ g.front ++ g.rest → IsFront text Good (FitsY x) (lines_y x) more (take j us)
         found y fits whole =
-            let l = longer (lines_x x) (lines_y x y ++ g.more) g.front g.rest (sym (append_assoc (lines_x x) (lines_y x y) g.more) ∙ whole) long in
+            let l = longer (lines_x x) (lines_y x y ++ more) g.front g.rest (sym (append_assoc (lines_x x) (lines_y x y) more) ∙ whole) long in
             record {
               part = y;
               fits = fits;
-              more = g.more;
               front = l.others;
               rest = g.rest;
               whole = l.left;
@@ -161,8 +193,15 @@ module _ {Line Text X Y : Type 0} (text : Line → Text) (Good : Line → Type 0
               good = all_right Good (lines_x x) l.others (subst (All Good) l.whole g.good);
             }
 
-        go : (z : X) → z ≡ x → (y : Y) → FitsY z y → (lines_x z ++ lines_y z y) ++ g.more ≡ g.front ++ g.rest → GoesOn text Good (FitsY x) (lines_y x) (take j us)
-        go z e = subst (λ z. (y : Y) → FitsY z y → (lines_x z ++ lines_y z y) ++ g.more ≡ g.front ++ g.rest → GoesOn text Good (FitsY x) (lines_y x) (take j us)) (sym e) found
+        go : (z : X) → z ≡ x → (y : Y) → FitsY z y → (lines_x z ++ lines_y z y) ++ more ≡ g.front ++ g.rest → IsFront text Good (FitsY x) (lines_y x) more (take j us)
+        go z e = subst (λ z. (y : Y) → FitsY z y → (lines_x z ++ lines_y z y) ++ more ≡ g.front ++ g.rest → IsFront text Good (FitsY x) (lines_y x) more (take j us)) (sym e) found
+
+    last_goes_on : (j : ℕ) → GoesOn text Good Fits lines (take (length (lines_x x) + j) texts) → GoesOn text Good (FitsY x) (lines_y x) (take j us)
+    last_goes_on j g = front_goes_on text Good (FitsY x) (lines_y x) g.more (take j us) (last_front g.more j (goes_on_front text Good Fits lines (take (length (lines_x x) + j) texts) g))
+
+    -- without any lines behind
+    pub last_begins_back : (j : ℕ) → Begins text Good Fits lines (take (length (lines_x x) + j) texts) → Begins text Good (FitsY x) (lines_y x) (take j us)
+    last_begins_back j b = front_begins text Good (FitsY x) (lines_y x) (take j us) (last_front [] j (begins_front text Good Fits lines (take (length (lines_x x) + j) texts) b))
 
     pub last_stops : (j : ℕ) → StopsAt text Good (FitsY x) (lines_y x) us j → StopsAt text Good Fits lines texts (length (lines_x x) + j)
     last_stops j s = record {

@@ -10,3 +10,11 @@ pub mod Cuts
 pub mod Spaced
 pub mod Numerals
 pub mod Places
+pub mod Carried
+pub mod FoundLine
+pub mod FoundInTurn
+pub mod FoundChoice
+pub mod FoundMany
+pub mod FoundUntil
+pub mod FoundRenamed
+pub mod FoundText

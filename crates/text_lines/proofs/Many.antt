@@ -5,7 +5,7 @@ use Rattle.std.proofs.lemmas.List.{map-append}
 use Rattle.std.proofs.lemmas.List.Elements.{All-nil, All-append}
 use Rattle.text_lines.specs.Formats.{Begins, GoesOn, IsRead, StopsAt, Ends, AreKnown, FitBoth, FitMany, lines_of_both, lines_of_many}
 use Rattle.text_lines.proofs.Lists.{all_left, all_right}
-use Rattle.text_lines.proofs.InTurn.{both_known, both_read, first_stops, first_ends, last_stops, last_ends}
+use Rattle.text_lines.proofs.InTurn.{take_past, both_known, both_read, first_stops, first_ends, last_stops, last_ends}
 
 module _ {Line Text X : Type 0} (text : Line → Text) (Good : Line → Type 0) (Fits : List X → X → Type 0) (lines : List X → X → List Line) where
   abbrev Many : ℕ → List X → List X → Type 0
@@ -112,7 +112,7 @@ module _ {Line Text X : Type 0} (text : Line → Text) (Good : Line → Type 0) 
   joined_fits (suc i) n (suc all) earlier (x ∷ xs) ys e p q =
       (p.0, joined_fits i n all (earlier ++ x ∷ []) xs ys (omega (arith, e)) p.1 (subst (λ es. Many n es ys) (sym (append_assoc earlier (x ∷ []) xs)) q))
 
-  joined_lines : (earlier xs ys : List X) → many_lines earlier (xs ++ ys) ≡ many_lines earlier xs ++ many_lines (earlier ++ xs) ys
+  pub joined_lines : (earlier xs ys : List X) → many_lines earlier (xs ++ ys) ≡ many_lines earlier xs ++ many_lines (earlier ++ xs) ys
   joined_lines earlier [] ys = ap (λ es. many_lines es ys) (sym (append-nil earlier))
   joined_lines earlier (x ∷ xs) ys =
       ap (λ ls. lines earlier x ++ ls) (joined_lines (earlier ++ x ∷ []) xs ys ∙ ap (λ es. many_lines (earlier ++ x ∷ []) xs ++ many_lines es ys) (append_assoc earlier (x ∷ []) xs))
@@ -190,3 +190,21 @@ module _ {Line Text X : Type 0} (text : Line → Text) (Good : Line → Type 0) 
 
       pub ends_at_next : Ends text Good (Fits (earlier ++ xs)) (lines (earlier ++ xs)) us → Ends text Good (Many all earlier) (many_lines earlier) texts
       ends_at_next s = many_ends i (suc (all - i - 1)) all earlier xs texts us (omega (arith, lt)) p (next_ends (all - i - 1) (earlier ++ xs) has us s)
+
+      -- what begins the next one begins all, behind those that were read
+      pub begins_at_next : (k n : ℕ) → n ≡ length (many_lines earlier xs) + k → Begins text Good (Fits (earlier ++ xs)) (lines (earlier ++ xs)) (take k us)
+          → Begins text Good (Many all earlier) (many_lines earlier) (take n texts)
+      begins_at_next k n e b =
+          let others = some_many has (all - i - 1) ((earlier ++ xs) ++ b.part ∷ []) in
+          record {
+            part = xs ++ b.part ∷ others.0;
+            fits = joined_fits i (suc (all - i - 1)) all earlier xs (b.part ∷ others.0) (omega (arith, lt)) p.fits (b.fits, others.1);
+            front = many_lines earlier xs ++ b.front;
+            rest = b.rest ++ many_lines ((earlier ++ xs) ++ b.part ∷ []) others.0;
+            whole = joined_lines earlier xs (b.part ∷ others.0)
+                ∙ ap (λ ls. many_lines earlier xs ++ ls)
+                (ap (λ ls. ls ++ many_lines ((earlier ++ xs) ++ b.part ∷ []) others.0) b.whole ∙ append_assoc b.front b.rest (many_lines ((earlier ++ xs) ++ b.part ∷ []) others.0))
+                ∙ sym (append_assoc (many_lines earlier xs) b.front (b.rest ++ many_lines ((earlier ++ xs) ++ b.part ∷ []) others.0));
+            texts_are = map-append text (many_lines earlier xs) b.front ∙ ap (λ t. map text (many_lines earlier xs) ++ t) b.texts_are ∙ sym (take_past text (many_lines earlier xs) texts us p.texts_are n k e);
+            good = All-append Good (many_lines earlier xs) b.front p.good b.good;
+          }

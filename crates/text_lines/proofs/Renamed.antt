@@ -6,7 +6,7 @@ use Rattle.text_lines.specs.Formats.{Begins, GoesOn, IsRead, StopsAt, Ends, AreK
 module _ {Line Text X Z : Type 0} (text : Line → Text) (Good : Line → Type 0) (FitsX : X → Type 0) (lines_x : X → List Line) (FitsZ : Z → Type 0) (lines_z : Z → List Line)
     (to : X → Z) (from : Z → X) (same_lines : (x : X) → lines_z (to x) ≡ lines_x x) (fits : (x : X) → FitsX x → FitsZ (to x))
     (lines_back : (z : Z) → lines_x (from z) ≡ lines_z z) (fits_back : (z : Z) → FitsZ z → FitsX (from z)) where
-  begins_so : (texts : List Text) → Begins text Good FitsX lines_x texts → Begins text Good FitsZ lines_z texts
+  pub begins_so : (texts : List Text) → Begins text Good FitsX lines_x texts → Begins text Good FitsZ lines_z texts
   begins_so texts b = record { part = to b.part; fits = fits b.part b.fits; front = b.front; rest = b.rest; whole = same_lines b.part ∙ b.whole; texts_are = b.texts_are; good = b.good }
 
   goes_back : (texts : List Text) → GoesOn text Good FitsZ lines_z texts → GoesOn text Good FitsX lines_x texts

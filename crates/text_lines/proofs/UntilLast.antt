@@ -1,8 +1,8 @@
 -- Any number of parts in a row, and a closing part behind them. The first line of each tells which it is.
-use Rattle.std.proofs.Common.{◌≡◌, ◌⊎◌, inl, inr, ℕ, ◌+◌, List, [], ◌∷◌, ◌++◌, length, map, refl, sym, ◌∙◌, ap, subst, arith, append_assoc, append-nil, length-append}
+use Rattle.std.proofs.Common.{◌≡◌, ◌⊎◌, inl, inr, ℕ, ◌+◌, List, [], ◌∷◌, ◌++◌, length, map, take, refl, sym, ◌∙◌, ap, subst, arith, append_assoc, append-nil, length-append}
 use Rattle.std.proofs.lemmas.List.{map-append}
-use Rattle.std.proofs.lemmas.List.Elements.{All-nil}
-use Rattle.text_lines.specs.Formats.{GoesOn, IsRead, StopsAt, Ends, AreKnown, FitBoth, FitEither, FitEach, FitUntil, lines_of_both, lines_of_either, lines_of_many, lines_until}
+use Rattle.std.proofs.lemmas.List.Elements.{All-nil, All-append}
+use Rattle.text_lines.specs.Formats.{Begins, GoesOn, IsRead, StopsAt, Ends, AreKnown, FitBoth, FitEither, FitEach, FitUntil, lines_of_both, lines_of_either, lines_of_many, lines_until}
 use Rattle.text_lines.proofs.Lists.{all_left, all_right, First, first_of}
 use Rattle.text_lines.proofs.InTurn as turn
 use Rattle.text_lines.proofs.Choice as choice
@@ -22,12 +22,12 @@ module _ {Line Text X : Type 0} (text : Line → Text) (Good : Line → Type 0) 
   none_read earlier texts = record { fits = tt; good = All-nil Good; texts_are = refl }
 
   -- the first of those that were read, and the others
-  record Split (earlier : List X) (x : X) (xs : List X) (texts us : List Text) : Type 0 where
+  pub record Split (earlier : List X) (x : X) (xs : List X) (texts us : List Text) : Type 0 where
     pub middle : List Text
     pub first : IsRead text Good (Fits earlier) (lines earlier) x texts middle
     pub others : IsRead text Good (Each (earlier ++ x ∷ [])) (each_lines (earlier ++ x ∷ [])) xs middle us
 
-  split : (earlier : List X) (x : X) (xs : List X) (texts us : List Text) → IsRead text Good (Each earlier) (each_lines earlier) (x ∷ xs) texts us → Split earlier x xs texts us
+  pub split : (earlier : List X) (x : X) (xs : List X) (texts us : List Text) → IsRead text Good (Each earlier) (each_lines earlier) (x ∷ xs) texts us → Split earlier x xs texts us
   split earlier x xs texts us p = record {
     middle = map text (each_lines (earlier ++ x ∷ []) xs) ++ us;
     first = record {
@@ -56,6 +56,13 @@ module _ {Line Text X : Type 0} (text : Line → Text) (Good : Line → Type 0) 
       let c = split earlier x xs texts us p in
       joined earlier x (xs ++ y ∷ []) texts c.middle vs c.first
       (one_more (earlier ++ x ∷ []) xs y c.middle us vs c.others (subst (λ es. IsRead text Good (Fits es) (lines es) y us vs) (sym (append_assoc earlier (x ∷ []) xs)) q))
+
+  -- the lines of more
+  pub more_lines : (earlier xs ys : List X) → each_lines earlier (xs ++ ys) ≡ each_lines earlier xs ++ each_lines (earlier ++ xs) ys
+  more_lines earlier [] ys = ap (λ es. each_lines es ys) (sym (append-nil earlier))
+  more_lines earlier (x ∷ xs) ys =
+      ap (λ ls. lines earlier x ++ ls) (more_lines (earlier ++ x ∷ []) xs ys ∙ ap (λ es. each_lines (earlier ++ x ∷ []) xs ++ each_lines es ys) (append_assoc earlier (x ∷ []) xs))
+      ∙ sym (append_assoc (lines earlier x) (each_lines (earlier ++ x ∷ []) xs) (each_lines (earlier ++ x ∷ xs) ys))
 
   -- ---- and a closing part
 
@@ -153,6 +160,55 @@ module _ {Line Text X : Type 0} (text : Line → Text) (Good : Line → Type 0) 
         let rest = whole_read (earlier ++ x ∷ []) xs y c.middle us vs c.others (subst (λ es. IsRead text Good (FitsY es) (lines_y es) y us vs) (sym (append_assoc earlier (x ∷ []) xs)) q) in
         let b = turn.both_read text Good (Fits earlier) (lines earlier) (FitsRest earlier) (rest_lines earlier) x (xs, y) texts c.middle vs c.first rest in
         record { fits = b.fits; good = b.good; texts_are = b.texts_are }
+
+    -- ---- what begins
+
+    joined_fits : (earlier xs ys : List X) (y : Y) → Each earlier xs → FitsWhole (earlier ++ xs) (ys, y) → FitsWhole earlier (xs ++ ys, y)
+    joined_fits earlier [] ys y p q = subst (λ es. FitsWhole es (ys, y)) (append-nil earlier) q
+    joined_fits earlier (x ∷ xs) ys y p q = (p.0, joined_fits (earlier ++ x ∷ []) xs ys y p.1 (subst (λ es. FitsWhole es (ys, y)) (sym (append_assoc earlier (x ∷ []) xs)) q))
+
+    joined_lines : (earlier xs ys : List X) (y : Y) → whole_lines earlier (xs ++ ys, y) ≡ each_lines earlier xs ++ whole_lines (earlier ++ xs) (ys, y)
+    joined_lines earlier [] ys y = ap (λ es. whole_lines es (ys, y)) (sym (append-nil earlier))
+    joined_lines earlier (x ∷ xs) ys y =
+        ap (λ ls. lines earlier x ++ ls)
+        (joined_lines (earlier ++ x ∷ []) xs ys y ∙ ap (λ es. each_lines (earlier ++ x ∷ []) xs ++ whole_lines es (ys, y)) (append_assoc earlier (x ∷ []) xs))
+        ∙ sym (append_assoc (lines earlier x) (each_lines (earlier ++ x ∷ []) xs) (whole_lines (earlier ++ x ∷ xs) (ys, y)))
+
+    -- the lines of those that were read, and those of the closing part
+    pub last_lines : (earlier xs : List X) (y : Y) → whole_lines earlier (xs, y) ≡ each_lines earlier xs ++ lines_y (earlier ++ xs) y
+    last_lines earlier xs y = ap (λ zs. whole_lines earlier (zs, y)) (sym (append-nil xs)) ∙ joined_lines earlier xs [] y
+
+    -- what begins the rest begins the whole, behind those that were read
+    module _ (earlier xs : List X) (texts us : List Text) (p : IsRead text Good (Each earlier) (each_lines earlier) xs texts us) (k n : ℕ) (at : n ≡ length (each_lines earlier xs) + k) where
+      rest_begins : Begins text Good (FitsWhole (earlier ++ xs)) (whole_lines (earlier ++ xs)) (take k us) → Begins text Good (FitsWhole earlier) (whole_lines earlier) (take n texts)
+      rest_begins b = record {
+        part = (xs ++ b.part.0, b.part.1);
+        fits = joined_fits earlier xs b.part.0 b.part.1 p.fits b.fits;
+        front = each_lines earlier xs ++ b.front;
+        rest = b.rest;
+        whole = joined_lines earlier xs b.part.0 b.part.1 ∙ ap (λ ls. each_lines earlier xs ++ ls) b.whole ∙ sym (append_assoc (each_lines earlier xs) b.front b.rest);
+        texts_are = map-append text (each_lines earlier xs) b.front ∙ ap (λ t. map text (each_lines earlier xs) ++ t) b.texts_are ∙ sym (turn.take_past text (each_lines earlier xs) texts us p.texts_are n k at);
+        good = All-append Good (each_lines earlier xs) b.front p.good b.good;
+      }
+
+      -- the next part does
+      pub part_begins : HasLast → Begins text Good (Fits (earlier ++ xs)) (lines (earlier ++ xs)) (take k us) → Begins text Good (FitsWhole earlier) (whole_lines earlier) (take n texts)
+      part_begins has b =
+          let y = has ((earlier ++ xs) ++ b.part ∷ []) in
+          rest_begins (record {
+            part = (b.part ∷ [], y.0);
+            fits = (b.fits, y.1);
+            front = b.front;
+            rest = b.rest ++ lines_y ((earlier ++ xs) ++ b.part ∷ []) y.0;
+            whole = ap (λ ls. ls ++ lines_y ((earlier ++ xs) ++ b.part ∷ []) y.0) b.whole ∙ append_assoc b.front b.rest (lines_y ((earlier ++ xs) ++ b.part ∷ []) y.0);
+            texts_are = b.texts_are;
+            good = b.good;
+          })
+
+      -- and the closing part
+      pub last_begins : Begins text Good (FitsY (earlier ++ xs)) (lines_y (earlier ++ xs)) (take k us) → Begins text Good (FitsWhole earlier) (whole_lines earlier) (take n texts)
+      last_begins b =
+          rest_begins (record { part = ([], b.part); fits = b.fits; front = b.front; rest = b.rest; whole = b.whole; texts_are = b.texts_are; good = b.good })
 
     -- ---- what is known
 

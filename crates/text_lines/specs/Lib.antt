@@ -1,4 +1,6 @@
 pub mod Formats
+pub mod Found
+pub mod WholeText
 pub mod WholeLines
 pub mod Cursor
 pub mod Halves

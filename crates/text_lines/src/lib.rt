@@ -2,6 +2,7 @@
 #![tactic(auto)]
 
 pub mod cursor;
+pub mod faults;
 mod halves;
 pub mod numbers;
 pub mod words;
