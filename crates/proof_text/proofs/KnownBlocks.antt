@@ -117,7 +117,7 @@ module _ (m : System) (few : IsSmall (constraint_count m)) (states : StatesAreKn
       let z = end_known a.at b.at p.at_state q.at_state u v l.1 in
       ((λ i. record { claim = c i; free = f.0 i; nonfair = h.0 i; fair = k.0 i; entries = l.0 i; at = z.0 i }), z.1)
 
-  block_known : (a b : Block) → a.first ≡ b.first → FitsBlock m a → FitsBlock m b → (u v : Lines) → words (block_lines m a) ++ u ≡ words (block_lines m b) ++ v → AreSame a b u v
+  pub block_known : (a b : Block) → a.first ≡ b.first → FitsBlock m a → FitsBlock m b → (u v : Lines) → words (block_lines m a) ++ u ≡ words (block_lines m b) ++ v → AreSame a b u v
   block_known a b first p q u v e =
       let spec_text : decimal a.spec ≡ decimal b.spec = cc in
       let claim_text : claim_word a.proof.claim ≡ claim_word b.proof.claim = cc in

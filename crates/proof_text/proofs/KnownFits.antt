@@ -66,15 +66,15 @@ unmapped : {A B : Type 0} (f : A → B) (P : B → Type 0) (xs : List A) → All
 unmapped f P [] p = All-nil (λ x. P (f x))
 unmapped f P (x ∷ xs) p = All-cons (λ x. P (f x)) x xs (All-head P (f x) (map f xs) p) (unmapped f P xs (All-tail P (f x) (map f xs) p))
 
-each_part : {A : Type 0} (P : ℕ → Type 0) (f : A → List ℕ) (xs : List A) → All P (flat_map f xs) → All (λ x. All P (f x)) xs
+pub each_part : {A : Type 0} (P : ℕ → Type 0) (f : A → List ℕ) (xs : List A) → All P (flat_map f xs) → All (λ x. All P (f x)) xs
 each_part P f [] p = All-nil (λ x. All P (f x))
 each_part P f (x ∷ xs) p = All-cons (λ x. All P (f x)) x xs (all_left P (f x) (flat_map f xs) p) (each_part P f xs (all_right P (f x) (flat_map f xs) p))
 
 -- few nodes
-abbrev IsFew : Condition → Type 0
+abbrev pub IsFew : Condition → Type 0
 IsFew c = node_count (formula_of c.expr) ≤ 200000
 
-few_in : (m : System) → IsFlat m → All IsFew m.constraints × All IsFew m.specs
+pub few_in : (m : System) → IsFlat m → All IsFew m.constraints × All IsFew m.specs
 few_in m flat =
     let all : All (λ e. size.node_count e ≤ node_total m) (expressions m) = λ i d lt. get_or-le-sum_by size.node_count (expressions m) i d lt in
     let conditions : List Condition = m.inits ++ m.invars ++ m.trans ++ m.constraints ++ m.specs in
@@ -86,13 +86,13 @@ few_in m flat =
 
 -- ---- what is found at a place
 
-record Found {A B : Type 0} (xs : List A) (f : A → B) (P : A → Type 0) (Q : B → Type 0) (j : ℕ) : Type 0 where
+pub record Found {A B : Type 0} (xs : List A) (f : A → B) (P : A → Type 0) (Q : B → Type 0) (j : ℕ) : Type 0 where
   pub item : A
   pub holds : P item
   pub shown : Q (f item)
   pub below : j < length xs
 
-found : {A B : Type 0} (xs : List A) (f : A → B) (P : A → Type 0) (Q : B → Type 0) (j : ℕ) → All P xs → IsSomeAnd (option_map f (slice_get xs j)) Q → Found xs f P Q j
+pub found : {A B : Type 0} (xs : List A) (f : A → B) (P : A → Type 0) (Q : B → Type 0) (j : ℕ) → All P xs → IsSomeAnd (option_map f (slice_get xs j)) Q → Found xs f P Q j
 found [] f P Q j p h = absurd h
 found (x ∷ xs) f P Q zero p h = record { item = x; holds = All-head P x xs p; shown = h; below = omega arith }
 found (x ∷ xs) f P Q (suc j) p h =
@@ -125,7 +125,7 @@ entries_fit count f few (e ∷ es) rules lengths sets fits =
     (All-tail (λ (e : Entry ℕ). FitsConstraints count e.rule) e es fits))
 
 module _ (m : System) (flat : IsFlat m) where
-  free_entry_fits : (e : FreeEntry ℕ) → HasConstraintRule m e → All IsSmall (rule_lengths e.entry.rule) → All IsSmall (rule_sets e.entry.rule) → FitsConstraints 1 e.entry.rule → FitsFreeEntry e
+  pub free_entry_fits : (e : FreeEntry ℕ) → HasConstraintRule m e → All IsSmall (rule_lengths e.entry.rule) → All IsSmall (rule_sets e.entry.rule) → FitsConstraints 1 e.entry.rule → FitsFreeEntry e
   free_entry_fits e rule lengths sets fits = go e.constraint refl rule
     where
       go : (k : ℕ) → e.constraint ≡ k → IsSomeAnd (constraint_formula m k) (λ f. HasRule f e.entry) → FitsFreeEntry e

@@ -111,7 +111,7 @@ module _ (count : ℕ) (few : IsSmall count) where
 
 -- ---- entries
 
-sign_known : (a b : Bool) → sign_word a ≡ sign_word b → a ≡ b
+pub sign_known : (a b : Bool) → sign_word a ≡ sign_word b → a ≡ b
 sign_known true true e = refl
 sign_known true false e = absurd (omega (arith, same_first 43 45 [] [] e))
 sign_known false true e = absurd (omega (arith, same_first 45 43 [] [] e))

@@ -19,53 +19,53 @@ use Rattle.proof_text.proofs.PlainWords.{is_plain, are_plain, plain_decimal, pla
 abbrev pub ArePlain : List Line → Type 0
 ArePlain ls = All IsPlainLine ls
 
-number : (n : ℕ) → are_plain (decimal n ∷ []) ≡ true
+pub number : (n : ℕ) → are_plain (decimal n ∷ []) ≡ true
 number n = and_from (is_plain (decimal n)) true (plain_decimal n) refl
 
-number_and : (n : ℕ) (ws : List (List ℕ)) → are_plain ws ≡ true → are_plain (decimal n ∷ ws) ≡ true
+pub number_and : (n : ℕ) (ws : List (List ℕ)) → are_plain ws ≡ true → are_plain (decimal n ∷ ws) ≡ true
 number_and n ws p = and_from (is_plain (decimal n)) (are_plain ws) (plain_decimal n) p
 
-one : (l : Line) → IsPlainLine l → ArePlain (l ∷ [])
+pub one : (l : Line) → IsPlainLine l → ArePlain (l ∷ [])
 one l p = All-cons IsPlainLine l [] p (All-nil IsPlainLine)
 
-more : (l : Line) (ls : List Line) → IsPlainLine l → ArePlain ls → ArePlain (l ∷ ls)
+pub more : (l : Line) (ls : List Line) → IsPlainLine l → ArePlain ls → ArePlain (l ∷ ls)
 more l ls p q = All-cons IsPlainLine l ls p q
 
-joined : (xs ys : List Line) → ArePlain xs → ArePlain ys → ArePlain (xs ++ ys)
+pub joined : (xs ys : List Line) → ArePlain xs → ArePlain ys → ArePlain (xs ++ ys)
 joined xs ys p q = All-append IsPlainLine xs ys p q
 
 each : {A : Type 0} (lines : A → List Line) → ((a : A) → ArePlain (lines a)) → (xs : List A) → ArePlain (flat_map lines xs)
 each lines p [] = All-nil IsPlainLine
 each lines p (x ∷ xs) = joined (lines x) (flat_map lines xs) (p x) (each lines p xs)
 
-mapped : {A : Type 0} (line : A → Line) → ((a : A) → IsPlainLine (line a)) → (xs : List A) → ArePlain (map line xs)
+pub mapped : {A : Type 0} (line : A → Line) → ((a : A) → IsPlainLine (line a)) → (xs : List A) → ArePlain (map line xs)
 mapped line p [] = All-nil IsPlainLine
 mapped line p (x ∷ xs) = more (line x) (map line xs) (p x) (mapped line p xs)
 
-set_plain : (s : ℕ) → IsPlainLine (set_line s)
+pub set_plain : (s : ℕ) → IsPlainLine (set_line s)
 set_plain s = (number s, λ e. omega (arith, ap length e))
 
-layer_plain : (l : Layer ℕ) → IsPlainLine (layer_line l)
+pub layer_plain : (l : Layer ℕ) → IsPlainLine (layer_line l)
 layer_plain l = (number_and l.avoid (decimal l.set ∷ []) (number l.set), λ e. omega (arith, ap length e))
 
-reach_plain : (k : ℕ) (lists : List (List ℕ)) → ArePlain (reach_lines k lists)
+pub reach_plain : (k : ℕ) (lists : List (List ℕ)) → ArePlain (reach_lines k lists)
 reach_plain k [] = All-nil IsPlainLine
 reach_plain k (sets ∷ lists) =
     more (Words (codes "reach" ∷ decimal k ∷ decimal (length sets) ∷ [])) (map set_line sets ++ reach_lines (k + 1) lists)
     (number_and k (decimal (length sets) ∷ []) (number (length sets)), λ e. omega (arith, ap length e))
     (joined (map set_line sets) (reach_lines (k + 1) lists) (mapped set_line set_plain sets) (reach_plain (k + 1) lists))
 
-fair_plain : (p : FairPart ℕ) → ArePlain (fair_lines p)
+pub fair_plain : (p : FairPart ℕ) → ArePlain (fair_lines p)
 fair_plain p = more (Words (codes "fair" ∷ decimal p.inside ∷ [])) (reach_lines 1 p.reach) (number p.inside, λ e. omega (arith, ap length e)) (reach_plain 1 p.reach)
 
-nonfair_plain : (layers : List (Layer ℕ)) → ArePlain (nonfair_lines layers)
+pub nonfair_plain : (layers : List (Layer ℕ)) → ArePlain (nonfair_lines layers)
 nonfair_plain layers =
     more (counted (codes "nonfair") (length layers)) (map layer_line layers) (number (length layers), λ e. omega (arith, ap length e)) (mapped layer_line layer_plain layers)
 
-front_plain : (front ws : List (List ℕ)) → are_plain front ≡ true → are_plain ws ≡ true → 0 < length ws → IsPlainLine (Words (front ++ ws))
+pub front_plain : (front ws : List (List ℕ)) → are_plain front ≡ true → are_plain ws ≡ true → 0 < length ws → IsPlainLine (Words (front ++ ws))
 front_plain front ws p q some = (words_append front ws p q, λ e. omega (arith, some, ap length e, length-append front ws))
 
-rule_plain : (front : List (List ℕ)) → are_plain front ≡ true → (r : Rule ℕ) → ArePlain (rule_lines front r)
+pub rule_plain : (front : List (List ℕ)) → are_plain front ≡ true → (r : Rule ℕ) → ArePlain (rule_lines front r)
 rule_plain front p (EX set) = more (Words (front ++ codes "EX" ∷ [])) (set_line set ∷ []) (front_plain front (codes "EX" ∷ []) p refl (omega arith)) (one (set_line set) (set_plain set))
 rule_plain front p (AX set) = more (Words (front ++ codes "AX" ∷ [])) (set_line set ∷ []) (front_plain front (codes "AX" ∷ []) p refl (omega arith)) (one (set_line set) (set_plain set))
 rule_plain front p (AR set) = more (Words (front ++ codes "AR" ∷ [])) (set_line set ∷ []) (front_plain front (codes "AR" ∷ []) p refl (omega arith)) (one (set_line set) (set_plain set))
@@ -80,14 +80,14 @@ rule_plain front p (ER fair untils) =
     (joined (fair_lines fair) (counted (codes "until") (length untils) ∷ map set_line untils) (fair_plain fair)
     (more (counted (codes "until") (length untils)) (map set_line untils) (number (length untils), λ e. omega (arith, ap length e)) (mapped set_line set_plain untils)))
 
-sign_plain : (b : Bool) → are_plain (sign_word b ∷ []) ≡ true
+pub sign_plain : (b : Bool) → are_plain (sign_word b ∷ []) ≡ true
 sign_plain true = refl
 sign_plain false = refl
 
-entry_plain : (e : Entry ℕ) → ArePlain (entry_lines e)
+pub entry_plain : (e : Entry ℕ) → ArePlain (entry_lines e)
 entry_plain e = rule_plain (codes "entry" ∷ decimal e.node ∷ sign_word e.plus ∷ []) (number_and e.node (sign_word e.plus ∷ []) (sign_plain e.plus)) e.rule
 
-free_entry_plain : (e : FreeEntry ℕ) → ArePlain (free_entry_lines e)
+pub free_entry_plain : (e : FreeEntry ℕ) → ArePlain (free_entry_lines e)
 free_entry_plain e =
     rule_plain (codes "centry" ∷ decimal e.constraint ∷ decimal e.entry.node ∷ sign_word e.entry.plus ∷ [])
     (number_and e.constraint (decimal e.entry.node ∷ sign_word e.entry.plus ∷ []) (number_and e.entry.node (sign_word e.entry.plus ∷ []) (sign_plain e.entry.plus))) e.entry.rule

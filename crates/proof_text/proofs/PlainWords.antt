@@ -73,7 +73,7 @@ lacks c small [] p h = omega (arith, h.1)
 lacks c small (b ∷ word) p (zero, less, e) = let q = leb-true 33 b (parts_of_and (leb 33 b) (is_plain word) p).0 in omega (arith, q, e, small)
 lacks c small (b ∷ word) p (suc k, less, e) = lacks c small word (parts_of_and (leb 33 b) (is_plain word) p).1 (k, omega (arith, less), e)
 
-each_word : (words : List (List ℕ)) → are_plain words ≡ true → All IsOneWord words
+pub each_word : (words : List (List ℕ)) → are_plain words ≡ true → All IsOneWord words
 each_word [] p = All-nil IsOneWord
 each_word (word ∷ words) p =
     let h = parts_of_and (is_plain word) (are_plain words) p in

@@ -4,5 +4,12 @@ pub mod Lines
 pub mod RuleText
 pub mod SpacedText
 pub mod Spells
+pub mod SetParts
+pub mod RuleHeads
 pub mod Refuses
 pub mod Meaning
+pub mod FileParts
+pub mod NodesRead
+pub mod FileFault
+pub mod ProofParts
+pub mod EntryHeads

@@ -1,7 +1,7 @@
 -- Which bytes are a proof file of a model, and which file they are.
 use Rattle.std.specs.Prelude.{◌≡◌, ◌≤◌, ◌<◌, ℕ, ◌+◌, List, [], ◌∷◌, ◌++◌, length, All, AllPairs, Contains, IsSomeAnd, Option, Some, None, flat_map}
 use Rattle.bdd_nodes.specs.declared.triple.Triple.{Triple}
-use Rattle.bdd_nodes.specs.Table.{Has, IsGoodNode}
+use Rattle.bdd_nodes.specs.Table.{Has, IsGood, IsGoodNode}
 use Rattle.bit_encode.specs.Code.{IsOrder, state_bits}
 use Rattle.kripke_model.specs.System.{System}
 use Rattle.proof_form.specs.Form.{FairPart, FreePart, Rule, EX, AX, AR, EU, AU, ER, Proof, sets_of}
@@ -75,3 +75,7 @@ pub record Spells (m : System) (file : File) (bytes : List ℕ) : Type 0 where
   pub nodes : All (IsGoodLine (state_bits m)) (file_lines m file)
   pub text : bytes ≡ text_of (file_lines m file)
   pub short : length bytes ≤ most_bytes
+
+-- the nodes of the block are a good table over the bits of a state
+abbrev pub HasGoodNodes : System → Block → Type 0
+HasGoodNodes m b = IsGood (state_bits m) b.nodes

@@ -1,7 +1,9 @@
 //! Laws of the definitions. The functions give nothing back but what they ensure.
 
 ghost use Rattle.std.specs.Prelude.{ℕ, List, All};
+ghost use Rattle.proof_text.specs.File.{File};
 ghost use Rattle.proof_text.specs.Refuses.{HaveOneReading};
+ghost use Rattle.proof_text.specs.Spells.{HasGoodNodes, Spells};
 ghost use Rattle.proof_text.specs.Meaning.{LinesMatch};
 ghost use Rattle.kripke_model.specs.declared.expressions.Value.TheVariants.{Number};
 ghost use Rattle.proof_text.specs.SmallNumbers.{IsSmallValue};
@@ -16,6 +18,11 @@ pub fn refusal_law(model: &Ruled)
     model.rules_law();
     variables_law(model.vars());
 }
+
+/// The nodes of each block of a proof file are a good table.
+pub fn nodes_law(model: &Ruled)
+    ensures { (file : File) (bytes : List ℕ) → Spells model.now file bytes → All (HasGoodNodes model.now) file.blocks }
+{}
 
 /// Behind the lines of its nodes, a block has as many lines of text as lines with something to show.
 pub fn lines_law(model: &Ruled)
@@ -49,7 +56,7 @@ fn values_law(values: &[Value])
     }
 }
 
-fn variables_law(vars: &[FlatVar])
+pub(crate) fn variables_law(vars: &[FlatVar])
     ensures { All (λ v. All IsSmallValue v.values) vars.now }
 {
     match vars {

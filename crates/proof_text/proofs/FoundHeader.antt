@@ -1,0 +1,47 @@
+-- What is found of a header.
+use Rattle.std.proofs.Common.{◌≡◌, ℕ, ◌+◌, ◌≤◌, List, [], ◌∷◌, ◌++◌, length, refl, sym, ◌∙◌, ap, arith}
+use Rattle.std.specs.Prelude.{Some, None, Result, Ok, Err}
+use Rattle.kripke_model.specs.System.{System}
+use Rattle.proof_text.specs.FileParts.{FitsOrder, order_line, version_line}
+use Rattle.proof_text.specs.Lines.{Line, header_lines, line_text}
+use Rattle.proof_text.specs.SetParts.{Finds}
+use Rattle.proof_text.specs.Spells.{IsGoodLine}
+use Rattle.proof_text.proofs.FoundFixed.{Always}
+use Rattle.proof_text.proofs.Orders.{some_order, order_of_names}
+use Rattle.text_lines.specs.Cursor.{Place}
+use Rattle.text_lines.specs.Formats.{AreKnown, FitBoth, lines_of_both}
+use Rattle.text_lines.specs.Found.{IsFound}
+use Rattle.text_lines.specs.declared.faults.Fault.{Fault}
+use Rattle.text_lines.proofs.FoundInTurn.{both_found, first_fault, last_fault}
+use Rattle.text_lines.proofs.FoundRenamed.{renamed_ok, renamed_fault}
+
+pub some_fits : (m : System) → (order : List ℕ) × FitsOrder m order
+some_fits m = let o = some_order (length m.vars) in (o.0, order_of_names (length m.vars) o.0 o.1)
+
+abbrev Nothing : Type 0
+Nothing = Unit {0}
+
+-- a line that is known beforehand
+pub line_alone : {Line : Type 0} (text : Line → List ℕ) (Good : Line → Type 0) (line : Line) → AreKnown text Good Always (λ x. line ∷ [])
+line_alone text Good line a b fit_a fit_b behind after e = refl
+
+abbrev both : System → Nothing × List ℕ → Type 0
+both m = FitBoth Always (λ x. FitsOrder m)
+
+abbrev both_lines : System → Nothing × List ℕ → List Line
+both_lines m = lines_of_both (λ x. version_line m ∷ []) (λ x order. order_line m order ∷ [])
+
+module _ (m : System) (levels : ℕ) where
+  pub no_version : {old new : Place} (fault : Fault) → Finds Always (λ x. version_line m ∷ []) old (Err fault) new → IsFound line_text (IsGoodLine levels) (FitsOrder m) (header_lines m) old (Err fault) new
+  no_version fault found =
+      renamed_fault {FitsX = both m} {lines_x = both_lines m} (λ p. p.1) (λ order. (tt, order)) (λ p. refl) (λ p fits. fits.1) (λ order. refl) (λ order fits. (tt, fits))
+      (first_fault (λ x. FitsOrder m) (λ x order. order_line m order ∷ []) (λ x fits. some_fits m) (found levels))
+
+  pub header_found : {old mid new : Place} (result : Result (List ℕ) Fault) → Finds Always (λ x. version_line m ∷ []) old (Ok tt) mid → Finds (FitsOrder m) (λ order. order_line m order ∷ []) mid result new
+      → IsFound line_text (IsGoodLine levels) (FitsOrder m) (header_lines m) old result new
+  header_found (Ok order) version found =
+      renamed_ok {FitsX = both m} {lines_x = both_lines m} (λ p. p.1) (λ order. (tt, order)) (λ p. refl) (λ p fits. fits.1) (λ order. refl) (λ order fits. (tt, fits))
+      (both_found (λ x. FitsOrder m) (λ x order. order_line m order ∷ []) (version levels) (found levels))
+  header_found (Err fault) version found =
+      renamed_fault {FitsX = both m} {lines_x = both_lines m} (λ p. p.1) (λ order. (tt, order)) (λ p. refl) (λ p fits. fits.1) (λ order. refl) (λ order fits. (tt, fits))
+      (last_fault (λ x. FitsOrder m) (λ x order. order_line m order ∷ []) (line_alone line_text (IsGoodLine levels) (version_line m)) (version levels) (found levels))
