@@ -1,12 +1,16 @@
 -- The pins of entries, one of which is changed.
 use Rattle.std.proofs.Common.{◌≡◌, ℕ, zero, suc, ◌<◌, List, [], ◌∷◌, ◌++◌, get_or, set, length, refl, sym, ◌∙◌, subst, ap, arith, append_assoc, append-nil}
+use Rattle.std.specs.Prelude.{flat_map}
+use Rattle.std.specs.Global.{Vec}
 use Rattle.std.proofs.lemmas.List.{map-append}
 use Rattle.region_sets.specs.declared.pins.Pin.{Pin}
 use Rattle.region_sets.specs.Sets.{Sets, Adds}
-use Rattle.region_sets.specs.Ranks.{slots}
-use Rattle.proof_form.specs.Form.{Entry, entries_sets, rule_sets}
+use Rattle.region_sets.specs.Ranks.{lists_slots, slots}
+use Rattle.proof_form.specs.Form.{Entry, Layer, entries_sets, layer_sets, rule_sets}
 use Rattle.proof_cases.specs.LetGo.{HasPins, Lessens}
-use Rattle.proof_cases.proofs.Lessened.{beside, part, then_less, released}
+use Rattle.proof_form.specs.Filling.{lists_of}
+use Rattle.proof_form.proofs.Ended.{lists_are}
+use Rattle.proof_cases.proofs.Lessened.{alone, beside, part, then_less, released}
 
 abbrev of_entry : Entry Pin → List ℕ
 of_entry e = slots (rule_sets e.rule)
@@ -86,3 +90,41 @@ pub same_at : (es : List (Entry Pin)) (k : ℕ) (e f : Entry Pin) → k < length
 same_at [] k e f lt is same = absurd (omega (arith, lt))
 same_at (x ∷ es) zero e f lt is same = ap (λ ys. ys ++ entries_sets es) (same ∙ ap (λ (y : Entry Pin). rule_sets y.rule) is)
 same_at (x ∷ es) (suc k) e f lt is same = ap (λ ys. rule_sets x.rule ++ ys) (same_at es k e f (omega (arith, lt)) is same)
+
+pub same_layer_at : (ls : List (Layer Pin)) (k : ℕ) (l m : Layer Pin) → k < length ls → l ≡ get_or ls k l → m.set ≡ l.set → layer_sets (set ls k m) ≡ layer_sets ls
+same_layer_at [] k l m lt is same = absurd (omega (arith, lt))
+same_layer_at (x ∷ ls) zero l m lt is same = ap (λ pin. pin ∷ layer_sets ls) (same ∙ ap (λ (y : Layer Pin). y.set) is)
+same_layer_at (x ∷ ls) (suc k) l m lt is same = ap (λ pins. x.set ∷ pins) (same_layer_at ls k l m (omega (arith, lt)) is same)
+
+-- ---- a free part's pins are let go, and then pins of the fair part
+
+module _ {a b : Sets} (p q l f e : List Pin) (free : Lessens a b (slots p) (slots q)) where
+  behind_free : Lessens a b (slots (p ++ (l ++ (f ++ e)))) (slots (q ++ (l ++ (f ++ e))))
+  behind_free = free_less p q l l f f e e refl refl refl free
+
+  around : (x : List Pin) → slots (q ++ (l ++ (x ++ e))) ≡ (slots q ++ slots l) ++ (slots x ++ slots e)
+  around x = four q l x e ∙ sym (append_assoc (slots q) (slots l) (slots x ++ slots e))
+
+  pub fair_held : HasPins a (slots (p ++ (l ++ (f ++ e)))) → HasPins b (slots f)
+  fair_held h = part b (slots q ++ slots l) (slots f) (slots e) (subst (HasPins b) (around f) (alone behind_free h))
+
+  pub changed_less : {c : Sets} (m g h : List Pin) → m ≡ l → h ≡ e → Lessens b c (slots f) (slots g)
+      → Lessens a c (slots (p ++ (l ++ (f ++ e)))) (slots (q ++ (m ++ (g ++ h))))
+  changed_less {c} m g h layers entries fair =
+      let inner : Lessens b c (slots (q ++ (l ++ (f ++ e)))) (slots (q ++ (l ++ (g ++ e)))) =
+      subst (λ old. Lessens b c old (slots (q ++ (l ++ (g ++ e))))) (sym (around f))
+      (subst (λ new. Lessens b c ((slots q ++ slots l) ++ (slots f ++ slots e)) new) (sym (around g)) (beside (slots f) (slots g) (slots q ++ slots l) (slots e) fair)) in
+      let same : q ++ (l ++ (g ++ e)) ≡ q ++ (m ++ (g ++ h)) = rw (layers, entries) refl in
+      subst (λ (x : List Pin). Lessens a c (slots (p ++ (l ++ (f ++ e)))) (slots x)) same (then_less behind_free inner)
+
+-- ---- the lists of a fair part are let go
+
+module _ (inside : Pin) (reach : List (Vec Pin)) where
+  fair_slots : slots (inside ∷ flat_map (λ sets. sets) (lists_of reach)) ≡ (inside.slot ∷ []) ++ (lists_slots reach ++ [])
+  fair_slots = ap (λ ks. inside.slot ∷ ks) (lists_are reach ∙ sym (append-nil (lists_slots reach)))
+
+  pub lists_held : (a : Sets) → HasPins a (slots (inside ∷ flat_map (λ sets. sets) (lists_of reach))) → HasPins a (lists_slots reach)
+  lists_held a h = part a (inside.slot ∷ []) (lists_slots reach) [] (subst (HasPins a) fair_slots h)
+
+  pub lists_less : {a b : Sets} → Adds b a (lists_slots reach) → Lessens a b (slots (inside ∷ flat_map (λ sets. sets) (lists_of reach))) (inside.slot ∷ [])
+  lists_less {a} {b} gone = subst (λ old. Lessens a b old (inside.slot ∷ [])) (sym fair_slots) (beside (lists_slots reach) [] (inside.slot ∷ []) [] (released (lists_slots reach) gone))
