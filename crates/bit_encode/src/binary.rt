@@ -6,7 +6,7 @@ ghost use Rattle.bit_encode.specs.Binary.{binary, number, width};
 use std::alloc::AllocError;
 
 /// The least number of bits with which this many values have codes of their own, from 0 to 64.
-pub(crate) fn bit_width(count: usize) -> u32
+pub fn bit_width(count: usize) -> u32
     ensures bits { result ≡ width count }
     ensures few { result ≤ 64 }
 {

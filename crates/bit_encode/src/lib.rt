@@ -1,7 +1,7 @@
 //! The states of a flat model as lists of bits, in an order of its variables.
 #![tactic(auto)]
 
-mod binary;
+pub mod binary;
 mod domains;
 pub mod laws;
 pub mod layout;

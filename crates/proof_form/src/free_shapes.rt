@@ -15,7 +15,7 @@ use single_states::steps::has_leaf_constraints;
 use std::alloc::{AllocError, Global};
 
 /// Whether a comes before b: by constraint, by node, and `+` before `-`.
-fn stands_before<T>(a: &FreeEntry<T>, b: &FreeEntry<T>) -> bool
+pub fn stands_before<T>(a: &FreeEntry<T>, b: &FreeEntry<T>) -> bool
     ensures { IsTrue result ↔ StandsBefore a.now b.now }
 {
     a.constraint < b.constraint
@@ -63,7 +63,7 @@ fn is_laid_out<T>(part: &FreePart<T>) -> bool
 }
 
 /// The nodes of each formula.
-fn tables_of(alloc: Global, formulas: &[Formula]) -> Result<Vec<Vec<Node<'_>>>, AllocError>
+pub fn tables_of(alloc: Global, formulas: &[Formula]) -> Result<Vec<Vec<Node<'_>>>, AllocError>
     ensures { IfOk result (λ tables. AreTables formulas.now tables.items) }
 {
     let mut tables = Vec::new(alloc);
@@ -75,7 +75,7 @@ fn tables_of(alloc: Global, formulas: &[Formula]) -> Result<Vec<Vec<Node<'_>>>, 
 
 /// Whether the entry names a temporal node of a constraint's formula, and has the rule of its sign. The tables are of
 /// the constraints' formulas.
-fn has_constraint_rule<T>(
+pub fn has_constraint_rule<T>(
     model: &Ruled,
     formulas: &[Formula],
     tables: &[Vec<Node<'_>>],

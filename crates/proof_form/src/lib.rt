@@ -2,7 +2,7 @@
 #![tactic(auto)]
 
 pub mod form;
-mod free_shapes;
+pub mod free_shapes;
 pub mod gathering;
 pub mod laws;
 pub mod numbering;
