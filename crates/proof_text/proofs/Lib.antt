@@ -22,6 +22,7 @@ pub mod NameTables
 pub mod WordsOf
 pub mod NamedOrders
 pub mod WrittenStates
+pub mod TakenValues
 pub mod FoundNodes
 pub mod RefusedTexts
 pub mod FoundFixed

@@ -26,3 +26,4 @@ mod text_refusals;
 mod value_reading;
 mod variable_names;
 pub mod writing;
+mod written_states;
