@@ -1,0 +1,3 @@
+pub mod Marked
+pub mod Pinned
+pub mod Agreed

@@ -1,0 +1,3 @@
+pub mod Marks
+pub mod Numbered
+pub mod PinsFor
