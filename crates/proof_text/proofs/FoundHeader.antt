@@ -1,22 +1,37 @@
 -- What is found of a header.
 use Rattle.std.proofs.Common.{◌≡◌, ℕ, ◌+◌, ◌≤◌, List, [], ◌∷◌, ◌++◌, length, refl, sym, ◌∙◌, ap, arith}
-use Rattle.std.specs.Prelude.{Some, None, Result, Ok, Err}
+use Rattle.std.specs.Prelude.{Option, Some, None, Result, Ok, Err, MatchOption}
+use Rattle.std.specs.Global.{Vec}
+use Rattle.std.specs.Option.{ok_or}
 use Rattle.kripke_model.specs.System.{System}
 use Rattle.proof_text.specs.FileParts.{FitsOrder, order_line, version_line}
 use Rattle.proof_text.specs.Lines.{Line, header_lines, line_text}
-use Rattle.proof_text.specs.SetParts.{Finds}
+use Rattle.proof_text.specs.SetParts.{Finds, in_list}
 use Rattle.proof_text.specs.Spells.{IsGoodLine}
 use Rattle.proof_text.proofs.FoundFixed.{Always}
 use Rattle.proof_text.proofs.Orders.{some_order, order_of_names}
-use Rattle.text_lines.specs.Cursor.{Place}
+use Rattle.text_lines.specs.Cursor.{Place, Takes}
 use Rattle.text_lines.specs.Formats.{AreKnown, FitBoth, lines_of_both}
 use Rattle.text_lines.specs.Found.{IsFound}
 use Rattle.text_lines.specs.declared.faults.Fault.{Fault}
+use Rattle.text_lines.specs.declared.faults.Fault.TheVariants.{Stops, End}
 use Rattle.text_lines.proofs.FoundInTurn.{both_found, first_fault, last_fault}
+use Rattle.text_lines.proofs.FoundLine.{line_is, line_stops, line_ends}
 use Rattle.text_lines.proofs.FoundRenamed.{renamed_ok, renamed_fault}
 
 pub some_fits : (m : System) → (order : List ℕ) × FitsOrder m order
 some_fits m = let o = some_order (length m.vars) in (o.0, order_of_names (length m.vars) o.0 o.1)
+
+-- the line of the order, which is judged
+module _ (m : System) {old new : Place} where
+  pub order_ends : Takes old None new → Finds (FitsOrder m) (λ order. order_line m order ∷ []) old (Err End) new
+  order_ends last = λ levels. line_ends {Good = IsGoodLine levels} {line = order_line m} last (some_fits m)
+
+  pub order_judged : {t : List ℕ} {l : ℕ} → Takes old (Some t) new → l ≡ old.line → (r : Option (Vec ℕ))
+      → MatchOption r ((order : List ℕ) → FitsOrder m order → line_text (order_line m order) ≡ t → ⊥) (λ order. FitsOrder m order.items × (line_text (order_line m order.items) ≡ t))
+      → Finds (FitsOrder m) (λ order. order_line m order ∷ []) old (in_list (ok_or r (Stops l))) new
+  order_judged taken at (Some order) j = λ levels. line_is {line = order_line m} taken j.0 tt j.1
+  order_judged taken at None j = λ levels. line_stops {Good = IsGoodLine levels} {line = order_line m} taken (some_fits m) j at
 
 abbrev Nothing : Type 0
 Nothing = Unit {0}

@@ -16,6 +16,7 @@ mod next_words;
 mod node_reading;
 mod node_tests;
 mod order_marks;
+mod order_reading;
 pub mod refusals;
 mod rule_heads;
 mod rule_reading;
