@@ -1,16 +1,14 @@
 -- Entries by their heads and the bodies of their rules.
-use Rattle.std.proofs.Common.{◌≡◌, inl, inr, ℕ, ◌-◌, ◌≤◌, true, false, ◌==◌, List, [], ◌∷◌, length, get_or, codes, decimal, Some, None, refl, sym, ◌∙◌, ap, subst, arith}
+use Rattle.std.proofs.Common.{◌≡◌, inl, inr, ℕ, ◌≤◌, true, List, [], ◌∷◌, length, codes, decimal, Some, None, refl, sym, ◌∙◌, ap, subst, arith}
 use Rattle.std.specs.Option.{option_and_then}
-use Rattle.std.specs.Prelude.{All, AllPairs, Err}
+use Rattle.std.specs.Prelude.{All, Err}
 use Rattle.std.proofs.lemmas.Bool.{cases_lt}
-use Rattle.std.proofs.lemmas.List.{get_or_default}
 use Rattle.std.proofs.lemmas.List.Elements.{All-nil}
 use Rattle.kripke_model.specs.Ctl.{Ctl}
 use Rattle.kripke_model.specs.Signs.{node_count}
 use Rattle.proof_form.specs.Form.{Rule, EX, AX, AR, EU, AU, ER, Entry}
 use Rattle.proof_form.specs.Shape.{HasRule, ComesBefore, rule_for, kind_of}
 use Rattle.proof_form.proofs.RuleAt.{no_node}
-use Rattle.proof_form.proofs.ShapeOrder.{comes_through}
 use Rattle.proof_text.specs.EntryHeads.{bare_entry, signed_words, IsSmallSigned, entry_head_line, FitsEntryHead}
 use Rattle.proof_text.specs.Lines.{Words, line_text, sign_word, entry_lines}
 use Rattle.proof_text.specs.RuleHeads.{head_words, IsSmallHead, head_of, body_lines, bare_rule, FitsBody}
@@ -43,7 +41,7 @@ head_plain (Eu n) = number n
 head_plain (Au n) = number n
 head_plain Er = refl
 
-signed_plain : (h : EntryHead) → are_plain (signed_words h) ≡ true
+pub signed_plain : (h : EntryHead) → are_plain (signed_words h) ≡ true
 signed_plain h = number_and h.node (sign_word h.plus ∷ head_words h.rule) (words_append (sign_word h.plus ∷ []) (head_words h.rule) (sign_plain h.plus) (head_plain h.rule))
 
 pub entry_head_plain : (h : EntryHead) → IsPlainLine (entry_head_line h)
@@ -117,7 +115,7 @@ node_small f e few rule = elim (cases_lt (node_count f) e.node) [
 pub small_signed : (f : Ctl) (earlier : List (Entry ℕ)) (h : EntryHead) → IsSmall (node_count f) → FitsEntryHead f earlier h → IsSmallSigned h
 small_signed f earlier h few fits = (node_small f (bare_entry h) few fits.0, fits.2)
 
-same_kind : (r : Rule ℕ) → kind_of (bare_rule (head_of r)) ≡ kind_of r
+pub same_kind : (r : Rule ℕ) → kind_of (bare_rule (head_of r)) ≡ kind_of r
 same_kind (EX set) = refl
 same_kind (AX set) = refl
 same_kind (AR set) = refl
@@ -125,7 +123,7 @@ same_kind (EU sets) = refl
 same_kind (AU layers) = refl
 same_kind (ER fair untils) = refl
 
-small_head : (count most : ℕ) (r : Rule ℕ) → FitsRule count most r → IsSmallHead (head_of r)
+pub small_head : (count most : ℕ) (r : Rule ℕ) → FitsRule count most r → IsSmallHead (head_of r)
 small_head count most (EX set) fits = tt
 small_head count most (AX set) fits = tt
 small_head count most (AR set) fits = tt
@@ -144,7 +142,7 @@ entry_words e = rule_words_are (codes "entry" ∷ decimal e.node ∷ sign_word e
 
 module _ (count most : ℕ) (only : 1 ≤ count) (some : 1 ≤ most) where
   -- a body for each head
-  some_body : (h : RuleHead) → IsSmallHead h → (r : Rule ℕ) × FitsBody count most h r
+  pub some_body : (h : RuleHead) → IsSmallHead h → (r : Rule ℕ) × FitsBody count most h r
   some_body Ex small = let s = some_set most some in (EX s.0, (s.1, refl))
   some_body Ax small = let s = some_set most some in (AX s.0, (s.1, refl))
   some_body Ar small = let s = some_set most some in (AR s.0, (s.1, refl))
@@ -189,24 +187,6 @@ entry_fault f earlier {old} {new} {fault} count most only some few (inl s) = inl
         s.none (head_in e) (head_fits f count most earlier e fits) (entry_head_line (head_in e)) [] refl
         (ap line_text (same_first (entry_head_line (head_in e)) l (body_lines e.rule) ls (sym (entry_words e) ∙ whole)) ∙ is)
 entry_fault f earlier {old} {new} {fault} count most only some few (inr found) = inr (head_fault (entry_join count most only some f few earlier) found)
-
--- ---- the last of the earlier ones
-
-pub some_there : {A : Type 0} (xs : List A) → (length xs == 0) ≡ false → 1 ≤ length xs
-some_there [] e = absurd cc
-some_there (x ∷ xs) e = omega arith
-
-pub all_before : (xs : List (Entry ℕ)) (last e : Entry ℕ) → AllPairs ComesBefore xs → 1 ≤ length xs → last ≡ get_or xs (length xs - 1) last → ComesBefore last e → All (λ a. ComesBefore a e) xs
-all_before xs last e rising some at before i d lt = elim (cases_lt i (length xs - 1)) [
-  | inl less ↦ comes_through (get_or xs i d) (get_or xs (length xs - 1) d) e (rising i (length xs - 1) d less (omega (arith, some))) (subst (λ a. ComesBefore a e) here before)
-  | inr same ↦ subst (λ n. ComesBefore (get_or xs n d) e) (let k : length xs - 1 ≡ i = omega (arith, lt, same) in k) (subst (λ a. ComesBefore a e) here before)
-]
-  where
-    here : last ≡ get_or xs (length xs - 1) d
-    here = at ∙ get_or_default xs (length xs - 1) last d (omega (arith, some))
-
-pub last_before : (xs : List (Entry ℕ)) (last e : Entry ℕ) → 1 ≤ length xs → last ≡ get_or xs (length xs - 1) last → All (λ a. ComesBefore a e) xs → ComesBefore last e
-last_before xs last e some at all = subst (λ a. ComesBefore a e) (sym at) (all (length xs - 1) last (omega (arith, some)))
 
 -- ---- a line is judged
 

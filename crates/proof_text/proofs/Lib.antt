@@ -48,6 +48,8 @@ pub mod ReadFree
 pub mod FewNodes
 pub mod EntryForms
 pub mod KnownEntries
+pub mod FreeForms
+pub mod NextLines
 pub mod BlockParts
 pub mod FirstWord
 pub mod ReadStates

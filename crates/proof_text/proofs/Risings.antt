@@ -1,6 +1,8 @@
 -- Parts in a row, each of which comes behind the earlier ones, rise.
-use Rattle.std.proofs.Common.{List, [], ◌∷◌, ◌++◌, get_or, arith}
+use Rattle.std.proofs.Common.{◌≡◌, inl, inr, ℕ, ◌-◌, ◌≤◌, ◌==◌, false, List, [], ◌∷◌, ◌++◌, length, get_or, sym, ◌∙◌, subst, arith}
 use Rattle.std.specs.Prelude.{All, AllPairs}
+use Rattle.std.proofs.lemmas.Bool.{cases_lt}
+use Rattle.std.proofs.lemmas.List.{get_or_default}
 use Rattle.std.proofs.lemmas.List.Elements.{All-cons, All-head}
 use Rattle.std.proofs.lemmas.List.Kept.{AllPairs-cons}
 use Rattle.text_lines.specs.Formats.{FitEach}
@@ -22,3 +24,22 @@ module _ {X : Type 0} (Fits : List X → X → Type 0) (Before : X → X → Typ
 
   pub all_rise : (xs : List X) → FitEach Fits [] xs → AllPairs Before xs
   all_rise xs h = (rise [] xs h).rising
+
+-- ---- the last of the earlier ones
+
+pub some_there : {A : Type 0} (xs : List A) → (length xs == 0) ≡ false → 1 ≤ length xs
+some_there [] e = absurd cc
+some_there (x ∷ xs) e = omega arith
+
+module _ {X : Type 0} (Before : X → X → Type 0) (xs : List X) (last x : X) (some : 1 ≤ length xs) (at : last ≡ get_or xs (length xs - 1) last) where
+  pub all_before : ((a b c : X) → Before a b → Before b c → Before a c) → AllPairs Before xs → Before last x → All (λ a. Before a x) xs
+  all_before through rising before i d lt = elim (cases_lt i (length xs - 1)) [
+    | inl less ↦ through (get_or xs i d) (get_or xs (length xs - 1) d) x (rising i (length xs - 1) d less (omega (arith, some))) (subst (λ a. Before a x) here before)
+    | inr same ↦ subst (λ n. Before (get_or xs n d) x) (let k : length xs - 1 ≡ i = omega (arith, lt, same) in k) (subst (λ a. Before a x) here before)
+  ]
+    where
+      here : last ≡ get_or xs (length xs - 1) d
+      here = at ∙ get_or_default xs (length xs - 1) last d (omega (arith, some))
+
+  pub last_before : All (λ a. Before a x) xs → Before last x
+  last_before all = subst (λ a. Before a x) (sym at) (all (length xs - 1) last (omega (arith, some)))

@@ -13,3 +13,4 @@ pub mod NodesRead
 pub mod FileFault
 pub mod ProofParts
 pub mod EntryHeads
+pub mod FreeHeads

@@ -1,14 +1,14 @@
 -- The parts of a proof: its free part, what stands behind that, and entries with the end of a block.
-use Rattle.std.specs.Prelude.{◌≡◌, ℕ, Bool, List, [], ◌++◌, flat_map, Option, Some, None, IsSomeAnd, Result, Ok, Err}
+use Rattle.std.specs.Prelude.{◌≡◌, ℕ, Bool, List, [], ◌++◌, codes, flat_map, Option, Some, None, IsSomeAnd, Result, Ok, Err}
 use Rattle.std.specs.Global.{Vec}
 use Rattle.kripke_model.specs.Ctl.{Ctl}
 use Rattle.kripke_model.specs.System.{System, State, constraint_count}
 use Rattle.proof_form.specs.Form.{Entry, FreeEntry, FreePart, Proof}
 use Rattle.proof_text.specs.FileParts.{FitsEnd}
 use Rattle.proof_text.specs.Lines.{Line, nonfair_lines, fair_lines, entry_lines, free_entry_lines, end_lines}
-use Rattle.proof_text.specs.SetParts.{FitsLayers, FitsFair, FitsEntry, FitsFreeEntry}
+use Rattle.proof_text.specs.SetParts.{FitsLayers, FitsFair, FitsEntry, FitsFreeEntry, Finds}
 use Rattle.text_lines.specs.Cursor.{Place, Shows}
-use Rattle.text_lines.specs.Formats.{FitEach, FitUntil, lines_until}
+use Rattle.text_lines.specs.Formats.{FitEach, FitUntil, lines_of_many, lines_until}
 use Rattle.text_lines.specs.declared.faults.Fault.{Fault}
 
 -- the next line begins with these bytes
@@ -22,6 +22,10 @@ FitsEnding m f claim most p = FitUntil (FitsEntry f (constraint_count m) most) (
 
 abbrev pub ending_lines : System → List (Entry ℕ) × Option State → List Line
 ending_lines m p = lines_until (λ _. entry_lines) (λ _. end_lines m) [] p.0 p.1
+
+-- these entries stand there, and the line behind them begins none
+abbrev pub AreAllEntries : System → Ctl → ℕ → Place → List (Entry ℕ) → Place → Type 0
+AreAllEntries m f most old es new = Finds (FitEach (FitsEntry f (constraint_count m) most) []) (lines_of_many (λ _. entry_lines) []) old (Ok es) new × ¬ BeginsWith (codes "entry") new
 
 -- the ending that is read
 abbrev pub in_ending : Result (Vec (Entry ℕ) × Option State) Fault → Result (List (Entry ℕ) × Option State) Fault
@@ -50,6 +54,10 @@ FitsFreeEnding m f claim most p = FitUntil (FitsFreeEntry m most) (λ _. FitsMai
 
 abbrev pub free_ending_lines : System → List (FreeEntry ℕ) × Proof ℕ → List Line
 free_ending_lines m p = lines_until (λ _. free_entry_lines) (λ _. main_lines m) [] p.0 p.1
+
+-- these entries for constraints stand there, and the line behind them begins none
+abbrev pub AreAllFreeEntries : System → ℕ → Place → List (FreeEntry ℕ) → Place → Type 0
+AreAllFreeEntries m most old es new = Finds (FitEach (FitsFreeEntry m most) []) (lines_of_many (λ _. free_entry_lines) []) old (Ok es) new × ¬ BeginsWith (codes "centry") new
 
 abbrev pub in_free_ending : {Q : Type 0} → Result (Vec (FreeEntry ℕ) × Q) Fault → Result (List (FreeEntry ℕ) × Q) Fault
 in_free_ending (Ok p) = Ok (p.0.items, p.1)

@@ -1,10 +1,12 @@
 use Rattle.std.proofs.Common.{◌≤◌, length, sym, ◌∙◌}
-use Rattle.proof_text.proofs.EntryForms.{some_there, all_before, last_before}
+use Rattle.proof_form.proofs.ShapeOrder.{comes_through}
+use Rattle.proof_form.specs.Shape.{ComesBefore}
+use Rattle.proof_text.proofs.Risings.{some_there, all_before, last_before}
 use Rattle.proof_text.proofs.entry_heads.comes_last.Goals as goal
 
 pub returns : goal.returns
 returns c =
     let some : 1 ≤ length c.args.earlier.now = some_there c.args.earlier.now (sym c.is_empty.ensures ∙ c.if-is_empty.false) in (
-      λ h. all_before c.args.earlier.now c.index-earlier-earlier.result c.args.entry.now c.requires some c.index-earlier-earlier.is (c.comes_before.ensures.0 h),
-      λ all. c.comes_before.ensures.1 (last_before c.args.earlier.now c.index-earlier-earlier.result c.args.entry.now some c.index-earlier-earlier.is all),
+      λ h. all_before ComesBefore c.args.earlier.now c.index-earlier-earlier.result c.args.entry.now some c.index-earlier-earlier.is comes_through c.requires (c.comes_before.ensures.0 h),
+      λ all. c.comes_before.ensures.1 (last_before ComesBefore c.args.earlier.now c.index-earlier-earlier.result c.args.entry.now some c.index-earlier-earlier.is all),
     )
