@@ -1,5 +1,5 @@
 -- A block is one of the model where its parts fit.
-use Rattle.std.proofs.Common.{◌≡◌, ℕ, zero, suc, ◌+◌, ◌<◌, ◌≤◌, Bool, List, [], ◌∷◌, ◌++◌, length, map, flat_map, get_or, Option, Some, None, IfSome, IsSomeAnd, refl, sym, ◌∙◌, ap, subst, arith}
+use Rattle.std.proofs.Common.{◌≡◌, ℕ, zero, suc, ◌+◌, ◌<◌, Bool, List, [], ◌∷◌, ◌++◌, length, map, flat_map, get_or, Option, Some, None, IsSomeAnd, refl, sym, ◌∙◌, ap, subst, arith}
 use Rattle.std.specs.Prelude.{All, AllPairs}
 use Rattle.std.proofs.lemmas.List.Elements.{All-nil, All-cons, All-head, All-tail, All-append, All-push, All-weaker}
 use Rattle.std.proofs.lemmas.List.Kept.{AllPairs-cons}
@@ -10,9 +10,9 @@ use Rattle.kripke_model.specs.System.{System, constraint_count}
 use Rattle.proof_form.specs.Form.{Layer, FairPart, Rule, EX, AX, AR, EU, AU, ER, Entry, FreeEntry, FreePart, Proof, layer_sets, fair_sets, rule_sets, entries_sets, free_sets_of, sets_of}
 use Rattle.proof_form.specs.Shape.{IsInShape, FitsFreely, FitsConstraints, Avoids, HasRule, HasConstraintRule, ComesBefore, StandsBefore, spec_formula}
 use Rattle.proof_text.specs.File.{Block}
-use Rattle.proof_text.specs.FileParts.{FitsNode, FitsNodes, FitsFree, FitsProof, FitsBlock}
-use Rattle.proof_text.specs.SetParts.{FitsSet, FitsSets, FitsLayer, FitsLayers, FitsFair, FitsRule, FitsEntry, FitsFreeEntry}
-use Rattle.proof_text.specs.Spells.{IsBlock, fair_lengths, rule_lengths, free_lengths, lengths_of, triple_numbers, numbers_of}
+use Rattle.proof_text.specs.FileParts.{FitsNode, FitsFree, FitsProof, FitsBlock}
+use Rattle.proof_text.specs.SetParts.{FitsSet, FitsSets, FitsLayers, FitsFair, FitsRule, FitsEntry}
+use Rattle.proof_text.specs.Spells.{IsBlock, fair_lengths, rule_lengths, free_lengths, lengths_of, triple_numbers}
 use Rattle.proof_text.proofs.KnownFits.{each_part}
 use Rattle.proof_text.proofs.KnownLines.{IsSmall}
 use Rattle.text_lines.specs.Formats.{FitEach, FitMany}

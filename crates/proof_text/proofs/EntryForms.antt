@@ -23,7 +23,7 @@ use Rattle.text_lines.proofs.FirstLines.{NoneStarts}
 use Rattle.text_lines.proofs.Lists.{same_first, same_rest}
 use Rattle.text_lines.proofs.Spaced.{words_unique}
 use Rattle.proof_text.proofs.Joined.{Known, IsJoin, head_fault}
-use Rattle.proof_text.proofs.KnownLines.{IsSmall, same_number, Lines, words, AreSame, mark}
+use Rattle.proof_text.proofs.KnownLines.{IsSmall, same_number, Lines, AreSame, mark}
 use Rattle.proof_text.proofs.KnownParts.{plain_known}
 use Rattle.proof_text.proofs.KnownRules.{sign_known}
 use Rattle.proof_text.proofs.PlainLines.{one, number, number_and, sign_plain}

@@ -1,6 +1,6 @@
 -- Where the reading of a file stops, and what follows for its text.
-use Rattle.std.proofs.Common.{◌≡◌, inl, inr, ℕ, zero, suc, ◌+◌, ◌<◌, ◌≤◌, Bool, true, false, List, [], ◌∷◌, ◌++◌, length, map, take, flat_map, refl, sym, ◌∙◌, ap, subst, arith, append_assoc, append-nil, length-append, length-take-le}
-use Rattle.std.specs.Prelude.{All, AllPairs, Ok, Err}
+use Rattle.std.proofs.Common.{◌≡◌, ℕ, ◌+◌, ◌<◌, ◌≤◌, Bool, true, false, List, [], ◌∷◌, ◌++◌, length, map, take, flat_map, refl, sym, ◌∙◌, ap, subst, arith, append_assoc, append-nil, length-append, length-take-le}
+use Rattle.std.specs.Prelude.{All, AllPairs, Ok}
 use Rattle.std.proofs.lemmas.List.{map-append, length-map}
 use Rattle.std.proofs.lemmas.List.Elements.{All-nil, All-append}
 use Rattle.kripke_model.specs.Flat.{IsFlat}
@@ -10,7 +10,7 @@ use Rattle.proof_text.specs.File.{Block, File}
 use Rattle.proof_text.specs.FileFault.{IsFileFault}
 use Rattle.proof_text.specs.FileParts.{FitsOrder, FitsNextBlock}
 use Rattle.proof_text.specs.Lines.{Line, line_text, text_of, header_lines, block_lines, file_lines}
-use Rattle.proof_text.specs.Refuses.{MayBegin, Begins}
+use Rattle.proof_text.specs.Refuses.{MayBegin}
 use Rattle.proof_text.specs.SmallNumbers.{HasSmallNumbers}
 use Rattle.proof_text.specs.Spells.{IsBlock, IsFile, StandFrom, Spells, IsGoodLine, most_bytes}
 use Rattle.proof_text.proofs.NextBlocks.{with_block, more_is_file, more_lines, behind_of, next_block, next_fits}
@@ -37,7 +37,7 @@ module _ (m : System) where
   Good = IsGoodLine (state_bits m)
 
   -- some file begins with these lines, which keep the rules where they are asked
-  abbrev BeginsIf : Bool → List (List ℕ) → Type 0
+  abbrev pub BeginsIf : Bool → List (List ℕ) → Type 0
   BeginsIf asked texts = (b : MayBegin m texts) × All (GoodIf (IsGoodLine (state_bits m)) asked) b.front
 
   abbrev pub IsHeaderAt : Place → List ℕ → Place → Type 0
@@ -46,7 +46,7 @@ module _ (m : System) where
   abbrev pub IsFileAt : Place → File → Place → Type 0
   IsFileAt old f new = IsFound line_text (IsGoodLine (state_bits m)) (IsFile m) (file_lines m) old (Ok f) new
 
-  abbrev bare : List ℕ → File
+  abbrev pub bare : List ℕ → File
   bare order = record { order = order; blocks = [] }
 
   bare_is_file : (order : List ℕ) → FitsOrder m order → IsFile m (bare order)
@@ -83,7 +83,7 @@ module _ (m : System) where
   -- ---- the lines of a text that a file spells
 
   module _ (flat : IsFlat m) (bytes : List ℕ) where
-    spelled : (f : File) → bytes ≡ text_of (file_lines m f) → (lines_in bytes ≡ map line_text (file_lines m f)) × (rest_in bytes ≡ [])
+    pub spelled : (f : File) → bytes ≡ text_of (file_lines m f) → (lines_in bytes ≡ map line_text (file_lines m f)) × (rest_in bytes ≡ [])
     spelled f e =
         let one : All IsOneLine (map line_text (file_lines m f)) = each_line (file_lines m f) (file_plain m (plain_names m flat) f) in
         let own = is_cut bytes in
@@ -147,7 +147,7 @@ module _ (m : System) where
       )
 
       -- the block that stands behind those that were read
-      record Behind (asked : Bool) (g : File) (rest : List Line) (vs : List (List ℕ)) : Type 0 where
+      pub record Behind (asked : Bool) (g : File) (rest : List Line) (vs : List (List ℕ)) : Type 0 where
         pub block : Block
         pub fits : FitsNextBlock m f.blocks block
         pub others : List Block
@@ -156,7 +156,7 @@ module _ (m : System) where
         pub texts_are : map line_text lines ≡ vs
         pub good : All (GoodIf (IsGoodLine (state_bits m)) asked) lines
 
-      block_behind : (asked : Bool) (vs : List (List ℕ)) → 0 < length vs → (g : File) → IsFile m g → (front rest : List Line) → file_lines m g ≡ front ++ rest → map line_text front ≡ map line_text (file_lines m f) ++ vs
+      pub block_behind : (asked : Bool) (vs : List (List ℕ)) → 0 < length vs → (g : File) → IsFile m g → (front rest : List Line) → file_lines m g ≡ front ++ rest → map line_text front ≡ map line_text (file_lines m f) ++ vs
           → All (GoodIf (IsGoodLine (state_bits m)) asked) front → Behind asked g rest vs
       block_behind asked vs some g is front rest whole are good =
           let h = behind_of (header_lines m g.order) (flat_map (block_lines m) g.blocks) front rest whole long in
@@ -193,10 +193,10 @@ module _ (m : System) where
           let h = block_behind asked vs some b.file b.is_file b.front b.rest b.lines b.texts_are good in
           record { part = h.block; fits = h.fits; more = flat_map (block_lines m) h.others; front = h.lines; rest = b.rest; whole = h.whole; texts_are = h.texts_are; good = h.good }
 
-      texts_are : lines_in bytes ≡ map line_text (file_lines m f) ++ lines_in mid.left
+      pub texts_are : lines_in bytes ≡ map line_text (file_lines m f) ++ lines_in mid.left
       texts_are = read.finds.read.texts_are
 
-      past : (n k : ℕ) → n ≡ length (file_lines m f) + k → take n (lines_in bytes) ≡ map line_text (file_lines m f) ++ take k (lines_in mid.left)
+      pub past : (n k : ℕ) → n ≡ length (file_lines m f) + k → take n (lines_in bytes) ≡ map line_text (file_lines m f) ++ take k (lines_in mid.left)
       past n k e = take_past line_text (file_lines m f) (lines_in bytes) (lines_in mid.left) texts_are n k e
 
       ahead_within : (k : ℕ) → k < length (lines_in mid.left) → length (file_lines m f) + k < length (lines_in bytes)

@@ -1,6 +1,6 @@
 -- The first word of a text is what stands before its first space.
-use Rattle.std.proofs.Common.{◌≡◌, inl, inr, ℕ, ◌==◌, ◌<◌, ◌≤◌, Bool, false, true, List, [], ◌∷◌, length, take, codes, IsSomeAnd, slice_get, refl, sym, ◌∙◌, ap, subst, arith}
-use Rattle.std.specs.Prelude.{IsTrue, IsFalse, ◌↔◌}
+use Rattle.std.proofs.Common.{◌≡◌, inl, inr, ℕ, ◌==◌, ◌≤◌, Bool, false, true, List, [], ◌∷◌, length, codes, IsSomeAnd, slice_get, refl, sym, ◌∙◌, ap, subst, arith}
+use Rattle.std.specs.Prelude.{IsTrue, ◌↔◌}
 use Rattle.std.specs.List.{before_first, after_first, position_or_len}
 use Rattle.std.proofs.lemmas.Bool.{cases_lt, false≢true}
 use Rattle.std.proofs.lemmas.List.{take_all}
@@ -44,7 +44,7 @@ module _ (lines : List (List ℕ)) where
       words_first : ws ≡ before_first (λ b. b == 32) text ∷ (split_first text).0
       words_first = sym (are_words_in text ws are) ∙ (split_first text).1
 
-      pub order_iff : (b : Bool) (left : List (List ℕ)) → (IsTrue b → ws ≡ codes "order" ∷ left) → (IsFalse b → (left : List (List ℕ)) → ws ≡ codes "order" ∷ left → ⊥) → IsTrue b ↔ IsOrderLine lines 1
+      pub order_iff : (b : Bool) (left : List (List ℕ)) → (IsTrue b → ws ≡ codes "order" ∷ left) → ((left : List (List ℕ)) → ws ≡ codes "order" ∷ left → IsTrue b) → IsTrue b ↔ IsOrderLine lines 1
       order_iff true left taken other = (
         λ t. (refl, subst (λ ts. IsSomeAnd (slice_get ts 1) NamesOrder) (sym both) (same_first (before_first (λ b. b == 32) text) (codes "order") (split_first text).0 left (sym words_first ∙ taken refl))),
         λ o. refl,
@@ -53,5 +53,5 @@ module _ (lines : List (List ℕ)) where
         λ t. absurd (false≢true t),
         λ o.
             let named : NamesOrder text = subst (λ ts. IsSomeAnd (slice_get ts 1) NamesOrder) both o.1 in
-            absurd (other refl (split_first text).0 (words_first ∙ ap (λ w. w ∷ (split_first text).0) named)),
+            absurd (false≢true (other (split_first text).0 (words_first ∙ ap (λ w. w ∷ (split_first text).0) named))),
       )

@@ -1,5 +1,5 @@
 -- What is found of a part is found of it in another form, where what fits has the same lines in both.
-use Rattle.std.proofs.Common.{◌≡◌, ℕ, ◌+◌, Bool, false, List, ◌++◌, length, map, take, sym, ◌∙◌, ap, subst}
+use Rattle.std.proofs.Common.{◌≡◌, ℕ, ◌+◌, false, List, ◌++◌, length, map, take, sym, ◌∙◌, ap, subst}
 use Rattle.std.specs.Prelude.{All, Ok, Err}
 use Rattle.text_lines.specs.Cursor.{Place}
 use Rattle.text_lines.specs.Formats.{Begins, GoesOn, StopsAt, Ends}

@@ -1,6 +1,6 @@
 -- What is found of the end of a block.
-use Rattle.std.proofs.Common.{◌≡◌, ℕ, zero, suc, ◌+◌, ◌≤◌, ◌<◌, Bool, true, false, List, [], ◌∷◌, ◌++◌, length, map, pos, codes, refl, sym, ◌∙◌, ap, arith}
-use Rattle.std.specs.Prelude.{All, Contains, Option, Some, None, Result, Ok, Err, is_none}
+use Rattle.std.proofs.Common.{◌≡◌, ℕ, zero, suc, ◌<◌, true, false, List, [], ◌∷◌, length, pos, codes, refl, sym, ◌∙◌, arith}
+use Rattle.std.specs.Prelude.{All, Contains, Option, Some, None, Ok, Err}
 use Rattle.std.specs.List.{slice_index_or}
 use Rattle.std.proofs.lemmas.Bool.{false≢true}
 use Rattle.std.proofs.lemmas.List.Elements.{All-head, All-tail, All-weaker}
@@ -11,7 +11,6 @@ use Rattle.kripke_model.specs.Step.{IsState}
 use Rattle.kripke_model.specs.System.{System, State, Variable, value_in}
 use Rattle.proof_text.specs.FileParts.{FitsEnd}
 use Rattle.proof_text.specs.Lines.{Line, Words, end_lines, line_text, value_words}
-use Rattle.proof_text.specs.SetParts.{Finds}
 use Rattle.proof_text.specs.SmallNumbers.{HasSmallNumbers}
 use Rattle.proof_text.specs.Spells.{IsGoodLine}
 use Rattle.proof_text.proofs.FoundFixed.{Always}

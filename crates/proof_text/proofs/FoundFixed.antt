@@ -1,10 +1,10 @@
 -- What is found of a line that has one text.
-use Rattle.std.proofs.Common.{◌≡◌, ℕ, ◌+◌, true, false, List, [], ◌∷◌, refl, sym, ◌∙◌, true≢false}
+use Rattle.std.proofs.Common.{◌≡◌, ℕ, true, false, List, [], ◌∷◌, sym, ◌∙◌, true≢false}
 use Rattle.std.specs.Prelude.{Some, None, Ok, Err}
 use Rattle.std.specs.List.{join_with_byte}
 use Rattle.std.specs.Str.{bytes_eq}
 use Rattle.std.proofs.lemmas.Slice.Eq.{bytes_eq-Decides}
-use Rattle.proof_text.specs.Lines.{Line, Words, line_text}
+use Rattle.proof_text.specs.Lines.{Words, line_text}
 use Rattle.proof_text.specs.Spells.{IsGoodLine}
 use Rattle.text_lines.specs.Cursor.{Place, Takes}
 use Rattle.text_lines.specs.Found.{IsFound}

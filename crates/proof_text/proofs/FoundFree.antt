@@ -1,5 +1,5 @@
 -- The free part of a proof, with the main part behind it.
-use Rattle.std.proofs.Common.{◌≡◌, ℕ, ◌+◌, ◌≤◌, Bool, List, [], ◌∷◌, ◌++◌, flat_map, Option, Some, None, IsSomeAnd, codes, refl, sym, ◌∙◌, ap, append_assoc}
+use Rattle.std.proofs.Common.{◌≡◌, ℕ, ◌≤◌, Bool, List, [], ◌∷◌, ◌++◌, flat_map, Option, Some, None, IsSomeAnd, codes, refl, sym, ◌∙◌, ap, append_assoc}
 use Rattle.kripke_model.specs.Ctl.{Ctl}
 use Rattle.kripke_model.specs.Flat.{IsFlat}
 use Rattle.kripke_model.specs.Leaves.{HasLeafConstraints}
@@ -45,7 +45,7 @@ abbrev pub free_line : Line
 free_line = Words (codes "free" ∷ [])
 
 module _ (m : System) (flat : IsFlat m) (f : Ctl) (few : IsSmall (node_count f)) (claim : Bool) (most : ℕ) (some : 1 ≤ most) where
-  some_main : (p : Proof ℕ) × FitsMain m f claim most p
+  pub some_main : (p : Proof ℕ) × FitsMain m f claim most p
   some_main =
       let three = some_three {FitsT = FitsEnding m f claim most} (constraint_count m) most some (some_ending m flat f few claim most) in
       (to_main m f claim most three.0, (main_form m f claim most).fits three.0 three.1)

@@ -1,15 +1,16 @@
 -- What is found of a header.
-use Rattle.std.proofs.Common.{◌≡◌, ℕ, ◌+◌, ◌≤◌, List, [], ◌∷◌, ◌++◌, length, refl, sym, ◌∙◌, ap, arith}
+use Rattle.std.proofs.Common.{◌≡◌, ℕ, List, [], ◌∷◌, length, refl}
 use Rattle.std.specs.Prelude.{Option, Some, None, Result, Ok, Err, MatchOption}
 use Rattle.std.specs.Global.{Vec}
 use Rattle.std.specs.Option.{ok_or}
 use Rattle.kripke_model.specs.System.{System}
+use Rattle.bit_encode.proofs.Declared.{declared_names}
+use Rattle.bit_encode.specs.Code.{declared}
 use Rattle.proof_text.specs.FileParts.{FitsOrder, order_line, version_line}
 use Rattle.proof_text.specs.Lines.{Line, header_lines, line_text}
 use Rattle.proof_text.specs.SetParts.{Finds, in_list}
 use Rattle.proof_text.specs.Spells.{IsGoodLine}
 use Rattle.proof_text.proofs.FoundFixed.{Always}
-use Rattle.proof_text.proofs.Orders.{some_order, order_of_names}
 use Rattle.text_lines.specs.Cursor.{Place, Takes}
 use Rattle.text_lines.specs.Formats.{AreKnown, FitBoth, lines_of_both}
 use Rattle.text_lines.specs.Found.{IsFound}
@@ -20,7 +21,7 @@ use Rattle.text_lines.proofs.FoundLine.{line_is, line_stops, line_ends}
 use Rattle.text_lines.proofs.FoundRenamed.{renamed_ok, renamed_fault}
 
 pub some_fits : (m : System) → (order : List ℕ) × FitsOrder m order
-some_fits m = let o = some_order (length m.vars) in (o.0, order_of_names (length m.vars) o.0 o.1)
+some_fits m = (declared (length m.vars), declared_names (length m.vars))
 
 -- the line of the order, which is judged
 module _ (m : System) {old new : Place} where

@@ -1,11 +1,10 @@
 -- What is found of nodes.
-use Rattle.std.proofs.Common.{◌≡◌, ℕ, ◌+◌, ◌≤◌, ◌<◌, List, [], ◌∷◌, ◌++◌, length, decimal, codes, refl, sym, ◌∙◌, ap, subst, arith}
-use Rattle.std.specs.Prelude.{All, Some, None, Ok, Err}
-use Rattle.std.specs.List.{join_with_byte}
+use Rattle.std.proofs.Common.{◌≡◌, ℕ, ◌≤◌, List, [], ◌∷◌, decimal, codes, refl, sym, ◌∙◌, ap, subst, arith}
+use Rattle.std.specs.Prelude.{Some, None, Ok, Err}
 use Rattle.std.proofs.lemmas.List.Elements.{All-nil, All-cons, All-head, All-tail}
 use Rattle.bdd_nodes.specs.declared.triple.Triple.{Triple}
 use Rattle.proof_text.specs.FileParts.{FitsNode, one_node}
-use Rattle.proof_text.specs.Lines.{Line, Node, line_text, words_of}
+use Rattle.proof_text.specs.Lines.{Node, line_text}
 use Rattle.proof_text.specs.NodesRead.{IsJudged}
 use Rattle.proof_text.specs.Spells.{IsGoodLine, greatest_number}
 use Rattle.proof_text.proofs.KnownLines.{IsSmall, same_number}

@@ -1,5 +1,5 @@
 -- Entries for constraints by their heads and the bodies of their rules.
-use Rattle.std.proofs.Common.{◌≡◌, inl, inr, ℕ, zero, suc, ◌+◌, ◌≤◌, true, List, [], ◌∷◌, length, codes, decimal, Some, IsSomeAnd, refl, sym, ◌∙◌, ap, subst, arith}
+use Rattle.std.proofs.Common.{◌≡◌, inl, inr, ℕ, zero, suc, ◌≤◌, List, [], ◌∷◌, length, codes, decimal, Some, IsSomeAnd, refl, sym, ◌∙◌, ap, subst, arith}
 use Rattle.std.specs.Option.{option_and_then}
 use Rattle.std.specs.Prelude.{All, Err}
 use Rattle.kripke_model.specs.Ctl.{formula_of}
@@ -7,7 +7,7 @@ use Rattle.kripke_model.specs.Flat.{IsFlat}
 use Rattle.kripke_model.specs.Signs.{Rule as Kind}
 use Rattle.kripke_model.specs.System.{System}
 use Rattle.fair_rules.specs.WalkConditions.{node_at}
-use Rattle.proof_form.specs.Form.{Rule, FreeEntry}
+use Rattle.proof_form.specs.Form.{FreeEntry}
 use Rattle.proof_form.specs.Shape.{HasRule, HasConstraintRule, StandsBefore, rule_for, kind_of, constraint_formula}
 use Rattle.proof_text.specs.EntryHeads.{signed_words}
 use Rattle.proof_text.specs.FreeHeads.{bare_free_entry, free_words, IsSmallFree, free_head_line, FitsFreeHead}

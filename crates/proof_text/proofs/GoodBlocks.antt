@@ -1,5 +1,5 @@
 -- The nodes of a block that is spelled are a good table.
-use Rattle.std.proofs.Common.{◌≡◌, ℕ, zero, suc, ◌+◌, List, [], ◌∷◌, ◌++◌, Some, flat_map, refl, sym, subst, arith, append_assoc, append-nil}
+use Rattle.std.proofs.Common.{◌≡◌, ℕ, zero, suc, List, [], ◌∷◌, ◌++◌, Some, flat_map, sym, subst, arith, append_assoc, append-nil}
 use Rattle.std.specs.Prelude.{All, Contains, slice_get}
 use Rattle.std.proofs.lemmas.List.Elements.{All-nil, All-cons, All-head, All-tail}
 use Rattle.bdd_nodes.specs.declared.triple.Triple.{Triple}
@@ -8,7 +8,7 @@ use Rattle.bdd_nodes.proofs.Tables.{IsGood-empty, IsGood-push}
 use Rattle.bit_encode.specs.Code.{state_bits}
 use Rattle.kripke_model.specs.System.{System}
 use Rattle.proof_text.specs.File.{Block, File}
-use Rattle.proof_text.specs.Lines.{Line, Words, Node, claim_word, counted, header_lines, node_lines, proof_lines, block_lines}
+use Rattle.proof_text.specs.Lines.{Line, Node, header_lines, node_lines, proof_lines, block_lines}
 use Rattle.proof_text.specs.Spells.{IsGoodLine, HasGoodNodes, Spells}
 use Rattle.text_lines.proofs.Lists.{all_left, all_right}
 

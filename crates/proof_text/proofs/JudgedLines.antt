@@ -1,6 +1,6 @@
 -- A part of one line is read where the line is judged.
 use Rattle.std.proofs.Common.{◌≡◌, inl, ℕ, List, [], ◌∷◌, Option, Some, None, sym, ◌∙◌, ap, subst}
-use Rattle.std.specs.Prelude.{Ok, Err}
+use Rattle.std.specs.Prelude.{Err}
 use Rattle.std.specs.Option.{ok_or}
 use Rattle.proof_text.specs.Lines.{Line, Words, words_of, line_text}
 use Rattle.proof_text.specs.SetParts.{Judges, Finds, FindsNext}

@@ -59,7 +59,7 @@ free_known (Some a) (Some b) p q u v nu nv e =
 
 -- ---- a proof and a block
 
-claim_known : (a b : Bool) → claim_word a ≡ claim_word b → a ≡ b
+pub claim_known : (a b : Bool) → claim_word a ≡ claim_word b → a ≡ b
 claim_known true true e = refl
 claim_known true false e = absurd (omega (arith, ap length e))
 claim_known false true e = absurd (omega (arith, ap length e))

@@ -1,5 +1,5 @@
 -- Sets, layers and fair parts are known by the texts of their lines.
-use Rattle.std.proofs.Common.{◌≡◌, ℕ, ◌<◌, ◌≤◌, true, List, [], ◌∷◌, ◌++◌, length, map, flat_map, codes, decimal, refl, sym, ◌∙◌, ap, arith}
+use Rattle.std.proofs.Common.{◌≡◌, ℕ, true, List, [], ◌∷◌, ◌++◌, length, map, flat_map, codes, decimal, refl, sym, ◌∙◌, ap, arith}
 use Rattle.std.specs.Prelude.{All}
 use Rattle.std.proofs.lemmas.List.{map-append}
 use Rattle.std.proofs.lemmas.List.Elements.{All-nil, All-cons, All-head, All-tail, All-append}
@@ -7,7 +7,6 @@ use Rattle.proof_form.specs.Form.{Layer, FairPart, layer_sets, fair_sets}
 use Rattle.proof_form.specs.Shape.{Avoids}
 use Rattle.proof_text.specs.Lines.{Line, Words, words_of, line_text, set_line, layer_line, fair_lines, nonfair_lines}
 use Rattle.proof_text.specs.SetParts.{FitsSet, FitsSets, FitsLayer, FitsLayers, FitsFair, list_lines}
-use Rattle.proof_text.specs.Spells.{fair_lengths}
 use Rattle.text_lines.specs.Words.{AreWords, words_in}
 use Rattle.text_lines.proofs.InTurn.{cancel}
 use Rattle.text_lines.proofs.Lists.{same_first, same_rest}

@@ -1,7 +1,6 @@
 pub mod LatchText
 pub mod LatchFile
 pub mod LatchRefused
-pub mod Orders
 pub mod Beginnings
 pub mod OneReason
 pub mod LinesMatch
@@ -53,3 +52,6 @@ pub mod NextLines
 pub mod BlockParts
 pub mod FirstWord
 pub mod ReadStates
+pub mod BlockForms
+pub mod FirstBlocks
+pub mod ReadFiles

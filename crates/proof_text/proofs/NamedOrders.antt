@@ -1,5 +1,5 @@
 -- An order that is read name by name.
-use Rattle.std.proofs.Common.{◌≡◌, inl, inr, ℕ, zero, suc, ◌+◌, ◌<◌, ◌≤◌, Bool, true, false, List, [], ◌∷◌, ◌++◌, length, map, take, get_or, set, Some, slice_get, refl, sym, ◌∙◌, ap, subst, arith, take_all, length-append, append_assoc, append-nil}
+use Rattle.std.proofs.Common.{◌≡◌, inl, inr, ℕ, zero, suc, ◌+◌, ◌<◌, Bool, true, false, List, [], ◌∷◌, ◌++◌, length, map, take, get_or, set, Some, slice_get, refl, sym, ◌∙◌, ap, subst, arith, take_all, length-append, append_assoc, append-nil}
 use Rattle.std.specs.Prelude.{All}
 use Rattle.std.specs.List.{slice_index_or}
 use Rattle.std.proofs.lemmas.Bool.{cases_lt}
@@ -7,7 +7,7 @@ use Rattle.std.proofs.lemmas.List.{map-append, length-map}
 use Rattle.std.proofs.lemmas.List.Elements.{All-head, All-tail}
 use Rattle.bit_encode.specs.Code.{IsOrder}
 use Rattle.bit_encode.proofs.OrderMarks.{IsMarked, mark_more, mark_twice, mark_end, mark_all}
-use Rattle.kripke_model.specs.Flat.{IsFlat, AreDistinct}
+use Rattle.kripke_model.specs.Flat.{IsFlat}
 use Rattle.kripke_model.specs.System.{System, Variable}
 use Rattle.proof_text.specs.FileParts.{FitsOrder}
 use Rattle.proof_text.specs.Lines.{variable_name}

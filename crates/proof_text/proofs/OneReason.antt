@@ -3,6 +3,8 @@ use Rattle.std.proofs.Common.{◌≡◌, inl, inr, ℕ, zero, suc, ◌+◌, ◌<
 use Rattle.std.proofs.lemmas.List.Elements.{All-nil}
 use Rattle.std.proofs.lemmas.Bool.{cases_lt}
 use Rattle.kripke_model.specs.System.{System}
+use Rattle.bit_encode.proofs.Declared.{declared_names}
+use Rattle.bit_encode.specs.Code.{declared}
 use Rattle.proof_text.specs.File.{File}
 use Rattle.proof_text.specs.Lines.{file_lines}
 use Rattle.proof_text.specs.Spells.{IsBlock, Spells, most_bytes, IsGoodLine}
@@ -13,7 +15,6 @@ use Rattle.proof_text.specs.declared.refusals.TextRefusal.TheVariants.{BadLine, 
 use Rattle.text_lines.specs.WholeLines.{lines_in, rest_in}
 use Rattle.text_lines.proofs.Cuts.{cut_unique, is_cut}
 use Rattle.proof_text.proofs.Beginnings.{stops_once, stops_never, header_is_good}
-use Rattle.proof_text.proofs.Orders.{some_order, order_of_names}
 
 module _ (m : System) (bytes : List ℕ) where
   same_lines : (ts us : List (List ℕ)) (r q : List ℕ) → HasLines bytes ts r → HasLines bytes us q → ts ≡ us
@@ -94,11 +95,11 @@ module _ (m : System) (bytes : List ℕ) where
   -- a file without blocks
   pub begins_empty : Begins m []
   begins_empty =
-      let o = some_order (length m.vars) in
-      let f : File = record { order = o.0; blocks = [] } in (
+      let o = declared (length m.vars) in
+      let f : File = record { order = o; blocks = [] } in (
         record {
           file = f;
-          is_file = record { order = order_of_names (length m.vars) o.0 o.1; blocks = All-nil (IsBlock m); rising = λ i j d less below. absurd (omega arith); places = tt };
+          is_file = record { order = declared_names (length m.vars); blocks = All-nil (IsBlock m); rising = λ i j d less below. absurd (omega arith); places = tt };
           front = [];
           rest = file_lines m f;
           lines = refl;

@@ -106,7 +106,7 @@ node_plain earlier (t ∷ nodes) =
     (number_and t.level (decimal t.low ∷ decimal t.high ∷ []) (number_and t.low (decimal t.high ∷ []) (number t.high)), λ e. omega (arith, ap length e))
     (node_plain (earlier ++ t ∷ []) nodes)
 
-claim_plain : (b : Bool) → are_plain (claim_word b ∷ []) ≡ true
+pub claim_plain : (b : Bool) → are_plain (claim_word b ∷ []) ≡ true
 claim_plain true = refl
 claim_plain false = refl
 

@@ -1,5 +1,5 @@
 -- What a reader finds of a proof with a free part.
-use Rattle.std.proofs.Common.{◌≡◌, ℕ, ◌+◌, ◌≤◌, Bool, List, [], ◌∷◌, ◌++◌, codes, subst, arith}
+use Rattle.std.proofs.Common.{◌≡◌, ℕ, ◌≤◌, Bool, List, [], ◌∷◌, ◌++◌, codes, subst, arith}
 use Rattle.std.specs.Prelude.{AllPairs, Result, Ok, Err}
 use Rattle.kripke_model.specs.Ctl.{Ctl}
 use Rattle.kripke_model.specs.Flat.{IsFlat}

@@ -1,10 +1,10 @@
 -- What is found of the line of a state.
-use Rattle.std.proofs.Common.{◌≡◌, ℕ, ◌+◌, List, [], ◌∷◌, codes, subst}
+use Rattle.std.proofs.Common.{◌≡◌, ℕ, List, [], ◌∷◌, codes, subst}
 use Rattle.std.specs.Prelude.{Option, Some, None, Ok, Err, MatchOption}
 use Rattle.kripke_model.specs.Flat.{IsFlat}
 use Rattle.kripke_model.specs.Step.{IsState}
 use Rattle.kripke_model.specs.System.{System, State}
-use Rattle.proof_text.specs.Lines.{Words, line_text, value_words}
+use Rattle.proof_text.specs.Lines.{line_text, value_words}
 use Rattle.proof_text.specs.SetParts.{Finds}
 use Rattle.proof_text.proofs.FoundEnd.{state_line, some_state}
 use Rattle.proof_text.proofs.WordsOf.{state_words}

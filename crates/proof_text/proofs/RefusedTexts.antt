@@ -1,13 +1,10 @@
 -- A text is refused where its reading stops.
-use Rattle.std.proofs.Common.{◌≡◌, ◌⊎◌, inl, inr, ℕ, zero, suc, ◌+◌, ◌<◌, ◌≤◌, ◌==◌, List, [], ◌∷◌, ◌++◌, length, map, take, Some, None, IsSomeAnd, slice_get, codes, refl, sym, ◌∙◌, ap, subst, arith}
-use Rattle.std.specs.List.{before_first}
+use Rattle.std.proofs.Common.{◌≡◌, ℕ, ◌+◌, ◌<◌, ◌≤◌, List, length, take, subst, arith}
 use Rattle.kripke_model.specs.System.{System}
-use Rattle.proof_text.specs.File.{File}
 use Rattle.proof_text.specs.FileFault.{IsFileFault}
-use Rattle.proof_text.specs.Refuses.{HasLines, MayBegin, Begins, StopsAt, IsNodeLine, IsOrderLine, Refuses}
+use Rattle.proof_text.specs.Refuses.{HasLines, Begins, StopsAt, IsOrderLine, Refuses}
 use Rattle.proof_text.specs.Spells.{most_bytes}
-use Rattle.proof_text.specs.declared.refusals.TextRefusal.{TextRefusal}
-use Rattle.proof_text.specs.declared.refusals.TextRefusal.TheVariants.{BadLine, Truncated, BadOrder, BadNode, TooLong, Memory}
+use Rattle.proof_text.specs.declared.refusals.TextRefusal.TheVariants.{BadLine, Truncated, BadOrder, BadNode}
 use Rattle.text_lines.specs.WholeLines.{lines_in, rest_in}
 use Rattle.text_lines.specs.declared.faults.Fault.TheVariants.{Stops, Breaks, End}
 use Rattle.text_lines.proofs.Cuts.{is_cut}

@@ -1,16 +1,15 @@
 -- Rules by their heads and bodies.
-use Rattle.std.proofs.Common.{◌≡◌, ℕ, ◌+◌, ◌≤◌, List, [], ◌∷◌, ◌++◌, length, map, codes, decimal, refl, sym, ◌∙◌, ap, subst, arith}
-use Rattle.std.specs.Prelude.{All}
+use Rattle.std.proofs.Common.{◌≡◌, ℕ, ◌≤◌, List, [], ◌∷◌, ◌++◌, length, map, codes, decimal, refl, ap, arith}
 use Rattle.std.proofs.lemmas.List.Elements.{All-nil}
 use Rattle.proof_form.specs.Form.{Layer, FairPart, Rule, EX, AX, AR, EU, AU, ER}
-use Rattle.proof_text.specs.Lines.{Line, Words, counted, set_line, layer_line, fair_lines, rule_lines}
+use Rattle.proof_text.specs.Lines.{Words, counted, set_line, layer_line, fair_lines, rule_lines}
 use Rattle.proof_text.specs.RuleHeads.{head_words, IsSmallHead, head_of, body_lines, FitsBody}
-use Rattle.proof_text.specs.SetParts.{FitsSet, FitsSets, FitsLayers, FitsFair, FitsRule, AreSets, AreLayers}
+use Rattle.proof_text.specs.SetParts.{FitsSet, FitsSets, FitsFair, AreSets, AreLayers}
 use Rattle.proof_text.specs.declared.rule_heads.RuleHead.{RuleHead}
 use Rattle.proof_text.specs.declared.rule_heads.RuleHead.TheVariants.{Ex, Ax, Ar, Eu, Au, Er}
 use Rattle.text_lines.proofs.Lists.{same_first, same_rest}
 use Rattle.proof_text.proofs.Formed.{IsForm}
-use Rattle.proof_text.proofs.Joined.{Known, IsJoin}
+use Rattle.proof_text.proofs.Joined.{IsJoin}
 use Rattle.proof_text.proofs.KnownLines.{IsSmall, mark}
 use Rattle.proof_text.proofs.KnownParts.{fair_is_known}
 

@@ -4,14 +4,13 @@ use Rattle.std.specs.Global.{Vec}
 use Rattle.std.specs.Prelude.{All, Ok, Err}
 use Rattle.std.proofs.lemmas.List.{map-append}
 use Rattle.std.proofs.lemmas.List.Elements.{All-nil, All-cons, All-head, All-tail}
-use Rattle.proof_form.specs.Form.{Layer, FairPart}
+use Rattle.proof_form.specs.Form.{Layer}
 use Rattle.proof_text.specs.Lines.{Line, Words, counted, set_line, layer_line, reach_lines, fair_lines, nonfair_lines}
 use Rattle.proof_text.specs.SetParts.{FitsSet, FitsSets, FitsLayer, FitsLayers, FitsFair, AreSets, AreLayers, AreLists, Finds, list_lines}
 use Rattle.proof_text.specs.Spells.{greatest_number}
 use Rattle.text_lines.specs.Cursor.{Place}
 use Rattle.text_lines.specs.Formats.{FitMany, lines_of_many}
 use Rattle.text_lines.specs.declared.faults.Fault.{Fault}
-use Rattle.proof_text.proofs.Formed.{IsForm}
 use Rattle.proof_text.proofs.Joined.{Known, IsJoin, IsRow, next_found, row_fault}
 use Rattle.proof_text.proofs.KnownLines.{IsSmall}
 use Rattle.proof_text.proofs.KnownParts.{number_known, set_known, layer_known, list_is_known}

@@ -1,5 +1,5 @@
 -- The words of a text that is a line.
-use Rattle.std.proofs.Common.{◌≡◌, ℕ, zero, suc, ◌<◌, ◌≤◌, true, false, leb, List, [], ◌∷◌, map, codes, decimal, refl, sym, ◌∙◌, ap, arith, length}
+use Rattle.std.proofs.Common.{◌≡◌, ℕ, zero, suc, true, false, leb, List, [], ◌∷◌, map, codes, decimal, refl, sym, ◌∙◌, ap, arith, length}
 use Rattle.std.specs.Prelude.{All, Contains, Option, Some, None, Result, Ok, Err, IfOk, MatchOption}
 use Rattle.std.specs.Global.{Vec}
 use Rattle.std.specs.List.{join_with_byte}
@@ -9,7 +9,7 @@ use Rattle.bdd_nodes.specs.declared.triple.Triple.{Triple}
 use Rattle.kripke_model.specs.Flat.{IsFlat}
 use Rattle.kripke_model.specs.System.{System, State}
 use Rattle.kripke_model.specs.Step.{IsState}
-use Rattle.proof_text.specs.File.{Block, File}
+use Rattle.proof_text.specs.File.{File}
 use Rattle.proof_text.specs.FileParts.{FitsOrder, order_line}
 use Rattle.proof_text.specs.Lines.{Line, Words, Node, line_text, words_of, variable_name, value_words}
 use Rattle.proof_text.proofs.PlainLines.{file_plain}

@@ -1,10 +1,9 @@
 -- A state that is read value by value.
-use Rattle.std.proofs.Common.{◌≡◌, inl, inr, ℕ, zero, suc, ◌+◌, ◌<◌, ◌≤◌, List, [], ◌∷◌, ◌++◌, length, get_or, pos, refl, sym, ◌∙◌, ap, subst, arith, length-append, append_assoc, append-nil}
+use Rattle.std.proofs.Common.{◌≡◌, inl, inr, ℕ, zero, suc, ◌+◌, ◌<◌, List, [], ◌∷◌, ◌++◌, length, refl, sym, ◌∙◌, ap, subst, arith, length-append, append_assoc, append-nil}
 use Rattle.std.specs.Prelude.{Contains}
 use Rattle.std.specs.List.{slice_index_or}
 use Rattle.std.proofs.lemmas.Bool.{cases_lt}
 use Rattle.kripke_model.specs.declared.expressions.Value.{Value}
-use Rattle.kripke_model.specs.declared.expressions.Value.TheVariants.{Number}
 use Rattle.kripke_model.specs.Shown.{value_text}
 use Rattle.kripke_model.specs.Step.{IsState}
 use Rattle.kripke_model.specs.System.{System, State, Variable, value_in}

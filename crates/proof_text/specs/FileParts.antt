@@ -1,5 +1,5 @@
 -- Which headers, nodes, ends and blocks can stand in a file.
-use Rattle.std.specs.Prelude.{◌≡◌, ℕ, ◌+◌, ◌<◌, ◌≤◌, Bool, List, [], ◌∷◌, ◌++◌, length, map, All, Option, Some, None, IsSome, IsSomeAnd, IfSome, is_none, codes, decimal, flat_map}
+use Rattle.std.specs.Prelude.{◌≡◌, ℕ, ◌+◌, ◌<◌, ◌≤◌, Bool, List, [], ◌∷◌, length, map, All, Option, Some, None, IsSome, IsSomeAnd, IfSome, is_none, codes, decimal, flat_map}
 use Rattle.bdd_nodes.specs.declared.triple.Triple.{Triple}
 use Rattle.bit_encode.specs.Code.{IsOrder}
 use Rattle.kripke_model.specs.Ctl.{Ctl}
@@ -9,7 +9,7 @@ use Rattle.kripke_model.specs.System.{System, State, constraint_count}
 use Rattle.proof_form.specs.Form.{FreePart, Proof}
 use Rattle.proof_form.specs.Shape.{spec_formula}
 use Rattle.proof_text.specs.File.{Block}
-use Rattle.proof_text.specs.Lines.{Line, Words, Node, variable_name, version_word, claim_word, counted, node_lines, block_lines}
+use Rattle.proof_text.specs.Lines.{Line, Words, Node, variable_name, version_word, claim_word, block_lines}
 use Rattle.proof_text.specs.SetParts.{FitsLayers, FitsFair, FitsEntry, FitsFreeEntry}
 use Rattle.proof_text.specs.Spells.{IsBlock, greatest_number, triple_numbers}
 use Rattle.proof_text.specs.declared.heads.Head.{Head}

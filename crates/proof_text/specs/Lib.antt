@@ -14,3 +14,4 @@ pub mod FileFault
 pub mod ProofParts
 pub mod EntryHeads
 pub mod FreeHeads
+pub mod BlockReading

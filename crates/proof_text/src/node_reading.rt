@@ -10,7 +10,7 @@ ghost use Rattle.proof_text.specs.Spells.{IsGoodLine};
 ghost use Rattle.text_lines.specs.Formats.{FitMany, lines_of_many};
 ghost use Rattle.text_lines.specs.Found.{IsFound};
 
-use crate::next_words::{are_over, takes_number, takes_word};
+use crate::line_words::{takes_end, takes_number, takes_word};
 use crate::node_tests::{is_good, is_new};
 use bdd_nodes::Triple;
 use indexmap::IndexSet;
@@ -32,7 +32,7 @@ fn node_in(text: &[u8]) -> Option<Triple>
     let level = takes_number(&mut words)?;
     let low = takes_number(&mut words)?;
     let high = takes_number(&mut words)?;
-    if !are_over(&mut words) {
+    if !takes_end(&mut words) {
         return None;
     }
     Some(Triple { level, low, high })

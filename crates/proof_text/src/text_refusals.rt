@@ -6,7 +6,7 @@ ghost use Rattle.proof_text.specs.Refuses.{IsOrderLine, Refuses};
 ghost use Rattle.proof_text.specs.declared.refusals.TextRefusal.TheVariants.{Memory as out_of_memory};
 ghost use Rattle.text_lines.specs.WholeLines.{lines_in};
 
-use crate::next_words::takes_word;
+use crate::line_words::takes_word;
 use crate::refusals::TextRefusal;
 use kripke_model::models::Ruled;
 use text_lines::cursor::Cursor;

@@ -7,7 +7,7 @@ ghost use Rattle.kripke_model.specs.Step.{IsState};
 ghost use Rattle.kripke_model.specs.System.{State as Values};
 ghost use Rattle.proof_text.specs.Lines.{Words as words_line, line_text, value_words};
 
-use crate::next_words::{are_over, takes_word};
+use crate::line_words::{takes_end, takes_word};
 use crate::value_reading::value_written;
 use kripke_model::expressions::Value;
 use kripke_model::models::Ruled;
@@ -53,7 +53,7 @@ fn state_written(
         };
         state.push(value)?;
     }
-    if !are_over(words) {
+    if !takes_end(words) {
         return Ok(None);
     }
     Ok(Some(state))

@@ -1,4 +1,4 @@
-use Rattle.std.proofs.Common.{refl, sym, ◌∙◌}
+use Rattle.std.proofs.Common.{sym, ◌∙◌}
 use Rattle.proof_text.proofs.FoundFixed.{fixed_stops}
 use Rattle.proof_text.proofs.fixed_lines.read_fixed.Goals as goal
 

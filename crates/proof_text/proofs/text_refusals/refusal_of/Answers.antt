@@ -1,4 +1,4 @@
-use Rattle.std.proofs.Common.{◌≡◌, inr, sym, ◌∙◌, subst, arith}
+use Rattle.std.proofs.Common.{inr, sym, ◌∙◌, subst, arith}
 use Rattle.std.proofs.lemmas.Bool.{false≢true}
 use Rattle.proof_text.specs.FileFault.{IsFileFault}
 use Rattle.proof_text.proofs.RefusedTexts.{bad_order, bad_line, bad_node}
