@@ -1,0 +1,3 @@
+pub mod NoRoom
+pub mod Found
+pub mod Imported

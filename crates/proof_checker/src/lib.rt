@@ -1,0 +1,6 @@
+//! The test of a block of a proof file, line by line, without a fixpoint.
+#![tactic(auto)]
+
+mod importing;
+mod numbers;
+mod relation;
