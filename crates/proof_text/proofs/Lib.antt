@@ -55,3 +55,6 @@ pub mod ReadStates
 pub mod BlockForms
 pub mod FirstBlocks
 pub mod ReadFiles
+pub mod GoodLines
+pub mod FewLines
+pub mod WrittenFiles

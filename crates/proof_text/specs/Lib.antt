@@ -15,3 +15,4 @@ pub mod ProofParts
 pub mod EntryHeads
 pub mod FreeHeads
 pub mod BlockReading
+pub mod Written

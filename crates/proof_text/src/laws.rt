@@ -5,6 +5,7 @@ ghost use Rattle.proof_text.specs.File.{File};
 ghost use Rattle.proof_text.specs.Refuses.{HaveOneReading};
 ghost use Rattle.proof_text.specs.Spells.{HasGoodNodes, Spells};
 ghost use Rattle.proof_text.specs.Meaning.{LinesMatch};
+ghost use Rattle.proof_text.specs.Written.{AreSpelled};
 ghost use Rattle.kripke_model.specs.declared.expressions.Value.TheVariants.{Number};
 ghost use Rattle.proof_text.specs.SmallNumbers.{IsSmallValue};
 
@@ -23,6 +24,14 @@ pub fn refusal_law(model: &Ruled)
 pub fn nodes_law(model: &Ruled)
     ensures { (file : File) (bytes : List ℕ) → Spells model.now file bytes → All (HasGoodNodes model.now) file.blocks }
 {}
+
+/// The header in declared order, with the texts of blocks of rising specifications behind it as
+/// `write_block` gives them, is the file of these blocks, if it isn't too long.
+pub fn written_law(model: &Ruled)
+    ensures { AreSpelled model.now }
+{
+    model.rules_law();
+}
 
 /// Behind the lines of its nodes, a block has as many lines of text as lines with something to show.
 pub fn lines_law(model: &Ruled)
