@@ -10,6 +10,7 @@ mod orders;
 mod pairs;
 mod questions;
 mod reading;
+mod seconds;
 mod seen;
 mod states;
 

@@ -5,6 +5,7 @@
 //! | `count` | how many states, initial states and steps there are by the tests of single states, how many states are in the set of the last specification, how many have a step into it, and how many have no other step |
 //! | `relation ORDER` | `as defined`, or in how many places the diagrams and the tests of single states differ |
 //! | `build ORDER`, `build ORDER within N nodes` | what comes of building the parts |
+//! | a text that begins with `MODULE` | whether it has the same initial states and steps |
 //!
 //! ORDER is `in declared order`, `in reverse order`, or `in the order` with the numbers of variables, from 0.
 
@@ -15,6 +16,7 @@ use crate::leaves::last_leaf;
 use crate::orders::order_of;
 use crate::pairs::differences;
 use crate::reading::model_of;
+use crate::seconds::tell_second;
 use crate::seen::{Counts, counts_of, look_at_all};
 use case_text::asking::Answer;
 use case_text::fault::Fault;
@@ -111,6 +113,7 @@ impl Answer for Relations {
         match question.split_once(' ') {
             Some(("relation", words)) => answer_relation(alloc, &model, words, answer),
             Some(("build", words)) => answer_build(alloc, &model, words, answer),
+            Some(("MODULE", _)) => tell_second(alloc, &model, question.as_bytes(), answer),
             None if question == "count" => answer_count(alloc, &model, answer),
             _ => Err(Fault::Unasked),
         }
