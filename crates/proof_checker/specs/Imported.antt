@@ -4,9 +4,10 @@ use Rattle.bdd_nodes.specs.declared.triple.Triple.{Triple}
 use Rattle.bdd_nodes.specs.Table.{value_of}
 use Rattle.bdd_walk.specs.declared.list.NodeList.{NodeList}
 use Rattle.bdd_walk.specs.List.{nodes_of, roots_of}
-use Rattle.bit_encode.specs.Code.{code}
-use Rattle.kripke_model.specs.System.{State}
+use Rattle.bit_encode.specs.Code.{code, types_of}
+use Rattle.kripke_model.specs.System.{System, State}
 use Rattle.kripke_model.specs.Step.{IsState}
+use Rattle.path_laws.specs.StateSet.{StateSet}
 use Rattle.region_sets.specs.Sets.{Sets, In, IsLive}
 use Rattle.diagram_sets.specs.declared.sets.DiagramSets.{DiagramSets}
 use Rattle.diagram_sets.specs.Kept.{diagram_sets}
@@ -25,6 +26,10 @@ pub record IsPlaced (list : Numbered) (number : ℕ) : Type 0 where
   pub there : slice_index list.numbers.items (slice_index list.places.items number) ≡ number
 
 -- ---- sets
+
+-- the states in whose codes, with the variables in this order, the walk down from the node ends at 1
+abbrev pub node_states : System → List ℕ → List Triple → ℕ → StateSet
+node_states m order nodes number s = value_of nodes number (code (record { types = types_of m; order = order }) s)
 
 abbrev pub seen_in : DiagramSets → Sets
 seen_in x = diagram_sets x.parts x.pins x.fulls

@@ -1,3 +1,5 @@
 pub mod NoRoom
 pub mod Found
 pub mod Imported
+pub mod Jobs
+pub mod Givens

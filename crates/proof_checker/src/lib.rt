@@ -1,6 +1,8 @@
 //! The test of a block of a proof file, line by line, without a fixpoint.
 #![tactic(auto)]
 
+mod blocks;
+mod counting;
 mod importing;
 mod numbers;
 mod relation;

@@ -1,7 +1,7 @@
 //! The test of a proof whose sets are numbers, by the pin of each number.
 
-ghost use Rattle.std.specs.Prelude.{◌≡◌, ◌≤◌, ◌<◌, ◌+◌, ◌*◌, ◌^◌, []};
-ghost use Rattle.std.specs.Prelude.{All, IfOk, length, slice_index};
+ghost use Rattle.std.specs.Prelude.{◌≡◌, ◌≤◌, ◌+◌, ◌*◌, []};
+ghost use Rattle.std.specs.Prelude.{All, IfOk, slice_index};
 ghost use Rattle.kripke_model.specs.Signs.{node_count};
 ghost use Rattle.kripke_model.specs.WellFormed.{ctl_of};
 ghost use Rattle.region_sets.specs.Sets.{IsCall, IsLive};
@@ -37,8 +37,6 @@ fn first_bad<S: StateSets>(
     requires leaves { HasModelLeaves model.now (ctl_of formula.now) }
     requires live { AreLive (S.seen sets.old) (proof_slots proof.now) }
     requires shape { IsInShape model.now (ctl_of formula.now) proof.now }
-    requires few { length (obligations model.now (ctl_of formula.now)
-        (over_states (S.seen sets.old) proof.now)) < 2 ^ 64 }
     ensures call { IsCall (8 * (node_count (ctl_of formula.now) + constraint_nodes model.now + 2))
         (S.seen sets.old) (S.seen sets.new) [] result }
     ensures found { IfOk result (IsFound model.now (obligations model.now (ctl_of formula.now)
@@ -67,8 +65,6 @@ pub(crate) fn first_bad_number<S: StateSets>(
     requires live { All (λ number. IsLive (S.seen sets.old) (slice_index table.now number))
         (sets_of proof.now) }
     requires shape { IsInShape model.now (ctl_of formula.now) proof.now }
-    requires few { length (obligations model.now (ctl_of formula.now)
-        (over_states (S.seen sets.old) (pinned table.now proof.now))) < 2 ^ 64 }
     ensures call { IsCall (8 * (node_count (ctl_of formula.now) + constraint_nodes model.now + 2))
         (S.seen sets.old) (S.seen sets.new) [] result }
     ensures found { IfOk result (IsFound model.now (obligations model.now (ctl_of formula.now)

@@ -1,0 +1,24 @@
+-- A proof over numbers that is tested, and the sets of its numbers.
+use Rattle.std.specs.Prelude.{◌≡◌, List, All, slice_index}
+use Rattle.kripke_model.specs.WellFormed.{ctl_of}
+use Rattle.fair_rules.specs.Checks.{Check}
+use Rattle.region_sets.specs.Sets.{IsLive}
+use Rattle.proof_form.specs.Form.{sets_of}
+use Rattle.proof_form.specs.Meaning.{obligations}
+use Rattle.proof_form.specs.Pinned.{over_states}
+use Rattle.proof_form.specs.Shape.{IsInShape}
+use Rattle.claim_sets.specs.Claimed.{HasModelLeaves}
+use Rattle.block_proofs.specs.PinsFor.{pinned}
+use Rattle.proof_checker.specs.declared.counting.Job.{Job}
+use Rattle.proof_checker.specs.Imported.{seen_in}
+
+-- what each line has to show, over the states of the numbers' pins
+abbrev pub lines_in : Job → List (List Check)
+lines_in job = obligations job.model.now (ctl_of job.formula.now) (over_states (seen_in job.sets) (pinned job.table.now job.proof.now))
+
+-- the proof has the shape of one of the formula, and each of its numbers has a live pin
+pub record IsJob (job : Job) : Type 0 where
+  pub over : (seen_in job.sets).over ≡ job.model.now
+  pub leaves : HasModelLeaves job.model.now (ctl_of job.formula.now)
+  pub live : All (λ number. IsLive (seen_in job.sets) (slice_index job.table.now number)) (sets_of job.proof.now)
+  pub shape : IsInShape job.model.now (ctl_of job.formula.now) job.proof.now

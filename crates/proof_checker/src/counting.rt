@@ -1,0 +1,85 @@
+//! The test of a proof over numbers whose pins are there, with its products counted in the caller's
+//! steps.
+
+ghost use Rattle.std.specs.Prelude.{◌≡◌, ◌≤◌, ◌+◌, IfErr, IfOk};
+ghost use Rattle.proof_lines.specs.LineCounts.{set_line_count};
+ghost use Rattle.proof_checker.specs.Found.{IsFound};
+ghost use Rattle.proof_checker.specs.Imported.{seen_in};
+ghost use Rattle.proof_checker.specs.Jobs.{IsJob, lines_in};
+ghost use Rattle.proof_checker.specs.NoRoom.{IsOfGauge};
+
+use crate::numbers::first_bad_number;
+use bdd_nodes::Steps;
+use core::mem::replace_with;
+use counted_sets::{CountedSets, Floor};
+use diagram_sets::DiagramSets;
+use kripke_model::expressions::Formula;
+use kripke_model::models::Ruled;
+use proof_form::form::Proof;
+use region_sets::SetRefusal;
+use std::alloc::Global;
+use std::marker::Brand;
+use std::sync::ledger::Ledger;
+
+/// A proof that is tested, and the sets in which its numbers have their pins.
+#[derive(Drop)]
+pub(crate) struct Job<'a> {
+    pub(crate) alloc: Global,
+    pub(crate) sets: DiagramSets,
+    pub(crate) model: &'a Ruled,
+    pub(crate) formula: &'a Formula,
+    pub(crate) proof: &'a Proof<u32>,
+    /// For each number the slot of its pin.
+    pub(crate) table: &'a [u64],
+}
+
+/// Tests the proof in steps that don't fall below the floor.
+fn tested_above<L: Ledger, F: Floor>(
+    steps: Steps<L>,
+    job: Job<'_>,
+) -> (Steps<L>, Result<Option<u64>, SetRefusal>)
+    requires floor { F.floor ≡ steps }
+    requires job { IsJob job }
+    ensures found { IfOk result.1 (IsFound job.entry.model.now (lines_in job.entry)) }
+    ensures refused { IfErr result.1 (IsOfGauge (seen_in job.entry.sets).gauge) }
+    ensures counted { steps ≤ result.0 }
+    ensures local { result.0 ≤ steps + set_line_count job.entry.proof.now }
+{
+    let mut counted = CountedSets::<L, F>::new(job.sets, steps);
+    let found = first_bad_number(
+        job.alloc,
+        &mut counted,
+        job.model,
+        job.formula,
+        job.proof,
+        job.table,
+    );
+    let (_sets, after) = counted.into_parts();
+    (after, found)
+}
+
+/// Tests the proof, and gives the steps back.
+fn tested<L: Ledger>(steps: Steps<L>, job: Job<'_>) -> (Steps<L>, Result<Option<u64>, SetRefusal>)
+    requires { IsJob job }
+    ensures found { IfOk result.1 (IsFound job.entry.model.now (lines_in job.entry)) }
+    ensures refused { IfErr result.1 (IsOfGauge (seen_in job.entry.sets).gauge) }
+    ensures counted { steps ≤ result.0 }
+    ensures local { result.0 ≤ steps + set_line_count job.entry.proof.now }
+{
+    tested_above::<L, Brand>(steps, job)
+}
+
+/// The first line of the proof that fails, counted from 0, if one does. A step is one product with the
+/// transition relation.
+pub(crate) fn test_job<L: Ledger>(
+    job: Job<'_>,
+    steps: &mut Steps<L>,
+) -> Result<Option<u64>, SetRefusal>
+    requires { IsJob job }
+    ensures found { IfOk result (IsFound job.entry.model.now (lines_in job.entry)) }
+    ensures refused { IfErr result (IsOfGauge (seen_in job.entry.sets).gauge) }
+    ensures counted { steps.old ≤ steps.new }
+    ensures local { steps.new ≤ steps.old + set_line_count job.entry.proof.now }
+{
+    replace_with(steps, job, tested::<L>)
+}
