@@ -5,7 +5,9 @@
 #![tactic(auto)]
 
 mod answers;
+mod given;
 mod paths;
+mod questions;
 mod telling;
 mod verdicts;
 

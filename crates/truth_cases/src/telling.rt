@@ -22,3 +22,10 @@ pub fn tell_found(model: &Ruled, found: &Found, answer: &mut String) -> Result<(
     }
     Ok(())
 }
+
+/// Adds how many layers and constraints there are.
+pub fn tell_counts(found: &Found, answer: &mut String) -> Result<(), AllocError> {
+    let layers = found.counts.layers;
+    let constraints = found.counts.constraints;
+    write!(answer, "layers {layers}, constraints {constraints}")
+}
