@@ -1,3 +1,4 @@
 pub mod Mapped
 pub mod Told
 pub mod Placed
+pub mod Answered

@@ -22,6 +22,7 @@ use std::alloc::Global;
 use std::sync::ledger::Ledger;
 
 /// A proof over the nodes of a block.
+#[derive(Drop)]
 pub(crate) struct Given<'a> {
     pub(crate) model: &'a Ruled,
     /// The variables, in the order in which their bits stand in the code of a state.

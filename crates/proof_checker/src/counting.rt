@@ -69,8 +69,8 @@ fn tested<L: Ledger>(steps: Steps<L>, job: Job<'_>) -> (Steps<L>, Result<Option<
     tested_above::<L, Brand>(steps, job)
 }
 
-/// The first line of the proof that fails, counted from 0, if one does. A step is one product with the
-/// transition relation.
+/// The first line of the proof that fails, counted from 0, if one does. A step is one product with
+/// the transition relation.
 pub(crate) fn test_job<L: Ledger>(
     job: Job<'_>,
     steps: &mut Steps<L>,

@@ -2,6 +2,7 @@
 #![tactic(auto)]
 
 mod blocks;
+pub mod checking;
 mod counting;
 mod importing;
 mod numbers;
