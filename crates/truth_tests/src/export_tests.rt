@@ -1,12 +1,32 @@
 //! Sets as one list of nodes over the bits of the states.
 
-use crate::kinds::diagrams;
-use crate::members::FAIRLY_RISES;
-use crate::reading::model_of;
 use bdd_walk::NodeList;
+use case_models::kinds::diagrams;
+use case_models::reading::model_of;
 use diagram_sets::DiagramSets;
 use region_sets::{SetRefusal, StateSets};
+use std::alloc::Global;
 use std::test::Fail;
+
+/// x rises when go is 1.
+const RISES: &[u8] = b"MODULE main
+VAR x : boolean; go : boolean;
+ASSIGN
+  init(x) := 0;
+  next(x) := case go : 1; 1 : x; esac;
+SPEC x
+";
+
+/// Diagrams over the states of that model.
+fn sets_where_x_rises(alloc: Global) -> Result<DiagramSets, Fail> {
+    let Ok(model) = model_of(alloc, RISES) else {
+        return Err(Fail::new("a text has no model"));
+    };
+    match diagrams(alloc, &model) {
+        Ok(sets) => Ok(sets),
+        Err(_) => Err(Fail::new("a model has no parts")),
+    }
+}
 
 /// The value of a root where the bits are these. `None` where the list has no node of a number, or the bits are too few.
 fn value_at(list: &NodeList, root: u32, bits: &[bool]) -> Option<bool> {
@@ -65,9 +85,8 @@ fn exported(sets: &mut DiagramSets) -> Result<Option<(usize, usize, u32, u32)>, 
 /// second one has a node more over x, with one over go below it.
 #[test]
 fn two_sets_as_one_list(rt: HostRuntime) -> Result<(), Fail> {
-    let model = model_of(rt.alloc(), FAIRLY_RISES)?;
-    let mut sets = diagrams(rt.alloc(), &model)?;
-    assert_eq!(rt; sets.layout().bits(), 2);
-    assert_eq!(rt; exported(&mut sets)?, Some((2, 3, 3, 1)));
+    let mut sets = sets_where_x_rises(rt.alloc())?;
+    assert!(rt; sets.layout().bits() == 2);
+    assert!(rt; exported(&mut sets)? == Some((2, 3, 3, 1)));
     Ok(())
 }

@@ -1,3 +1,0 @@
-mod RunPins
-mod SpecLeaves
-mod ConstraintLeaves
