@@ -1,3 +1,4 @@
 mod Lessened
 mod Stripped
 mod Shown
+mod Spare

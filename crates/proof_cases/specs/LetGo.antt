@@ -18,3 +18,7 @@ pub record Lessens (before after : Sets) (old new : List ℕ) : Type 0 where
 -- each live pin stands for what it stood for
 abbrev pub Keeps : Sets → Sets → Type 0
 Keeps before after = (k : ℕ) → IsLive before k → after.pins k ≡ before.pins k
+
+-- each live pin but those of a list stands for what it stood for
+abbrev pub LetsGo : Sets → Sets → List ℕ → Type 0
+LetsGo before after slots = (k : ℕ) → IsLive before k → is_one_of k slots ≡ false → after.pins k ≡ before.pins k

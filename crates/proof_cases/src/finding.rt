@@ -11,8 +11,9 @@ ghost use Rattle.fair_fixpoint.specs.Walks.{HasModelLeaves};
 ghost use Rattle.proof_form.specs.Pinned.{proof_slots};
 ghost use Rattle.proof_form.specs.Shape.{spec_formula};
 ghost use Rattle.rank_extract.specs.Extracts.{IsLiveRun, Shows};
-ghost use Rattle.proof_cases.specs.LetGo.{HasPins, Keeps, Lessens};
+ghost use Rattle.proof_cases.specs.LetGo.{HasPins, Keeps, Lessens, LetsGo};
 
+use crate::added::with_spare;
 use crate::bare::without_layers;
 use crate::wrong::{Change, changed};
 use case_models::initials::least_initial;
@@ -83,8 +84,27 @@ fn test_both<S: StateSets>(
     })
 }
 
-/// Makes a change to the proof, and tests it. Each pin of it is released.
+/// Makes a change to the proof, and tests it. Each pin of it is released, and the spare one, which
+/// has no state.
 fn test_changed<S: StateSets>(
+    alloc: Global,
+    sets: &mut S,
+    model: &Ruled,
+    proof: Proof<Pin>,
+    spare: Pin,
+    change: Change,
+) -> Result<Tested, SetRefusal>
+    requires over { (S.seen sets.old).over ≡ model.now }
+    requires pins { HasPins (S.seen sets.old) (spare.slot ∷ proof_slots proof) }
+    ensures { Lessens (S.seen sets.old) (S.seen sets.new) (spare.slot ∷ proof_slots proof) [] }
+{
+    let proof = with_spare(alloc, sets, proof, spare, change);
+    let proof = changed(alloc, sets, proof, change);
+    test_both(alloc, sets, model, change.spec(), proof)
+}
+
+/// Tests the proof with the change. Each pin of it is released.
+fn test_beside<S: StateSets>(
     alloc: Global,
     sets: &mut S,
     model: &Ruled,
@@ -93,10 +113,15 @@ fn test_changed<S: StateSets>(
 ) -> Result<Tested, SetRefusal>
     requires over { (S.seen sets.old).over ≡ model.now }
     requires pins { HasPins (S.seen sets.old) (proof_slots proof) }
-    ensures { Lessens (S.seen sets.old) (S.seen sets.new) (proof_slots proof) [] }
+    ensures { LetsGo (S.seen sets.old) (S.seen sets.new) (proof_slots proof) }
 {
-    let proof = changed(alloc, sets, proof, change);
-    test_both(alloc, sets, model, change.spec(), proof)
+    match sets.empty() {
+        Ok(spare) => test_changed(alloc, sets, model, proof, spare, change),
+        Err(refusal) => {
+            proof.release(sets);
+            Err(refusal)
+        }
+    }
 }
 
 /// Makes a proof of the model's first specification, or that it is false at the state, and tests it with the change.
@@ -114,7 +139,7 @@ fn test_extracted<S: StateSets>(
     ensures { Keeps (S.seen sets.old) (S.seen sets.new) }
 {
     let proof = extract(alloc, sets, model, run, 1, at)?;
-    test_changed(alloc, sets, model, proof, change)
+    test_beside(alloc, sets, model, proof, change)
 }
 
 /// The same state.

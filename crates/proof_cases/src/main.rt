@@ -4,6 +4,7 @@
 //! The words are the names of case files; without words the cases are read from the standard input.
 #![tactic(auto)]
 
+mod added;
 mod answers;
 mod bare;
 mod finding;

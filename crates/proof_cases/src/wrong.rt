@@ -44,6 +44,8 @@ pub enum Change {
     EmptyReaches,
     /// The free part is left out.
     NoFreePart,
+    /// The free part claims nothing; where none is allowed, there is one.
+    BareFreePart,
     /// The proof is tested as one of the specification with this number.
     Spec(u32),
 }
@@ -71,6 +73,7 @@ impl Change {
             "no_reaches" => Change::NoReaches,
             "empty_reaches" => Change::EmptyReaches,
             "no_free_part" => Change::NoFreePart,
+            "bare_free_part" => Change::BareFreePart,
             "spec_0" => Change::Spec(0),
             "spec_2" => Change::Spec(2),
             _ => return None,
@@ -264,7 +267,7 @@ fn change_entries(entries: &mut Vec<Entry<Pin>>, change: Change)
 }
 
 /// Adds an empty list to those of a fair part. Without memory it stays as it is.
-fn add_reach(alloc: Global, fair: &mut FairPart<Pin>)
+pub fn add_reach(alloc: Global, fair: &mut FairPart<Pin>)
     ensures { fair_sets fair.new ≡ fair_sets fair.old }
 {
     if let Err(failed) = fair.reach.push(Vec::new(alloc)) {
