@@ -5,11 +5,13 @@
 #![tactic(auto)]
 
 mod changes;
+mod checking;
 mod each;
 mod edits;
 mod models;
 mod telling;
 
+use crate::checking::tell_checked;
 use crate::each::{tell_each_byte, tell_each_line};
 use crate::edits::edited;
 use crate::models::model_of;
@@ -56,6 +58,12 @@ fn answer_file(
     }
     if let Some(words) = question.strip_prefix(b"each line ") {
         return tell_each_line(alloc, model, file, words, answer);
+    }
+    if question == b"checked".as_slice() {
+        return Ok(tell_checked(alloc, model, file, answer)?);
+    }
+    if let Some(edits) = question.strip_prefix(b"checked: ") {
+        return Ok(tell_checked(alloc, model, &edited(alloc, file, edits)?, answer)?);
     }
     let file = edited(alloc, file, question)?;
     Ok(tell_read(alloc, model, &file, None, answer)?)

@@ -17,7 +17,7 @@ fn tell_line(line: u32, changed: Option<usize>, answer: &mut String) -> Result<(
 }
 
 /// Adds a refusal by its number, with its line.
-fn tell_refusal(
+pub fn tell_refusal(
     refusal: TextRefusal,
     changed: Option<usize>,
     answer: &mut String,
