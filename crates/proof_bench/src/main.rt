@@ -12,13 +12,16 @@ ghost use Rattle.proof_form.specs.Shape.{spec_formula};
 
 mod counting;
 mod measuring;
+mod rechecking;
 mod spec_at;
 mod times;
+mod writing;
 
 use crate::counting::Counts;
 use crate::measuring::{Measured, measure};
+use crate::rechecking::recheck;
 use crate::spec_at::spec_at;
-use crate::times::Times;
+use crate::times::{Times, cpu_nanos};
 use anyhow::{Context, Result, bail};
 use case_models::kinds::diagrams;
 use case_models::reading::model_of;
@@ -44,7 +47,7 @@ impl Sum {
             specs: 0,
             counts: Counts::zero(),
             pins: 0,
-            times: Times { run: 0, proof: 0 },
+            times: Times::zero(),
         }
     }
 
@@ -75,8 +78,11 @@ fn tell(
         "{what}: entries {entries}, layers {layers}, sets {sets} of {pins} pins of the run"
     )?;
     if let Some(times) = times {
-        let ratio = times.ratio(rt.alloc())?;
-        print!(rt; "; extract takes {ratio} of sat_sets")?;
+        let proof = times.proof_ratio(rt.alloc())?;
+        let recheck = times.recheck_ratio(rt.alloc())?;
+        print!(rt;
+            "; extract takes {proof} of sat_sets, and reading and testing {recheck} of deciding"
+        )?;
     }
     println!(rt; "")?;
     Ok(())
@@ -93,6 +99,7 @@ fn measure_over(
     requires spec { spec_formula model.now spec ≡ Some (ctl_of formula.now) }
     requires leaves { HasModelLeaves model.now (ctl_of formula.now) }
 {
+    let start = cpu_nanos(rt);
     let mut sets = match diagrams(rt.alloc(), model) {
         Ok(sets) => sets,
         Err(refusal) => {
@@ -100,8 +107,12 @@ fn measure_over(
             return Ok(None);
         }
     };
+    let build = cpu_nanos(rt).saturating_sub(start);
     match measure(rt, &mut sets, model, formula, spec) {
-        Ok(measured) => Ok(Some(measured)),
+        Ok(mut measured) => {
+            measured.times.build = build;
+            Ok(Some(measured))
+        }
         Err(SetRefusal::Full { held }) => {
             tell_full(&held, said)?;
             Ok(None)
@@ -124,12 +135,14 @@ fn run_spec(
     requires leaves { HasModelLeaves model.now (ctl_of formula.now) }
 {
     let mut said = String::new(rt.alloc());
-    let Some(measured) = measure_over(rt, model, formula, spec, &mut said)? else {
+    let Some(mut measured) = measure_over(rt, model, formula, spec, &mut said)? else {
         println!(rt; "{name} spec {spec}: {said}")?;
         return Ok(sum);
     };
+    let (answer, nanos) = recheck(rt, model, measured.text.as_slice())?;
+    measured.times.recheck = nanos;
     let verdict = if measured.holds { "true" } else { "false" };
-    let what = format!(in rt.alloc(); "{name} spec {spec} {verdict}")?;
+    let what = format!(in rt.alloc(); "{name} spec {spec} {verdict}, {answer}")?;
     let times = if timed { Some(measured.times) } else { None };
     tell(rt, what.as_str(), measured.counts, measured.pins, times)?;
     Ok(sum.plus(measured))
