@@ -1,8 +1,9 @@
 //! Makes the proofs of the specifications of models, and says what each has beside the run that it comes from, and how
 //! long it takes to make it.
 //!
-//! The words are the names of files of models. Without words it makes the proofs for a ring of three inverters, and says
-//! no time.
+//! The words are the names of files of models. Behind the word `answers` it says of each proof what the
+//! checker answers to it, and no more. Without words it makes the proofs for a ring of three inverters,
+//! and says no time.
 #![tactic(auto)]
 
 ghost use Rattle.std.specs.Prelude.{◌≡◌, ◌+◌, Some};
@@ -31,6 +32,17 @@ use kripke_model::models::Ruled;
 use region_sets::SetRefusal;
 use smv_rings::gen_text;
 use std::{env, fs};
+
+/// What is said of a specification.
+#[derive(Clone, Copy, PartialEq, Eq)]
+enum Telling {
+    /// The verdict, and what the checker answers to the proof.
+    Answers,
+    /// With what the proof has.
+    Counts,
+    /// And with the times.
+    Times,
+}
 
 /// What is measured of all specifications.
 #[derive(Clone, Copy)]
@@ -128,7 +140,7 @@ fn run_spec(
     model: &Ruled,
     formula: &Formula,
     spec: u32,
-    timed: bool,
+    telling: Telling,
     sum: Sum,
 ) -> Result<Sum>
     requires spec { spec_formula model.now spec ≡ Some (ctl_of formula.now) }
@@ -143,13 +155,26 @@ fn run_spec(
     measured.times.recheck = nanos;
     let verdict = if measured.holds { "true" } else { "false" };
     let what = format!(in rt.alloc(); "{name} spec {spec} {verdict}, {answer}")?;
-    let times = if timed { Some(measured.times) } else { None };
+    let times = match telling {
+        Telling::Answers => {
+            println!(rt; "{what}")?;
+            return Ok(sum.plus(measured));
+        }
+        Telling::Counts => None,
+        Telling::Times => Some(measured.times),
+    };
     tell(rt, what.as_str(), measured.counts, measured.pins, times)?;
     Ok(sum.plus(measured))
 }
 
 /// Measures each specification of the model. Gives the sum with them.
-fn run_model(rt: &HostRuntime, name: &str, model: &Ruled, timed: bool, sum: Sum) -> Result<Sum> {
+fn run_model(
+    rt: &HostRuntime,
+    name: &str,
+    model: &Ruled,
+    telling: Telling,
+    sum: Sum,
+) -> Result<Sum> {
     let mut all = sum;
     let Ok(count) = u32::try_from(model.formulas().len()) else {
         bail!("too many specifications");
@@ -158,16 +183,16 @@ fn run_model(rt: &HostRuntime, name: &str, model: &Ruled, timed: bool, sum: Sum)
         let Some(formula) = spec_at(model, before) else {
             return Ok(all);
         };
-        all = run_spec(rt, name, model, formula, before + 1, timed, all)?;
+        all = run_spec(rt, name, model, formula, before + 1, telling, all)?;
     }
     Ok(all)
 }
 
 /// Measures each specification of a file's model. Gives the sum with them.
-fn run_file(rt: &HostRuntime, name: &str, sum: Sum) -> Result<Sum> {
+fn run_file(rt: &HostRuntime, name: &str, telling: Telling, sum: Sum) -> Result<Sum> {
     let text = fs::read_to_string(rt, name).context(format_args!("reading {name}"))?;
     match model_of(rt.alloc(), text.as_str().as_bytes()) {
-        Ok(model) => run_model(rt, name, &model, true, sum),
+        Ok(model) => run_model(rt, name, &model, telling, sum),
         Err(refusal) => {
             println!(rt; "{name}: {refusal}")?;
             Ok(sum)
@@ -181,19 +206,27 @@ fn run_ring(rt: &HostRuntime) -> Result<()> {
     let Ok(model) = model_of(rt.alloc(), &text) else {
         bail!("no model");
     };
-    let _sum = run_model(rt, "ring of 3", &model, false, Sum::zero())?;
+    let _sum = run_model(rt, "ring of 3", &model, Telling::Counts, Sum::zero())?;
     Ok(())
 }
 
 fn main(rt: HostRuntime) -> Result<()> {
     let mut sum = Sum::zero();
+    let mut telling = Telling::Times;
     let mut files: usize = 0;
     for name in env::args(&rt)?.skip(1) {
-        sum = run_file(&rt, name.as_str(), sum)?;
+        if name.as_str() == "answers" {
+            telling = Telling::Answers;
+            continue;
+        }
+        sum = run_file(&rt, name.as_str(), telling, sum)?;
         files = files.saturating_add(1);
     }
     if files == 0 {
         return run_ring(&rt);
+    }
+    if telling == Telling::Answers {
+        return Ok(());
     }
     let what = format!(in rt.alloc(); "{count} specifications", count = sum.specs)?;
     tell(&rt, what.as_str(), sum.counts, sum.pins, Some(sum.times))
