@@ -2,11 +2,11 @@
 use Rattle.std.proofs.Common.{◌≡◌, ◌≢◌, ℕ, zero, suc, List, [], ◌∷◌, ◌++◌, take, drop, refl, arith}
 use Rattle.kripke_model.specs.System.{System}
 use Rattle.smv_texts.specs.Refusals.{Refusal, reason, refusal_line}
-use Rattle.smv_texts.specs.Replies.{Head, Spec, Total, Refused, Usage, Module, head_word}
+use Rattle.smv_texts.specs.Replies.{Head, Spec, Total, Model, Refused, Usage, Module, head_word}
 use Rattle.smv_texts.specs.Report.{Finding, report}
 use Rattle.smv_texts.specs.Texts.{fault_line, usage_text}
 use Rattle.smv_texts.specs.declared.fault.Fault.{Fault}
-use Rattle.smv_texts.specs.declared.fault.Fault.TheVariants.{LoadFailed, LoadMissing}
+use Rattle.smv_texts.specs.declared.fault.Fault.TheVariants.{LoadFailed, LoadMissing, SaveFailed}
 
 -- the report of no specification begins with its last line
 abbrev pub report_head : List Finding → Head
@@ -32,12 +32,15 @@ usage_begins = refl
 begins : (n byte : ℕ) (rest : List ℕ) (fault : Fault) → byte ≢ 102 → take n (byte ∷ rest) ≢ fault_line fault
 begins zero byte rest LoadFailed other is = cc
 begins zero byte rest LoadMissing other is = cc
+begins zero byte rest SaveFailed other is = cc
 begins (suc n) byte rest LoadFailed other is = other cc
 begins (suc n) byte rest LoadMissing other is = other cc
+begins (suc n) byte rest SaveFailed other is = other cc
 
 pub no_fault_line : (h : Head) (rest : List ℕ) (n : ℕ) (fault : Fault) → take n (head_word h ++ rest) ≢ fault_line fault
 no_fault_line Spec rest n fault = begins n 115 _ fault (λ is. absurd (omega arith))
 no_fault_line Total rest n fault = begins n 116 _ fault (λ is. absurd (omega arith))
+no_fault_line Model rest n fault = begins n 109 _ fault (λ is. absurd (omega arith))
 no_fault_line Refused rest n fault = begins n 114 _ fault (λ is. absurd (omega arith))
 no_fault_line Usage rest n fault = begins n 117 _ fault (λ is. absurd (omega arith))
 no_fault_line Module rest n fault = begins n 77 _ fault (λ is. absurd (omega arith))

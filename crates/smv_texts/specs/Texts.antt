@@ -1,7 +1,7 @@
 -- The texts that the program puts beside reports and refusals.
 use Rattle.std.specs.Prelude.{ℕ, List, [], ◌∷◌, ◌++◌, codes}
 use Rattle.smv_texts.specs.declared.fault.Fault.{Fault}
-use Rattle.smv_texts.specs.declared.fault.Fault.TheVariants.{LoadFailed, LoadMissing}
+use Rattle.smv_texts.specs.declared.fault.Fault.TheVariants.{LoadFailed, LoadMissing, SaveFailed}
 
 -- a text and a line feed
 abbrev pub line : List ℕ → List ℕ
@@ -14,3 +14,4 @@ usage_text = line (codes "usage: smv_run check MODEL [--nodes N] [--proof FILE]"
 abbrev pub fault_line : Fault → List ℕ
 fault_line LoadFailed = line (codes "fault load failed")
 fault_line LoadMissing = line (codes "fault load missing")
+fault_line SaveFailed = line (codes "fault save failed")

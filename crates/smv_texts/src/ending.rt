@@ -8,17 +8,21 @@ use bdd_nodes::Held;
 /// How an answer ends where nothing fails.
 #[derive(Debug, Drop)]
 pub enum Ending {
-    /// Every specification is true, or a text was asked for.
+    /// Every specification is true, every block is accepted, or a text was asked for.
     Clear,
-    /// Some specification is false, and none is unknown.
+    /// Some specification is false, or some block is rejected, and none is unknown or unanswered.
     Failed,
-    /// Some specification is unknown, or the model is undecided, since the node limit was met.
+    /// Some specification is unknown, some block is unanswered, or the model is undecided, since
+    /// the node limit was met.
     Undecided {
-        /// A full store for each unknown specification, or a single one where the model is undecided.
+        /// A full store for each unknown specification or unanswered block, or a single one where
+        /// the model is undecided.
         held: Vec<Held>,
     },
     /// The model's text is refused.
     ModelRefused,
+    /// The proof file's text is refused.
+    ProofRefused,
     /// The words are no command.
     Usage,
 }
@@ -33,6 +37,7 @@ impl Ending {
             Ending::Failed => Status::Failed,
             Ending::Undecided { held } => Status::Undecided { held },
             Ending::ModelRefused => Status::ModelRefused,
+            Ending::ProofRefused => Status::ProofRefused,
             Ending::Usage => Status::Usage,
         }
     }

@@ -9,6 +9,8 @@ pub enum Fault {
     LoadFailed,
     /// There is no file of the name.
     LoadMissing,
+    /// A file could not be made or written whole.
+    SaveFailed,
 }
 
 impl Fault {
@@ -19,6 +21,7 @@ impl Fault {
         match self {
             Fault::LoadFailed => b"fault load failed\n",
             Fault::LoadMissing => b"fault load missing\n",
+            Fault::SaveFailed => b"fault save failed\n",
         }
     }
 }

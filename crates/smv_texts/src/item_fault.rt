@@ -1,5 +1,5 @@
 // The fault of a model's item, and the line that tells it.
-ghost use Rattle.std.specs.Prelude.{◌≡◌, ◌++◌, IfOk, OnOk};
+ghost use Rattle.std.specs.Prelude.{◌≡◌, ◌++◌, IfOk, None, OnOk};
 ghost use Rattle.smv_texts.specs.Reasons.{after_text, fault_reason, given_text, here_text, kind_word};
 ghost use Rattle.smv_texts.specs.Refusals.{Faults, refusal_line};
 ghost use Rattle.smv_texts.specs.Report.{numbered};
@@ -99,9 +99,14 @@ fn push_fault(text: &mut Text, model: &Ruled, fault: &ItemFault) -> Result<(), A
 }
 
 /// What is put where an item of the model faults.
-pub fn refuse_fault(alloc: Global, model: &Ruled, fault: &ItemFault) -> Result<Reply, AllocError>
+pub fn refuse_fault<'a>(
+    alloc: Global,
+    model: &Ruled,
+    fault: &ItemFault,
+) -> Result<Reply<'a>, AllocError>
     ensures text { IfOk result (λ reply. reply.text.items ≡ refusal_line (Faults model.now fault.now.kind fault.now.line fault.now.here fault.now.after)) }
     ensures ending { IfOk result (λ reply. reply.ending ≡ ModelRefused) }
+    ensures saves { IfOk result (λ reply. reply.saves ≡ None) }
 {
     let mut text = Text::new(alloc);
     text.push(b"refused ")?;
@@ -110,5 +115,6 @@ pub fn refuse_fault(alloc: Global, model: &Ruled, fault: &ItemFault) -> Result<R
     Ok(Reply {
         text: text.into_bytes(),
         ending: Ending::ModelRefused,
+        saves: None,
     })
 }

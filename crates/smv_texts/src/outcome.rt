@@ -19,46 +19,54 @@ pub enum Outcome {
     Unknown(u32),
 }
 
-impl Outcome {
+/// What is found of a specification, and what became of its proof.
+#[derive(Drop)]
+pub struct Finding {
+    pub outcome: Outcome,
+    /// The bytes that the proof file would have with the proof, where the proof was left out.
+    pub left_out: Option<usize>,
+}
+
+impl Finding {
     pub(crate) fn is_true(&self) -> bool
         ensures { result ≡ lines.is_true (finding_of self.now) }
     {
-        matches!(self, Outcome::True)
+        matches!(self.outcome, Outcome::True)
     }
 
     pub(crate) fn is_false(&self) -> bool
         ensures { result ≡ lines.is_false (finding_of self.now) }
     {
-        matches!(self, Outcome::False { .. })
+        matches!(self.outcome, Outcome::False { .. })
     }
 
     pub(crate) fn is_unknown(&self) -> bool
         ensures { result ≡ lines.is_unknown (finding_of self.now) }
     {
-        matches!(self, Outcome::Unknown(_))
+        matches!(self.outcome, Outcome::Unknown(_))
     }
 }
 
 /// How many are true.
-pub(crate) fn true_count(outcomes: &[Outcome]) -> usize
-    ensures { result ≡ count_by lines.is_true (map finding_of outcomes.now) }
+pub(crate) fn true_count(findings: &[Finding]) -> usize
+    ensures { result ≡ count_by lines.is_true (map finding_of findings.now) }
 {
-    outcomes.iter().filter(|outcome| outcome.is_true()).count()
+    findings.iter().filter(|finding| finding.is_true()).count()
 }
 
 /// How many are false.
-pub fn false_count(outcomes: &[Outcome]) -> usize
-    ensures { result ≡ count_by lines.is_false (map finding_of outcomes.now) }
+pub fn false_count(findings: &[Finding]) -> usize
+    ensures { result ≡ count_by lines.is_false (map finding_of findings.now) }
 {
-    outcomes.iter().filter(|outcome| outcome.is_false()).count()
+    findings.iter().filter(|finding| finding.is_false()).count()
 }
 
 /// How many are unknown.
-pub(crate) fn unknown_count(outcomes: &[Outcome]) -> usize
-    ensures { result ≡ count_by lines.is_unknown (map finding_of outcomes.now) }
+pub(crate) fn unknown_count(findings: &[Finding]) -> usize
+    ensures { result ≡ count_by lines.is_unknown (map finding_of findings.now) }
 {
-    outcomes
+    findings
         .iter()
-        .filter(|outcome| outcome.is_unknown())
+        .filter(|finding| finding.is_unknown())
         .count()
 }

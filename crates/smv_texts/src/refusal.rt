@@ -1,5 +1,5 @@
 // Why a model's text is refused, and the line that tells it.
-ghost use Rattle.std.specs.Prelude.{◌≡◌, ◌++◌, IfOk, IsSomeAnd, OnOk};
+ghost use Rattle.std.specs.Prelude.{◌≡◌, ◌++◌, IfOk, IsSomeAnd, None, OnOk};
 ghost use Rattle.smv_texts.specs.Refusals.{reason};
 ghost use Rattle.smv_texts.specs.Told.{TellsRefusal, told};
 
@@ -29,7 +29,7 @@ pub enum Refusal {
 }
 
 /// What is put where a model's text is refused.
-pub fn refuse(alloc: Global, refusal: &Refusal) -> Result<Reply, AllocError>
+pub fn refuse<'a>(alloc: Global, refusal: &Refusal) -> Result<Reply<'a>, AllocError>
     ensures { IfOk result (TellsRefusal (told refusal.now)) }
 {
     let mut text = Text::new(alloc);
@@ -39,6 +39,7 @@ pub fn refuse(alloc: Global, refusal: &Refusal) -> Result<Reply, AllocError>
     Ok(Reply {
         text: text.into_bytes(),
         ending: Ending::ModelRefused,
+        saves: None,
     })
 }
 

@@ -3,34 +3,35 @@ ghost use Rattle.std.specs.Prelude.{◌≡◌, ◌<◌, ◌≤◌, ◌+◌, ◌+
 ghost use Rattle.smv_texts.specs.Outcomes.{finding_of, outcome_of};
 ghost use Rattle.smv_texts.specs.Report as lines;
 
-use crate::outcome::{Outcome, false_count, true_count, unknown_count};
+use crate::outcome::{Finding, Outcome, false_count, true_count, unknown_count};
 use kripke_model::models::{FlatVar, Ruled};
 use kripke_model::states::{Lasso, State};
 use std::alloc::{AllocError, Global};
 use value_texts::text::Text;
 use value_texts::values::{push_value, value_at};
 
-/// The report of one outcome for each specification of the model, in order.
+/// The report of one finding for each specification of the model, in order.
 pub fn report_text(
     alloc: Global,
     model: &Ruled,
-    outcomes: &[Outcome],
+    findings: &[Finding],
 ) -> Result<Vec<u8>, AllocError>
-    requires { length outcomes.now ≤ length model.now.specs }
-    ensures { IfOk result (λ text. text.items ≡ lines.report model.now (map finding_of outcomes.now)) }
+    requires { length findings.now ≤ length model.now.specs }
+    ensures { IfOk result (λ text. text.items ≡ lines.report model.now (map finding_of findings.now)) }
 {
     let mut text = Text::new(alloc);
-    push_findings(&mut text, model, outcomes)?;
-    push_total(&mut text, outcomes)?;
+    push_findings(&mut text, model, findings)?;
+    push_total(&mut text, findings)?;
     Ok(text.into_bytes())
 }
 
-fn push_findings(text: &mut Text, model: &Ruled, outcomes: &[Outcome]) -> Result<(), AllocError>
-    requires { length outcomes.now ≤ length model.now.specs }
-    ensures { OnOk result (text.new ≡ text.old ++ lines.numbered (lines.finding_lines model.now) 0 (map finding_of outcomes.now)) }
+fn push_findings(text: &mut Text, model: &Ruled, findings: &[Finding]) -> Result<(), AllocError>
+    requires { length findings.now ≤ length model.now.specs }
+    ensures { OnOk result (text.new ≡ text.old
+        ++ lines.numbered (lines.finding_lines model.now) 0 (map finding_of findings.now)) }
 {
-    for (place, outcome) in outcomes.iter().enumerate() {
-        push_finding(text, model, place, outcome)?;
+    for (place, finding) in findings.iter().enumerate() {
+        push_finding(text, model, place, finding)?;
     }
     Ok(())
 }
@@ -40,15 +41,50 @@ fn push_finding(
     text: &mut Text,
     model: &Ruled,
     place: usize,
-    outcome: &Outcome,
+    finding: &Finding,
 ) -> Result<(), AllocError>
-    requires { place < length model.now.specs }
-    ensures { OnOk result (text.new ≡ text.old ++ lines.finding_lines model.now place (finding_of outcome.now)) }
+    requires there { place < length model.now.specs }
+    requires countable { place < 18446744073709551615 }
+    ensures { OnOk result (text.new ≡ text.old
+        ++ lines.finding_lines model.now place (finding_of finding.now)) }
 {
     push_spec(text, model, place)?;
-    push_verdict(text, outcome)?;
+    push_verdict(text, &finding.outcome)?;
     text.push(b"\n")?;
-    push_witness(text, model, outcome)
+    push_below(text, model, place, finding)
+}
+
+// What stands below the verdict.
+fn push_below(
+    text: &mut Text,
+    model: &Ruled,
+    place: usize,
+    finding: &Finding,
+) -> Result<(), AllocError>
+    requires { place < 18446744073709551615 }
+    ensures { OnOk result (text.new ≡ text.old
+        ++ (lines.witness_lines model.now (outcome_of finding.now.outcome)
+        ++ lines.left_out_lines (place + 1) finding.now.left_out)) }
+{
+    push_witness(text, model, &finding.outcome)?;
+    push_left_out(text, place, finding.left_out)
+}
+
+// The length that the proof file would have with the proof, where that was left out.
+fn push_left_out(text: &mut Text, place: usize, left_out: Option<usize>) -> Result<(), AllocError>
+    requires { place < 18446744073709551615 }
+    ensures { OnOk result (text.new ≡ text.old ++ lines.left_out_lines (place + 1) left_out) }
+{
+    match left_out {
+        None => Ok(()),
+        Some(size) => {
+            text.push(b"proof ")?;
+            text.push_number(place + 1)?;
+            text.push(b" left out: length ")?;
+            text.push_number(size)?;
+            text.push(b"\n")
+        }
+    }
 }
 
 fn push_spec(text: &mut Text, model: &Ruled, place: usize) -> Result<(), AllocError>
@@ -188,12 +224,12 @@ fn push_count(text: &mut Text, word: &[u8], n: usize) -> Result<(), AllocError>
 }
 
 // How many specifications there are, and how many of each verdict.
-fn push_total(text: &mut Text, outcomes: &[Outcome]) -> Result<(), AllocError>
-    ensures { OnOk result (text.new ≡ text.old ++ lines.total_line (map finding_of outcomes.now)) }
+fn push_total(text: &mut Text, findings: &[Finding]) -> Result<(), AllocError>
+    ensures { OnOk result (text.new ≡ text.old ++ lines.total_line (map finding_of findings.now)) }
 {
-    push_count(text, b"total ", outcomes.len())?;
-    push_count(text, b" true ", true_count(outcomes))?;
-    push_count(text, b" false ", false_count(outcomes))?;
-    push_count(text, b" unknown ", unknown_count(outcomes))?;
+    push_count(text, b"total ", findings.len())?;
+    push_count(text, b" true ", true_count(findings))?;
+    push_count(text, b" false ", false_count(findings))?;
+    push_count(text, b" unknown ", unknown_count(findings))?;
     text.push(b"\n")
 }

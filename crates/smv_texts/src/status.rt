@@ -6,23 +6,27 @@ use bdd_nodes::Held;
 /// How a call of the program ended.
 #[derive(Debug, Drop)]
 pub enum Status {
-    /// Every specification is true.
+    /// Every specification is true, every block is accepted, or a text was asked for.
     Clear,
-    /// Some specification is false, and none is unknown.
+    /// Some specification is false, or some block is rejected, and none is unknown or unanswered.
     Failed,
-    /// Some specification is unknown, or the model is undecided, since the node limit was met.
+    /// Some specification is unknown, some block is unanswered, or the model is undecided, since
+    /// the node limit was met.
     Undecided {
-        /// A full store for each unknown specification, or a single one where the model is undecided.
+        /// A full store for each unknown specification or unanswered block, or a single one where
+        /// the model is undecided.
         held: Vec<Held>,
     },
     /// The model's text is refused.
     ModelRefused,
-    /// A file was not read, or the text was not put.
+    /// A file was not read or not saved, or the text was not put.
     OutsideFault,
     /// The words are no command.
     Usage,
     /// Memory ran out.
     Memory,
+    /// The proof file's text is refused.
+    ProofRefused,
 }
 
 impl Status {
@@ -40,6 +44,7 @@ impl Status {
             Status::OutsideFault => 4,
             Status::Usage => 5,
             Status::Memory => 6,
+            Status::ProofRefused => 7,
         }
     }
 }

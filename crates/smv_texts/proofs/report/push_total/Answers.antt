@@ -9,4 +9,4 @@ returns c =
     let third = c.in_ok-push_count-3.ensures ∙ ap (λ (n : ℕ). c.push_count-2.new.text ++ codes " false " ++ decimal n) c.false_count.ensures in
     let fourth = c.in_ok-push_count-4.ensures ∙ ap (λ (n : ℕ). c.push_count-3.new.text ++ codes " unknown " ++ decimal n) c.unknown_count.ensures in
     on_ok_weaker c.push.result
-    (λ last. total c.args.outcomes.now c.args.text.now _ _ _ _ _ c.in_ok-push_count.ensures second third fourth last) c.push.ensures
+    (λ last. total c.args.findings.now c.args.text.now _ _ _ _ _ c.in_ok-push_count.ensures second third fourth last) c.push.ensures
