@@ -6,7 +6,7 @@ use Rattle.std.proofs.lemmas.Bool.{false≢true}
 use Rattle.std.proofs.lemmas.List.Elements.{All-nil, All-cons}
 use Rattle.bdd_nodes.specs.declared.refusal.Held.{Held}
 use Rattle.command_words.specs.Words as words
-use Rattle.command_words.specs.Words.{Command, Source, File, Ring, Work, Job, Decide, Print, Do}
+use Rattle.command_words.specs.Words.{Command, Source, File, Ring, Work, Job, Decide, Recheck, Print, Do}
 use Rattle.kripke_model.specs.System.{System}
 use Rattle.smv_outside.specs.Contents.{Contents}
 use Rattle.smv_rings.specs.Rings.{ring_text}
@@ -23,8 +23,10 @@ use Rattle.smv_texts.specs.Statuses.{status_of}
 use Rattle.smv_texts.specs.Texts.{usage_text}
 use Rattle.smv_texts.specs.declared.ending.Ending.{Ending}
 use Rattle.smv_texts.specs.declared.ending.Ending.TheVariants as endings
-use Rattle.smv_texts.specs.declared.status.Status.TheVariants.{Undecided, ModelRefused, OutsideFault, Usage, Memory}
+use Rattle.smv_texts.specs.declared.status.Status.TheVariants.{Undecided, ModelRefused, OutsideFault, Usage, Memory, ProofRefused}
 use Rattle.spec_verdicts.specs.Checked.{EndsWith}
+use Rattle.proof_answers.specs.Answers.{Answer}
+use Rattle.proof_answers.specs.Rechecked.{EndsAnswers, Rechecked}
 
 -- ---- endings and statuses
 
@@ -33,6 +35,7 @@ usage_ending endings.Clear is = cc
 usage_ending endings.Failed is = cc
 usage_ending (endings.Undecided held) is = cc
 usage_ending endings.ModelRefused is = cc
+usage_ending endings.ProofRefused is = cc
 usage_ending endings.Usage is = refl
 
 pub refused_ending : (e : Ending) → status_of e ≡ ModelRefused → e ≡ endings.ModelRefused
@@ -40,6 +43,7 @@ refused_ending endings.Clear is = cc
 refused_ending endings.Failed is = cc
 refused_ending (endings.Undecided held) is = cc
 refused_ending endings.ModelRefused is = refl
+refused_ending endings.ProofRefused is = cc
 refused_ending endings.Usage is = cc
 
 pub undecided_ending : (e : Ending) (held : Vec Held) → status_of e ≡ Undecided held → e ≡ endings.Undecided held
@@ -47,13 +51,23 @@ undecided_ending endings.Clear held is = cc
 undecided_ending endings.Failed held is = cc
 undecided_ending (endings.Undecided full) held is = let e : full ≡ held = cc in ap endings.Undecided e
 undecided_ending endings.ModelRefused held is = cc
+undecided_ending endings.ProofRefused held is = cc
 undecided_ending endings.Usage held is = cc
+
+pub proof_ending : (e : Ending) → status_of e ≡ ProofRefused → e ≡ endings.ProofRefused
+proof_ending endings.Clear is = cc
+proof_ending endings.Failed is = cc
+proof_ending (endings.Undecided held) is = cc
+proof_ending endings.ModelRefused is = cc
+proof_ending endings.ProofRefused is = refl
+proof_ending endings.Usage is = cc
 
 pub no_fault_ending : (e : Ending) → status_of e ≢ OutsideFault
 no_fault_ending endings.Clear is = cc
 no_fault_ending endings.Failed is = cc
 no_fault_ending (endings.Undecided held) is = cc
 no_fault_ending endings.ModelRefused is = cc
+no_fault_ending endings.ProofRefused is = cc
 no_fault_ending endings.Usage is = cc
 
 pub no_memory_ending : (e : Ending) → status_of e ≢ Memory
@@ -61,6 +75,7 @@ no_memory_ending endings.Clear is = cc
 no_memory_ending endings.Failed is = cc
 no_memory_ending (endings.Undecided held) is = cc
 no_memory_ending endings.ModelRefused is = cc
+no_memory_ending endings.ProofRefused is = cc
 no_memory_ending endings.Usage is = cc
 
 -- ---- what work ends with
@@ -76,6 +91,7 @@ IsWorkEnding m limit endings.Clear = Unit {0}
 IsWorkEnding m limit endings.Failed = Unit {0}
 IsWorkEnding m limit (endings.Undecided held) = IsShown m limit held
 IsWorkEnding m limit endings.ModelRefused = ⊥
+IsWorkEnding m limit endings.ProofRefused = Unit {0}
 IsWorkEnding m limit endings.Usage = ⊥
 
 one_held : (m : System) (limit : ℕ) (held : Vec Held) (full : Held) → held.items ≡ full ∷ [] → IsOfLimit m limit full → IsShown m limit held
@@ -85,17 +101,33 @@ one_held m limit held full one is = record {
 }
 
 undecides_end : (job : Job) (m : System) (limit : ℕ) (r : Reply) → Undecides job m limit r → IsWorkEnding m limit r.ending
-undecides_end Decide m limit r u = subst (IsWorkEnding m limit) (sym u.ends) (one_held m limit u.held u.full u.one u.of_limit)
+undecides_end (Decide proofs) m limit r u = subst (IsWorkEnding m limit) (sym u.ends) (one_held m limit u.held u.full u.one u.of_limit)
+undecides_end (Recheck proofs) m limit r u = subst (IsWorkEnding m limit) (sym u.ends) (one_held m limit u.held u.full u.one u.of_limit)
 
 checked_end : (m : System) (limit : ℕ) (fs : List Finding) (e : Ending) → EndsWith m limit fs e → IsWorkEnding m limit e
 checked_end m limit fs endings.Clear ends = tt
 checked_end m limit fs endings.Failed ends = tt
 checked_end m limit fs (endings.Undecided held) ends = record { full = ends.0; some = ends.1 }
 checked_end m limit fs endings.ModelRefused ends = absurd ends
+checked_end m limit fs endings.ProofRefused ends = absurd ends
 checked_end m limit fs endings.Usage ends = absurd ends
 
+answers_end : (m : System) (limit : ℕ) (as : List Answer) (e : Ending) → EndsAnswers m limit as e → IsWorkEnding m limit e
+answers_end m limit as endings.Clear ends = tt
+answers_end m limit as endings.Failed ends = tt
+answers_end m limit as (endings.Undecided held) ends = record { full = ends.0; some = ends.1 }
+answers_end m limit as endings.ModelRefused ends = absurd ends
+answers_end m limit as endings.ProofRefused ends = absurd ends
+answers_end m limit as endings.Usage ends = absurd ends
+
+rechecked_end : (m : System) (limit : ℕ) (bytes : List ℕ) (r : Reply) → Rechecked m limit bytes r → IsWorkEnding m limit r.ending
+rechecked_end m limit bytes r (inl refused) = subst (IsWorkEnding m limit) (sym refused.ends) tt
+rechecked_end m limit bytes r (inr answered) = answers_end m limit answered.answers r.ending answered.ends
+
 does_end : (job : Job) (m : System) (limit : ℕ) (second : Option (List ℕ)) (r : Reply) → Does job m limit second r → IsWorkEnding m limit r.ending
-does_end Decide m limit second r does = checked_end m limit does.findings r.ending does.ends
+does_end (Decide proofs) m limit second r does = checked_end m limit does.findings r.ending does.ends
+does_end (Recheck proofs) m limit None r does = absurd does
+does_end (Recheck proofs) m limit (Some bytes) r does = rechecked_end m limit bytes r does
 
 work_end : (w : Work) (contents : Option Contents) (m : System) (r : Reply) → Takes w contents m r → IsWorkEnding m w.limit r.ending
 work_end w contents m r (inl undecided) = undecides_end w.job m w.limit r undecided

@@ -1,55 +1,110 @@
--- What is found of the specifications that are to be decided.
-use Rattle.std.proofs.Common.{◌≡◌, inl, inr, ℕ, List, [], ◌∷◌, length, replicate, Option, None, refl, subst}
-use Rattle.command_words.specs.Words.{Job, Work, Decide}
+-- What is promised of the jobs over a model.
+use Rattle.std.proofs.Common.{◌≡◌, ◌⊎◌, inl, inr, ℕ, List, [], ◌∷◌, length, replicate, Option, Some, None, IfSome, refl, sym, subst}
+use Rattle.std.specs.Prelude.{All}
+use Rattle.command_words.specs.Words.{Job, Work, Decide, Recheck}
+use Rattle.kripke_model.specs.Faults.{IsFaultless}
 use Rattle.kripke_model.specs.System.{System, Condition}
-use Rattle.smv_outside.specs.Contents.{Contents}
-use Rattle.smv_session.specs.Answers.{Takes}
-use Rattle.smv_session.specs.Commands.{AreFoundIn, ReportsVerdicts, ShowsStates}
-use Rattle.smv_session.specs.Jobs.{Does, Undecides}
-use Rattle.smv_session.specs.Session.{Session, Puts, TakesModels}
+use Rattle.proof_answers.specs.Rechecked.{LeavesUnanswered, Rechecked}
+use Rattle.smv_outside.specs.Contents.{Contents, bytes_under}
+use Rattle.smv_session.specs.Answers.{IsDone, Takes}
+use Rattle.smv_session.specs.Commands.{AreFoundIn, ExportsProofs, IsRechecked, RechecksProofs, ReportsVerdicts, ShowsStates, TellsOfProofs}
+use Rattle.smv_session.specs.Jobs.{Does, IsSecond, Undecides}
+use Rattle.smv_session.specs.Session.{Leaves, Puts, Session, Shows, TakesModels}
 use Rattle.smv_texts.specs.Replies.{Reply, text_of}
 use Rattle.smv_texts.specs.Report.{Finding, Unknown, report}
-use Rattle.spec_verdicts.specs.Checked.{Checked, all_unknown}
-use Rattle.spec_verdicts.specs.Verdicts.{EachFinding, IsTold, ShowsState, ShowStates}
+use Rattle.spec_verdicts.specs.Checked.{Checked, SavesProofs, all_unknown}
+use Rattle.spec_verdicts.specs.Exports.{Exports}
+use Rattle.spec_verdicts.specs.Verdicts.{EachFinding, IsVerdict, ShowsState, ShowStates}
+
+-- ---- check
 
 -- of each specification nothing is known
-each_unknown : (m : System) (limit : ℕ) (cs : List Condition) → EachFinding (IsTold m limit) cs (replicate (length cs) (record { outcome = Unknown limit; left_out = None }))
+each_unknown : (m : System) (limit : ℕ) (cs : List Condition) → EachFinding (λ f finding. IsVerdict m limit f finding.outcome) cs (replicate (length cs) (record { outcome = Unknown limit; left_out = None }))
 each_unknown m limit [] = tt
-each_unknown m limit (c ∷ cs) = (record { verdict = refl; left_out = refl }, each_unknown m limit cs)
+each_unknown m limit (c ∷ cs) = (refl, each_unknown m limit cs)
 
 none_shown : (m : System) (limit : ℕ) (cs : List Condition) → EachFinding (λ f finding. ShowsState m f finding.outcome) cs (replicate (length cs) (record { outcome = Unknown limit; left_out = None }))
 none_shown m limit [] = tt
 none_shown m limit (c ∷ cs) = (tt, none_shown m limit cs)
 
 -- what a reply to the job tells
-record Finds (m : System) (limit : ℕ) (r : Reply) : Type 0 where
+record Finds (m : System) (limit : ℕ) (proofs : Option (List ℕ)) (r : Reply) : Type 0 where
   pub findings : List Finding
   pub text : text_of r ≡ report m findings
-  pub found : AreFoundIn m limit findings
+  pub found : AreFoundIn m limit proofs findings
   pub states : ShowStates m findings
+  pub saves : SavesProofs m proofs findings r.saves
 
-undecided : (job : Job) (m : System) (limit : ℕ) (r : Reply) → job ≡ Decide → Undecides job m limit r → Finds m limit r
-undecided Decide m limit r is u = record { findings = all_unknown m limit; text = u.text; found = (each_unknown m limit m.specs, inr refl); states = none_shown m limit m.specs }
+told_of : (m : System) (proofs : Option (List ℕ)) (fs : List Finding) (saves : Option (List ℕ × List ℕ)) → SavesProofs m proofs fs saves → TellsOfProofs proofs fs
+told_of m None fs saves is = is.1
+told_of m (Some name) fs saves is = tt
 
-module _ (w : Work) (contents : Option Contents) (m : System) (r : Reply) (is : w.job ≡ Decide) where
-  finds : Takes w contents m r → Finds m w.limit r
-  finds (inl u) = undecided w.job m w.limit r is u
+undecided : (job : Job) (m : System) (limit : ℕ) (proofs : Option (List ℕ)) (r : Reply) → job ≡ Decide proofs → Undecides job m limit r → Finds m limit proofs r
+undecided (Recheck name) m limit proofs r is u = cc
+undecided (Decide other) m limit proofs r is u =
+    let same : other ≡ proofs = cc in
+    let saves = subst (λ (o : Option (List ℕ)). SavesProofs m o (all_unknown m limit) r.saves) same u.saves in
+    record {
+      findings = all_unknown m limit;
+      text = u.text;
+      found = record { verdicts = each_unknown m limit m.specs; known = inr refl; told = told_of m proofs (all_unknown m limit) r.saves saves };
+      states = none_shown m limit m.specs;
+      saves = saves;
+    }
+
+module _ (w : Work) (contents : Option Contents) (m : System) (r : Reply) (proofs : Option (List ℕ)) (is : w.job ≡ Decide proofs) where
+  finds : Takes w contents m r → Finds m w.limit proofs r
+  finds (inl u) = undecided w.job m w.limit proofs r is u
   finds (inr done) =
-      let does : Checked m w.limit r = subst (λ job. Does job m w.limit done.second r) is done.does in
-      record { findings = does.findings; text = does.text; found = (does.verdicts, inl done.faultless); states = does.states }
+      let does : Checked m w.limit proofs r = subst (λ job. Does job m w.limit done.second r) is done.does in
+      record { findings = does.findings; text = does.text; found = record { verdicts = does.verdicts; known = inl done.faultless; told = told_of m proofs does.findings r.saves does.saves }; states = does.states; saves = does.saves }
 
 pub verdicts : (s : Session) → TakesModels s → ReportsVerdicts s
 verdicts s takes = record {
-  reports = λ quiet w bytes m asks is has other.
+  reports = λ quiet w bytes m proofs asks is has other.
       let taken = takes.takes quiet w bytes m asks has other in
-      let found = finds w s.contents m taken.0 is taken.1 in
+      let found = finds w s.contents m taken.0 proofs is taken.1 in
       (found.findings, subst (Puts s) found.text taken.2.text, found.found);
 }
 
 pub states : (s : Session) → TakesModels s → ShowsStates s
 states s takes = record {
-  shows = λ quiet w bytes m asks is has other.
+  shows = λ quiet w bytes m proofs asks is has other.
       let taken = takes.takes quiet w bytes m asks has other in
-      let found = finds w s.contents m taken.0 is taken.1 in
+      let found = finds w s.contents m taken.0 proofs is taken.1 in
       (found.findings, subst (Puts s) found.text taken.2.text, found.found, found.states);
+}
+
+pub exported : (s : Session) → TakesModels s → ExportsProofs s
+exported s takes = record {
+  exports = λ quiet w bytes m name asks is has other.
+      let taken = takes.takes quiet w bytes m asks has other in
+      let found = finds w s.contents m taken.0 (Some name) is taken.1 in (
+        found.findings,
+        subst (Puts s) found.text taken.2.text,
+        found.found,
+        (found.saves.0, found.saves.2, subst (λ saves. Leaves saves s.contents s.contents_after) found.saves.1 taken.2.files),
+      );
+}
+
+-- ---- recheck
+
+unanswered : (job : Job) (m : System) (limit : ℕ) (proofs : List ℕ) (r : Reply) → job ≡ Recheck proofs → Undecides job m limit r → LeavesUnanswered m limit r
+unanswered (Decide other) m limit proofs r is u = cc
+unanswered (Recheck name) m limit proofs r is u = u
+
+second_of : (s : Session) (m : System) (limit : ℕ) (proofs : List ℕ) (r : Reply) (second : Option (List ℕ)) → IsFaultless m → Shows s r → IsSecond (Recheck proofs) s.contents second → Does (Recheck proofs) m limit second r
+    → IsRechecked s m limit proofs
+second_of s m limit proofs r None faultless shows there does = absurd does
+second_of s m limit proofs r (Some bytes) faultless shows there does = record { faultless = faultless; bytes = bytes; there = there; reply = r; rechecked = does; shows = shows }
+
+pub rechecked : (s : Session) → TakesModels s → RechecksProofs s
+rechecked s takes = record {
+  rechecks = λ quiet w bytes m proofs asks is has other.
+      let taken = takes.takes quiet w bytes m asks has other in
+      elim taken.1 [
+        | inl u ↦ inl (taken.0, unanswered w.job m w.limit proofs taken.0 is u, taken.2)
+        | inr done ↦ inr (second_of s m w.limit proofs taken.0 done.second done.faultless taken.2
+            (subst (λ (job : Job). IsSecond job s.contents done.second) is done.loaded) (subst (λ (job : Job). Does job m w.limit done.second taken.0) is done.does))
+      ];
 }

@@ -11,28 +11,36 @@ use Rattle.smv_outside.specs.Written.{AppendsPrefix}
 use Rattle.smv_outside.specs.declared.faults.FileFaults.{FileFaults}
 use Rattle.smv_session.specs.Answers.{Answers, IsModelReply, Loads, Takes}
 use Rattle.smv_session.specs.Commands.{GeneratesText}
-use Rattle.smv_session.specs.Foreseen.{Came, Foresees, IsPut}
+use Rattle.smv_session.specs.Foreseen as foreseen
+use Rattle.smv_session.specs.Foreseen.{Came, Closing, FailsToSave, Finishes, Foresees, IsAnswer, IsForgotten, IsKept, IsNotKept, IsTold}
 use Rattle.smv_session.specs.OneAnswer.{OneAnswer}
-use Rattle.smv_session.specs.Jobs.{Keeps}
 use Rattle.smv_session.specs.Refuses.{Refuses}
-use Rattle.smv_session.specs.Session.{Session, FilesGrew, FaultRose, Grew, IsSo, WasAtLast, SinkRose, Puts, PutsPrefix, Shows, Leaves, Asks, MayAsk, IsUndisturbed, TellsText, PutsAnswer, AnswersUsage, RefusesModels, TakesModels, HasEvidence, HasStatusOfReply, IsOfWork, KeepsOf, KeepsContents, FaultHasCause, AnswersFaults, PutsFaultLine, FaultLinesHaveCause, CutsOffAnswer, MemoryChangesNothing}
+use Rattle.smv_session.specs.Session.{Session, FilesGrew, FaultRose, Grew, IsSo, WasAtLast, SinkRose, Puts, PutsPrefix, Shows, Leaves, Asks, MayAsk, IsUndisturbed, TellsText, PutsAnswer, AnswersUsage, RefusesModels, TakesModels, HasEvidence, HasStatusOfReply, IsOfWork, KeepsOf, KeepsContents, Saves, SavesNothing, FaultHasCause, AnswersFaults, PutsFaultLine, FaultLinesHaveCause, CutsOffAnswer, MemoryChangesNothing}
 use Rattle.smv_session.specs.Source.{HasModel}
 use Rattle.smv_session.specs.declared.session.Foreseen.{Foreseen}
-use Rattle.smv_session.specs.declared.session.Foreseen.TheVariants as foreseen
+use Rattle.smv_session.specs.declared.session.Foreseen.TheVariants as foreseen_is
 use Rattle.smv_session.proofs.Answered.{answer_to, faulty, generated_of, never, no_fault_ending, no_memory_ending, refused_always, refused_ending, refused_only, taken_of, undecided_ending, unknown_only, usage_always, usage_ending, usage_only}
 use Rattle.smv_session.proofs.PutText.{told_text, same_line}
+use Rattle.smv_session.proofs.SavedReplies.{IsQuiet, quiet_saves, reply_fails, reply_keeps, same_of}
 use Rattle.smv_texts.proofs.Heads.{no_fault_line}
 use Rattle.smv_texts.specs.Refusals.{Refusal, refusal_line}
 use Rattle.smv_texts.specs.Replies.{Reply, Gives, text_of}
 use Rattle.smv_texts.specs.Statuses.{status_of}
 use Rattle.smv_texts.specs.Texts.{fault_line, usage_text}
+use Rattle.smv_texts.specs.declared.ending.Ending.{Ending}
 use Rattle.smv_texts.specs.declared.ending.Ending.TheVariants as endings
 use Rattle.smv_texts.specs.declared.fault.Fault.{Fault}
-use Rattle.smv_texts.specs.declared.fault.Fault.TheVariants.{LoadFailed, LoadMissing}
+use Rattle.smv_texts.specs.declared.fault.Fault.TheVariants.{LoadFailed, LoadMissing, SaveFailed}
 use Rattle.smv_texts.specs.declared.reply.Reply as code
 use Rattle.smv_texts.specs.declared.status.Status.TheVariants.{ModelRefused, OutsideFault, Usage, Memory}
 
 -- ---- the ends of a call
+
+-- the fault raised its own count alone
+abbrev Alone : Fault → FileFaults → FileFaults → Type 0
+Alone LoadFailed before after = Rises before.failed after.failed × (after.missing ≡ before.missing) × (after.unsaved ≡ before.unsaved)
+Alone LoadMissing before after = Rises before.missing after.missing × (after.failed ≡ before.failed) × (after.unsaved ≡ before.unsaved)
+Alone SaveFailed before after = Rises before.unsaved after.unsaved × (after.failed ≡ before.failed) × (after.missing ≡ before.missing)
 
 -- a reply is put
 pub record IsShown (s : Session) : Type 0 where
@@ -55,15 +63,17 @@ pub record IsCutOff (s : Session) : Type 0 where
 -- the line of a fault is put, or cut off too
 pub record IsLine (s : Session) : Type 0 where
   pub fault : Fault
-  pub name : List ℕ
-  pub loads : Loads (command_of s.words) s.contents name
-  pub came : Came fault name s.contents s.file_faults s.file_faults_after
+  pub alone : Alone fault s.file_faults s.file_faults_after
+  pub so : IsSo s fault
+  pub keeps : KeepsOf (command_of s.words) s.contents s.contents_after
   pub puts : Puts s (fault_line fault) ⊎ (SinkRose s × PutsPrefix s (fault_line fault))
   pub status : s.status ≡ OutsideFault
 
 -- memory ran out
 pub record IsGone (s : Session) : Type 0 where
   pub status : s.status ≡ Memory
+  pub contents : s.contents_after ≡ s.contents
+  pub unsaved : s.file_faults_after.unsaved ≡ s.file_faults.unsaved
   pub written : s.written_after ≡ s.written
   pub sink : s.sink_faults_after ≡ s.sink_faults
 
@@ -73,40 +83,96 @@ pub data Ends (s : Session) : Type 0 where
   Line : IsLine s → Ends s
   Gone : IsGone s → Ends s
 
--- a reply of the code that is put
-ends_shown : (s : Session) (reply : code.Reply) (r : Reply) → s.contents_after ≡ s.contents → Gives r reply → Puts s reply.text.items → s.status ≡ status_of reply.ending → Shows s r
-ends_shown s reply r same gives puts is = record {
-  status = is ∙ ap status_of gives.ending;
-  text = subst (Puts s) gives.text puts;
-  files = subst (λ saves. Leaves saves s.contents s.contents_after) (sym gives.saves) same;
+-- what is foreseen is saved and put between these files and the end
+abbrev pub closing_of : Session → Option Contents → FileFaults → Closing
+closing_of s contents faults = record {
+  contents = contents;
+  contents_after = s.contents_after;
+  faults = faults;
+  faults_after = s.file_faults_after;
+  written = s.written;
+  written_after = s.written_after;
+  count = s.sink_faults;
+  count_after = s.sink_faults_after;
+  status = s.status;
 }
 
-pub ends : (s : Session) (f : Foreseen) → s.contents_after ≡ s.contents → Foresees (command_of s.words) s.contents s.file_faults s.file_faults_after f
-    → IsPut s.written s.written_after s.sink_faults s.sink_faults_after f s.status → Ends s
-ends s (foreseen.Reply reply) same is (inl whole) = Shown (record {
-  reply = is.answer.0;
-  answer = is.answer.2;
-  shows = ends_shown s reply is.answer.0 same is.answer.1 whole.text whole.status_is;
-  files = is.quiet;
-  sink = whole.quiet;
-})
-ends s (foreseen.Reply reply) same is (inr cut) = CutOff (record {
-  reply = is.answer.0;
-  answer = is.answer.2;
-  puts = subst (PutsPrefix s) is.answer.1.text cut.text;
-  leaves = subst (λ saves. Leaves saves s.contents s.contents_after) (sym is.answer.1.saves) same;
-  files = is.quiet;
-  sink = cut.rises;
-  status = cut.status_is;
-})
-ends s (foreseen.Fault fault) same is (inl whole) = Line (record { fault = fault; name = is.name; loads = is.loads; came = is.came; puts = inl whole.text; status = whole.status_is })
-ends s (foreseen.Fault fault) same is (inr cut) = Line (record { fault = fault; name = is.name; loads = is.loads; came = is.came; puts = inr (cut.rises.rose, cut.text); status = cut.status_is })
+-- a name that is lacking and is loaded
+lacking : (contents : Option Contents) (command : Command) (name : List ℕ) → Loads command contents name → IfSome contents (λ files. bytes_under files name ≡ None)
+    → IfSome contents (λ files. (name : List ℕ) × Loads command contents name × (bytes_under files name ≡ None))
+lacking None command name loads lacks = tt
+lacking (Some files) command name loads lacks = (name, loads, lacks)
+
+module _ (s : Session) (faults : FileFaults) where
+  -- the line of a fault
+  put_line : (fault : Fault) → Alone fault s.file_faults s.file_faults_after → IsSo s fault → KeepsOf (command_of s.words) s.contents s.contents_after
+      → foreseen.Ends (closing_of s s.contents faults) (fault_line fault) OutsideFault → Ends s
+  put_line fault alone so keeps (inl whole) = Line (record { fault = fault; alone = alone; so = so; keeps = keeps; puts = inl whole.text_is; status = whole.status_is })
+  put_line fault alone so keeps (inr cut) = Line (record { fault = fault; alone = alone; so = so; keeps = keeps; puts = inr (cut.rises.rose, cut.text_is); status = cut.status_is })
+
+  -- a load that failed
+  load_line : (fault : Fault) (name : List ℕ) → Loads (command_of s.words) s.contents name → Came fault name s.contents s.file_faults faults → IsTold (closing_of s s.contents faults) fault → Ends s
+  load_line LoadFailed name loads came told =
+      put_line LoadFailed (subst (Alone LoadFailed s.file_faults) (sym told.quiet) came) told.contents (same_of (command_of s.words) s.contents s.contents_after told.contents) told.ends
+  load_line LoadMissing name loads came told =
+      put_line LoadMissing (subst (Alone LoadMissing s.file_faults) (sym told.quiet) (came.0, came.1, came.3))
+      (told.contents, lacking s.contents (command_of s.words) name loads came.2) (same_of (command_of s.words) s.contents s.contents_after told.contents) told.ends
+  load_line SaveFailed name loads came told = absurd came
+
+  -- a reply that was to be saved and put
+  module _ (reply : code.Reply) (is : IsAnswer (command_of s.words) s.contents s.file_faults faults reply) where
+    kept : IsKept (closing_of s s.contents faults) reply → Ends s
+    kept k =
+        let r = is.answer.0 in
+        let gives = is.answer.1 in
+        let leaves : Leaves r.saves s.contents s.contents_after = subst (λ saves. Leaves saves s.contents s.contents_after) gives.saves k.leaves in
+        let files : s.file_faults_after ≡ s.file_faults = k.quiet ∙ is.quiet in
+        elim k.ends [
+          | inl whole ↦ Shown (record {
+            reply = r;
+            answer = is.answer.2;
+            shows = record { status = whole.status_is ∙ ap status_of gives.ending; text = subst (Puts s) gives.text whole.text_is; files = leaves };
+            files = files;
+            sink = whole.quiet;
+          })
+          | inr cut ↦ CutOff (record {
+            reply = r;
+            answer = is.answer.2;
+            puts = subst (PutsPrefix s) gives.text cut.text_is;
+            leaves = leaves;
+            files = files;
+            sink = cut.rises;
+            status = cut.status_is;
+          })
+        ]
+
+    not_kept : IsNotKept (closing_of s s.contents faults) reply → Ends s
+    not_kept k =
+        let found = reply_fails (command_of s.words) s.contents s.contents_after is.answer.0 is.answer.2 (subst (λ saves. FailsToSave saves s.contents s.contents_after) is.answer.1.saves k.others) in
+        let so : Saves s = record { work = found.work; bytes = found.bytes; name = found.name; model = found.model; asked = record { asked = found.asked; there = found.there }; job = found.job; has = found.has } in
+        put_line SaveFailed
+        (subst (λ (f : FileFaults). Rises f.unsaved s.file_faults_after.unsaved) is.quiet k.rises, k.failed ∙ ap (λ (f : FileFaults). f.failed) is.quiet, k.missing ∙ ap (λ (f : FileFaults). f.missing) is.quiet)
+        so found.keeps k.ends
+
+    forgotten : IsForgotten (closing_of s s.contents faults) → Ends s
+    forgotten k = Gone (record { status = k.status; contents = k.contents; unsaved = ap (λ (f : FileFaults). f.unsaved) (k.quiet ∙ is.quiet); written = k.written; sink = k.count })
+
+  finished : (f : Foreseen) → Foresees (command_of s.words) s.contents s.file_faults faults f → Finishes (closing_of s s.contents faults) f → Ends s
+  finished (foreseen_is.Reply reply) is (inl k) = kept reply is k
+  finished (foreseen_is.Reply reply) is (inr (inl k)) = not_kept reply is k
+  finished (foreseen_is.Reply reply) is (inr (inr k)) = forgotten reply is k
+  finished (foreseen_is.Fault fault) is told = load_line fault is.name is.loads is.came told
+
+pub ends : (s : Session) (f : Foreseen) (between : Option Contents) (faults : FileFaults) → between ≡ s.contents → Foresees (command_of s.words) s.contents s.file_faults faults f
+    → Finishes (closing_of s between faults) f → Ends s
+ends s f between faults same is closes = finished s faults f is (subst (λ contents. Finishes (closing_of s contents faults) f) same closes)
 
 -- ---- counts
 
 no_growth : (s : Session) → s.file_faults_after ≡ s.file_faults → FilesGrew s → ⊥
 no_growth s same (LoadFailed, less) = let failed = ap (λ (f : FileFaults). f.failed) same in omega (arith, less, failed)
 no_growth s same (LoadMissing, less) = let missing = ap (λ (f : FileFaults). f.missing) same in omega (arith, less, missing)
+no_growth s same (SaveFailed, less) = let unsaved = ap (λ (f : FileFaults). f.unsaved) same in omega (arith, less, unsaved)
 
 -- a count that rose and did not grow stood at its last value
 stood : (before after : ℕ) → Rises before after → ¬ (before < after) → before ≡ last_count
@@ -115,23 +181,30 @@ stood before after rises same = elim rises.rose [
   | inr last ↦ let none : after ≤ before = grind arith in omega (arith, rises.never_falls)
 ]
 
-module _ (s : Session) (name : List ℕ) where
+module _ (s : Session) where
   -- a fault that came raised its count
-  rose : (fault : Fault) → Came fault name s.contents s.file_faults s.file_faults_after → FaultRose s fault
+  rose : (fault : Fault) → Alone fault s.file_faults s.file_faults_after → FaultRose s fault
   rose LoadFailed came = came.0.rose
   rose LoadMissing came = came.0.rose
+  rose SaveFailed came = came.0.rose
 
   -- one that made no count grow found it at its last value
-  at_last : (fault : Fault) → Came fault name s.contents s.file_faults s.file_faults_after → ¬ FilesGrew s → WasAtLast s fault
+  at_last : (fault : Fault) → Alone fault s.file_faults s.file_faults_after → ¬ FilesGrew s → WasAtLast s fault
   at_last LoadFailed came same = stood _ _ came.0 (λ grew. same (LoadFailed, grew))
   at_last LoadMissing came same = stood _ _ came.0 (λ grew. same (LoadMissing, grew))
+  at_last SaveFailed came same = stood _ _ came.0 (λ grew. same (SaveFailed, grew))
 
   -- one that came with a count that grew made its own count grow
-  own_grew : (fault other : Fault) → Came fault name s.contents s.file_faults s.file_faults_after → Grew s other → Grew s fault
+  own_grew : (fault other : Fault) → Alone fault s.file_faults s.file_faults_after → Grew s other → Grew s fault
   own_grew LoadFailed LoadFailed came grew = grew
   own_grew LoadFailed LoadMissing came grew = absurd (omega (arith, grew, came.1))
+  own_grew LoadFailed SaveFailed came grew = absurd (omega (arith, grew, came.2))
   own_grew LoadMissing LoadFailed came grew = absurd (omega (arith, grew, came.1))
   own_grew LoadMissing LoadMissing came grew = grew
+  own_grew LoadMissing SaveFailed came grew = absurd (omega (arith, grew, came.2))
+  own_grew SaveFailed LoadFailed came grew = absurd (omega (arith, grew, came.1))
+  own_grew SaveFailed LoadMissing came grew = absurd (omega (arith, grew, came.2))
+  own_grew SaveFailed SaveFailed came grew = grew
 
 -- ---- lines
 
@@ -151,23 +224,14 @@ no_text : (written : Option (List ℕ)) (fault : Fault) → TellsText written wr
 no_text None fault tells = tells
 no_text (Some bytes) LoadFailed tells = absurd (omega (arith, ap length tells, length-append bytes (fault_line LoadFailed)))
 no_text (Some bytes) LoadMissing tells = absurd (omega (arith, ap length tells, length-append bytes (fault_line LoadMissing)))
-
--- a name that is lacking and is loaded
-lacking : (contents : Option Contents) (command : Command) (name : List ℕ) → Loads command contents name → IfSome contents (λ files. bytes_under files name ≡ None)
-    → IfSome contents (λ files. (name : List ℕ) × Loads command contents name × (bytes_under files name ≡ None))
-lacking None command name loads lacks = tt
-lacking (Some files) command name loads lacks = (name, loads, lacks)
-
-is_so : (s : Session) (name : List ℕ) (fault : Fault) → s.contents_after ≡ s.contents → Loads (command_of s.words) s.contents name → Came fault name s.contents s.file_faults s.file_faults_after → IsSo s fault
-is_so s name LoadFailed same loads came = same
-is_so s name LoadMissing same loads came = (same, lacking s.contents (command_of s.words) name loads came.2)
+no_text (Some bytes) SaveFailed tells = absurd (omega (arith, ap length tells, length-append bytes (fault_line SaveFailed)))
 
 -- ---- the promises of every call
 
 pub answer : (s : Session) → Ends s → PutsAnswer s
 answer s (Shown e) quiet = (e.reply, e.answer, e.shows)
 answer s (CutOff e) quiet = absurd (quiet.sink e.sink.rose)
-answer s (Line e) quiet = absurd (quiet.files (e.fault, rose s e.name e.fault e.came))
+answer s (Line e) quiet = absurd (quiet.files (e.fault, rose s e.fault e.alone))
 answer s (Gone e) quiet = absurd (quiet.memory e.status)
 
 usage_line : (s : Session) → Ends s → s.status ≡ Usage → (command_of s.words ≡ words.Usage) × Puts s usage_text
@@ -246,59 +310,67 @@ status s (CutOff e) = record { shown = λ is. absurd (subst IsOfWork e.status is
 status s (Line e) = record { shown = λ is. absurd (subst IsOfWork e.status is) }
 status s (Gone e) = record { shown = λ is. absurd (subst IsOfWork e.status is) }
 
-keeps_job : (job : Job) (before after : Option Contents) → after ≡ before → Keeps job before after
-keeps_job Decide before after same = same
+-- the status of a reply that saves nothing
+quiet_ending : (e : Ending) → SavesNothing (status_of e) → IsQuiet e
+quiet_ending endings.Clear quiet = quiet
+quiet_ending endings.Failed quiet = quiet
+quiet_ending (endings.Undecided held) quiet = quiet
+quiet_ending endings.ModelRefused quiet = quiet
+quiet_ending endings.ProofRefused quiet = quiet
+quiet_ending endings.Usage quiet = quiet
 
-keeps_of : (command : Command) (before after : Option Contents) → after ≡ before → KeepsOf command before after
-keeps_of words.Usage before after same = same
-keeps_of (Print n) before after same = same
-keeps_of (Do w) before after same = keeps_job w.job before after same
-
-pub contents : (s : Session) → s.contents_after ≡ s.contents → KeepsContents s
-contents s same = keeps_of (command_of s.words) s.contents s.contents_after same
+pub contents : (s : Session) → Ends s → KeepsContents s
+contents s (Shown e) = record {
+  others = reply_keeps (command_of s.words) s.contents s.contents_after e.reply e.answer e.shows.files;
+  all = λ quiet. subst (λ saves. Leaves saves s.contents s.contents_after)
+      (quiet_saves (command_of s.words) s.contents e.reply e.answer (quiet_ending e.reply.ending (subst SavesNothing e.shows.status quiet))) e.shows.files;
+}
+contents s (CutOff e) = record { others = reply_keeps (command_of s.words) s.contents s.contents_after e.reply e.answer e.leaves; all = λ quiet. absurd (subst SavesNothing e.status quiet) }
+contents s (Line e) = record { others = e.keeps; all = λ quiet. absurd (subst SavesNothing e.status quiet) }
+contents s (Gone e) = record { others = same_of (command_of s.words) s.contents s.contents_after e.contents; all = λ quiet. e.contents }
 
 pub fault_has_cause : (s : Session) → Ends s → FaultHasCause s
 fault_has_cause s (Shown e) = record { cause = λ is. absurd (no_fault_ending e.reply.ending (sym e.shows.status ∙ is)) }
 fault_has_cause s (CutOff e) = record { cause = λ is. inr e.sink.rose }
-fault_has_cause s (Line e) = record { cause = λ is. inl (e.fault, rose s e.name e.fault e.came) }
+fault_has_cause s (Line e) = record { cause = λ is. inl (e.fault, rose s e.fault e.alone) }
 fault_has_cause s (Gone e) = record { cause = λ is. let other = e.status in absurd cc }
 
 pub faults_are_answered : (s : Session) → Ends s → AnswersFaults s
-faults_are_answered s (Shown e) = record { sink = λ grew. absurd (omega (arith, grew, e.sink)); files = λ grew. absurd (no_growth s e.files grew) }
-faults_are_answered s (CutOff e) = record { sink = λ grew. e.status; files = λ grew. inl e.status }
-faults_are_answered s (Line e) = record { sink = λ grew. e.status; files = λ grew. inl e.status }
-faults_are_answered s (Gone e) = record { sink = λ grew. absurd (omega (arith, grew, e.sink)); files = λ grew. inr e.status }
+faults_are_answered s (Shown e) = record { sink = λ grew. absurd (omega (arith, grew, e.sink)); saves = λ grew. absurd (no_growth s e.files (SaveFailed, grew)); files = λ grew. absurd (no_growth s e.files grew) }
+faults_are_answered s (CutOff e) = record { sink = λ grew. e.status; saves = λ grew. e.status; files = λ grew. inl e.status }
+faults_are_answered s (Line e) = record { sink = λ grew. e.status; saves = λ grew. e.status; files = λ grew. inl e.status }
+faults_are_answered s (Gone e) = record { sink = λ grew. absurd (omega (arith, grew, e.sink)); saves = λ grew. absurd (omega (arith, grew, e.unsaved)); files = λ grew. inr e.status }
 
 pub fault_line_put : (s : Session) → Ends s → PutsFaultLine s
 fault_line_put s (Shown e) grew is = absurd (no_growth s e.files grew)
 fault_line_put s (CutOff e) grew is = absurd (no_growth s e.files grew)
-fault_line_put s (Line e) grew is = (e.fault, own_grew s e.name e.fault grew.0 e.came grew.1, e.puts)
+fault_line_put s (Line e) grew is = (e.fault, own_grew s e.fault grew.0 e.alone grew.1, e.so, e.puts)
 fault_line_put s (Gone e) grew is = let other = e.status in absurd cc
 
-pub fault_lines : (s : Session) → s.contents_after ≡ s.contents → Ends s → FaultLinesHaveCause s
-fault_lines s same (Shown e) fault tells = absurd (no_line s e.reply fault (whole s.written s.written_after (text_of e.reply) e.shows.text) tells)
-fault_lines s same (CutOff e) fault tells = absurd (no_line s e.reply fault e.puts tells)
-fault_lines s same (Line e) fault tells =
+pub fault_lines : (s : Session) → Ends s → FaultLinesHaveCause s
+fault_lines s (Shown e) fault tells = absurd (no_line s e.reply fault (whole s.written s.written_after (text_of e.reply) e.shows.text) tells)
+fault_lines s (CutOff e) fault tells = absurd (no_line s e.reply fault e.puts tells)
+fault_lines s (Line e) fault tells =
     let puts = line_prefix s e.fault e.puts in
     let is : e.fault ≡ fault = same_line puts.0 e.fault fault (told_text s.written s.written_after (take puts.0 (fault_line e.fault)) (fault_line fault) puts.1 tells) in
-    subst (λ f. FaultRose s f × IsSo s f) is (rose s e.name e.fault e.came, is_so s e.name e.fault same e.loads e.came)
-fault_lines s same (Gone e) fault tells = absurd (no_text s.written fault (subst (λ after. TellsText s.written after (fault_line fault)) e.written tells))
+    subst (λ f. FaultRose s f × IsSo s f) is (rose s e.fault e.alone, e.so)
+fault_lines s (Gone e) fault tells = absurd (no_text s.written fault (subst (λ after. TellsText s.written after (fault_line fault)) e.written tells))
 
 pub cut_off : (s : Session) → Ends s → CutsOffAnswer s
 cut_off s (Shown e) = record { cut = λ is same. absurd (no_fault_ending e.reply.ending (sym e.shows.status ∙ is)) }
 cut_off s (CutOff e) = record { cut = λ is same. inl (e.reply, e.answer, e.puts, e.leaves) }
-cut_off s (Line e) = record { cut = λ is same. inr (e.fault, at_last s e.name e.fault e.came same, line_prefix s e.fault e.puts) }
+cut_off s (Line e) = record { cut = λ is same. inr (e.fault, at_last s e.fault e.alone same, e.so, line_prefix s e.fault e.puts) }
 cut_off s (Gone e) = record { cut = λ is same. let other = e.status in absurd cc }
 
 appends_none : (before : Option (List ℕ)) → Appends before before []
 appends_none None = tt
 appends_none (Some bytes) = sym (append-nil bytes)
 
-pub memory : (s : Session) → s.contents_after ≡ s.contents → Ends s → MemoryChangesNothing s
-memory s same (Shown e) = record { written = λ is. absurd (no_memory_ending e.reply.ending (sym e.shows.status ∙ is)); contents = λ is. same }
-memory s same (CutOff e) = record { written = λ is. let other = e.status in absurd cc; contents = λ is. same }
-memory s same (Line e) = record { written = λ is. let other = e.status in absurd cc; contents = λ is. same }
-memory s same (Gone e) = record { written = λ is. subst (λ after. Appends s.written after []) (sym e.written) (appends_none s.written); contents = λ is. same }
+pub memory : (s : Session) → Ends s → MemoryChangesNothing s
+memory s (Shown e) = record { written = λ is. absurd (no_memory_ending e.reply.ending (sym e.shows.status ∙ is)); contents = λ is. absurd (no_memory_ending e.reply.ending (sym e.shows.status ∙ is)) }
+memory s (CutOff e) = record { written = λ is. let other = e.status in absurd cc; contents = λ is. let other = e.status in absurd cc }
+memory s (Line e) = record { written = λ is. let other = e.status in absurd cc; contents = λ is. let other = e.status in absurd cc }
+memory s (Gone e) = record { written = λ is. subst (λ after. Appends s.written after []) (sym e.written) (appends_none s.written); contents = λ is. e.contents }
 
 -- ---- the promises of each command
 

@@ -1,5 +1,5 @@
 -- What a load leads to.
-use Rattle.std.proofs.Common.{◌≡◌, ◌≤◌, ◌<◌, inl, ℕ, List, [], ◌∷◌, ◌++◌, ◌∙◌, Result, Ok, Err, Option, IfOk, IfSome, IsSomeAnd, Some, None, arith, replicate, length, drop, refl, sym, subst}
+use Rattle.std.proofs.Common.{◌≡◌, ◌≤◌, ◌<◌, inl, ℕ, List, [], ◌∷◌, ◌++◌, ◌∙◌, inr, Result, Ok, Err, Option, IfOk, IfSome, IsSomeAnd, Some, None, arith, replicate, length, drop, refl, sym, ap, subst}
 use Rattle.std.proofs.lemmas.List.{length-replicate}
 use Rattle.std.specs.Global.{Vec}
 use Rattle.std.specs.declared.alloc.AllocError.{AllocError}
@@ -12,14 +12,14 @@ use Rattle.smv_outside.specs.declared.faults.LoadFault.{LoadFault}
 use Rattle.smv_outside.specs.declared.faults.LoadFault.TheVariants.{Failed, NotThere, TooLong, Memory}
 use Rattle.smv_session.specs.Answers.{IsModelReply, IsSourceName, Reads}
 use Rattle.smv_rings.specs.Rings.{ring_text}
-use Rattle.smv_session.specs.Foreseen.{Foresees, IsAnswer, IsForeseenAs}
+use Rattle.smv_session.specs.Foreseen.{Foresees, ForeseesText, IsAnswer, IsForeseenAs}
 use Rattle.smv_session.specs.Refuses.{Refuses}
 use Rattle.smv_session.specs.declared.session.Foreseen.{Foreseen}
 use Rattle.smv_session.specs.declared.session.Foreseen.TheVariants as foreseen
 use Rattle.smv_texts.specs.Refusals as refusals
 use Rattle.smv_texts.specs.Refusals.{Refusal, reason, refusal_line}
 use Rattle.smv_texts.specs.Replies as replies
-use Rattle.smv_texts.specs.Replies.{IsReply, Refused, Usage, Module, head_word}
+use Rattle.smv_texts.specs.Replies.{IsReply, Refused, Usage, Module, head_word, saved_of}
 use Rattle.smv_texts.specs.Texts.{usage_text}
 use Rattle.smv_texts.specs.Told.{TellsRefusal}
 use Rattle.smv_texts.specs.declared.ending.Ending.TheVariants as endings
@@ -37,24 +37,24 @@ abbrev refusing : Refusal → replies.Reply
 refusing q = record { head = Refused; rest = reason q ++ 10 ∷ []; ending = ModelRefused; saves = None }
 
 pub refusal_reply : (w : Work) (contents : Option Contents) (bytes : List ℕ) (q : Refusal) (reply : Reply) → Refuses w.job bytes q → reply.text.items ≡ refusal_line q → reply.ending ≡ ModelRefused
-    → IsReply (IsModelReply w contents bytes) reply
-refusal_reply w contents bytes q reply applies text ends = (
+    → reply.saves ≡ None → IsReply (IsModelReply w contents bytes) reply
+refusal_reply w contents bytes q reply applies text ends saves = (
   refusing q,
-  record { text = text ∙ refusal_begins q; ending = ends; saves = refl },
+  record { text = text ∙ refusal_begins q; ending = ends; saves = ap saved_of saves },
   inl (record { refusal = q; applies = applies; text = sym (refusal_begins q); ends = refl; saves = refl }),
 )
 
 pub refused_reply : (w : Work) (contents : Option Contents) (bytes : List ℕ) (told : Option Refusal) (r : Result Reply AllocError) → IfSome told (Refuses w.job bytes)
     → IfOk r (TellsRefusal told) → IfOk r (IsReply (IsModelReply w contents bytes))
 refused_reply w contents bytes None (Ok a) applies tells = absurd tells
-refused_reply w contents bytes (Some q) (Ok a) applies tells = refusal_reply w contents bytes q a applies tells.0 tells.1
+refused_reply w contents bytes (Some q) (Ok a) applies tells = refusal_reply w contents bytes q a applies tells.0 tells.1 tells.2
 refused_reply w contents bytes told (Err e) applies tells = tt
 
 -- the same, where its line is at hand
 pub line_reply : (w : Work) (contents : Option Contents) (bytes : List ℕ) (q : Refusal) (r : Result Reply AllocError) → Refuses w.job bytes q
-    → IfOk r (λ a. a.text.items ≡ refusal_line q) → IfOk r (λ a. a.ending ≡ ModelRefused) → IfOk r (IsReply (IsModelReply w contents bytes))
-line_reply w contents bytes q (Ok a) applies text ends = refusal_reply w contents bytes q a applies text ends
-line_reply w contents bytes q (Err e) applies text ends = tt
+    → IfOk r (λ a. a.text.items ≡ refusal_line q) → IfOk r (λ a. a.ending ≡ ModelRefused) → IfOk r (λ a. a.saves ≡ None) → IfOk r (IsReply (IsModelReply w contents bytes))
+line_reply w contents bytes q (Ok a) applies text ends saves = refusal_reply w contents bytes q a applies text ends saves
+line_reply w contents bytes q (Err e) applies text ends saves = tt
 
 -- ---- loads
 
@@ -73,10 +73,10 @@ too_long name (Some files) taken more there = there_is (bytes_under files name) 
 
 -- a text of so many bytes is refused
 long_answer : (w : Work) (name : List ℕ) (contents : Option Contents) (before after : FileFaults) (taken : ℕ) (f : Foreseen) → w.source ≡ File name → after ≡ before → most_model_bytes < taken
-    → IfSome contents (λ files. IsSomeAnd (bytes_under files name) (λ bytes. taken ≤ length bytes)) → IsForeseenAs (TooLong taken) f → Foresees (Do w) contents before after f
+    → IfSome contents (λ files. IsSomeAnd (bytes_under files name) (λ bytes. taken ≤ length bytes)) → IsForeseenAs (TellsRefusal (Some refusals.TooLong)) (TooLong taken) f → Foresees (Do w) contents before after f
 long_answer w name contents before after taken (foreseen.Reply reply) from quiet more there told =
     let found = too_long name contents taken more there in
-    let is = refusal_reply w contents found.0 refusals.TooLong reply found.1 told.0 told.1 in
+    let is = refusal_reply w contents found.0 refusals.TooLong reply found.1 told.0 told.1 told.2 in
     record { quiet = quiet; answer = (is.0, is.1, (found.0, subst (λ source. Reads source contents found.0) (sym from) found.2, is.2)) }
 long_answer w name contents before after taken (foreseen.Fault fault) from quiet more there told = absurd told
 
@@ -86,7 +86,7 @@ pub told_fault : (w : Work) (name : List ℕ) (contents : Option Contents) (befo
     → ((taken : ℕ) → fault ≡ TooLong taken → most_model_bytes < taken)
     → ((taken : ℕ) → fault ≡ TooLong taken → IfSome contents (λ files. IsSomeAnd (bytes_under files name) (λ bytes. taken ≤ length bytes)))
     → (fault ≡ NotThere → IfSome contents (λ files. bytes_under files name ≡ None))
-    → IsForeseenAs fault f → Foresees (Do w) contents before after f
+    → IsForeseenAs (TellsRefusal (Some refusals.TooLong)) fault f → Foresees (Do w) contents before after f
 told_fault w name contents before after f Failed from counts more there lacks told =
     subst (Foresees (Do w) contents before after) (sym told) (record { name = name; loads = inl (subst (λ source. IsSourceName source name) (sym from) refl); came = counts })
 told_fault w name contents before after f NotThere from counts more there lacks told =
@@ -96,19 +96,27 @@ told_fault w name contents before after f Memory from counts more there lacks to
 
 -- ---- replies
 
--- the reply to the text of a source answers the work
-pub read_answer : (w : Work) (contents : Option Contents) (before after : FileFaults) (bytes : List ℕ) (reply : Reply) → Reads w.source contents bytes → after ≡ before
-    → IsReply (IsModelReply w contents bytes) reply → Foresees (Do w) contents before after (foreseen.Reply reply)
-read_answer w contents before after bytes reply reads quiet is = record { quiet = quiet; answer = (is.0, is.1, (bytes, reads, is.2)) }
+-- what is foreseen for the text of a source is foreseen for the work
+pub read_answer : (w : Work) (contents : Option Contents) (before after : FileFaults) (bytes : List ℕ) (f : Foreseen) → Reads w.source contents bytes
+    → ForeseesText w contents bytes before after f → Foresees (Do w) contents before after f
+read_answer w contents before after bytes (foreseen.Reply reply) reads is = record { quiet = is.quiet; answer = (is.answer.0, is.answer.1, (bytes, reads, is.answer.2)) }
+read_answer w contents before after bytes (foreseen.Fault fault) reads is =
+    record { name = is.name; loads = inr (is.second, (bytes, is.model, reads, is.accepted)); came = is.came }
+
+-- the same of a result
+pub read_result : (w : Work) (contents : Option Contents) (before after : FileFaults) (bytes : List ℕ) (r : Result Foreseen AllocError) → Reads w.source contents bytes
+    → IfOk r (ForeseesText w contents bytes before after) → IfOk r (Foresees (Do w) contents before after)
+read_result w contents before after bytes (Ok f) reads is = read_answer w contents before after bytes f reads is
+read_result w contents before after bytes (Err e) reads is = tt
 
 -- the usage text, and a ring's, answer their commands
-pub usage_answer : (contents : Option Contents) (before after : FileFaults) (reply : Reply) → after ≡ before → reply.text.items ≡ usage_text → reply.ending ≡ endings.Usage
+pub usage_answer : (contents : Option Contents) (before after : FileFaults) (reply : Reply) → after ≡ before → reply.text.items ≡ usage_text → reply.ending ≡ endings.Usage → reply.saves ≡ None
     → IsAnswer words.Usage contents before after reply
-usage_answer contents before after reply quiet text ends = record {
+usage_answer contents before after reply quiet text ends saves = record {
   quiet = quiet;
   answer = (
     record { head = Usage; rest = drop 7 usage_text; ending = endings.Usage; saves = None },
-    record { text = text ∙ usage_begins; ending = ends; saves = refl },
+    record { text = text ∙ usage_begins; ending = ends; saves = ap saved_of saves },
     (record { text_is = sym usage_begins; saves = refl }, refl),
   );
 }
@@ -116,13 +124,13 @@ usage_answer contents before after reply quiet text ends = record {
 ring_begins : (n : ℕ) → ring_text n ≡ head_word Module ++ drop 7 (ring_text n)
 ring_begins n = refl
 
-pub print_answer : (n : ℕ) (contents : Option Contents) (before after : FileFaults) (reply : Reply) → after ≡ before → reply.text.items ≡ ring_text n → reply.ending ≡ endings.Clear
+pub print_answer : (n : ℕ) (contents : Option Contents) (before after : FileFaults) (reply : Reply) → after ≡ before → reply.text.items ≡ ring_text n → reply.ending ≡ endings.Clear → reply.saves ≡ None
     → IsAnswer (Print n) contents before after reply
-print_answer n contents before after reply quiet text ends = record {
+print_answer n contents before after reply quiet text ends saves = record {
   quiet = quiet;
   answer = (
     record { head = Module; rest = drop 7 (ring_text n); ending = endings.Clear; saves = None },
-    record { text = text ∙ ring_begins n; ending = ends; saves = refl },
+    record { text = text ∙ ring_begins n; ending = ends; saves = ap saved_of saves },
     (record { text_is = sym (ring_begins n); saves = refl }, refl),
   );
 }

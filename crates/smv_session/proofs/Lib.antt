@@ -2,6 +2,7 @@ pub mod PutText
 pub mod Heard
 pub mod Tried
 pub mod Answered
+pub mod SavedReplies
 pub mod Ended
 pub mod Decided
 pub mod Promises

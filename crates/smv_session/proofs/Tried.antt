@@ -1,47 +1,76 @@
--- The reply of the one job that is built.
-use Rattle.std.proofs.Common.{◌≤◌, ◌⊎◌, inl, inr, ℕ, List, Option, None, refl}
+-- The reply of the jobs over a model.
+use Rattle.std.proofs.Common.{◌≡◌, ◌≤◌, inl, inr, ℕ, List, Option, Some, None, Result, Ok, Err, IfOk, IfSome, refl, sym, subst}
+use Rattle.std.specs.declared.alloc.AllocError.{AllocError}
 use Rattle.bit_encode.specs.Code.{state_bits}
-use Rattle.command_words.specs.Words.{Job, Work, Decide}
+use Rattle.command_words.specs.Words.{Job, Work, Decide, Recheck}
 use Rattle.kripke_model.specs.Faults.{IsFaultless}
 use Rattle.kripke_model.specs.System.{System}
-use Rattle.smv_outside.specs.Contents.{Contents}
+use Rattle.proof_answers.specs.Rechecked.{LeavesUnanswered, Rechecked}
+use Rattle.smv_outside.specs.Contents.{Contents, bytes_under}
+use Rattle.smv_outside.specs.declared.faults.FileFaults.{FileFaults}
 use Rattle.smv_session.specs.Answers.{IsModelReply, Takes}
-use Rattle.smv_session.specs.Jobs.{Does, IsSecond, NamesLeaves, Undecides}
+use Rattle.smv_session.specs.Foreseen.{ForeseesProofs, ForeseesText}
+use Rattle.smv_session.specs.Jobs.{Does, IsSecond, IsSecondName, NamesLeaves, Undecides}
 use Rattle.smv_session.specs.Relation.{Decides}
-use Rattle.smv_session.specs.Source.{HasRuled, most_state_bits}
+use Rattle.smv_session.specs.Source.{HasModel, HasRuled, most_state_bits}
+use Rattle.smv_session.specs.declared.session.Foreseen.{Foreseen}
+use Rattle.smv_session.specs.declared.session.Foreseen.TheVariants as foreseen
 use Rattle.smv_texts.specs.Replies as replies
 use Rattle.smv_texts.specs.Replies.{IsReply}
 use Rattle.smv_texts.specs.declared.reply.Reply.{Reply}
 use Rattle.spec_verdicts.specs.Checked.{Checked, LeavesUnknown}
 
-pub checked_decides : (m : System) (limit : ℕ) (reply : Reply) → IsFaultless m → IsReply (Checked m limit) reply → IsReply (Decides m limit) reply
-checked_decides m limit reply faultless is = (is.0, is.1, inr (faultless, is.2))
+pub checked_decides : (m : System) (limit : ℕ) (proofs : Option (List ℕ)) (reply : Reply) → IsFaultless m → IsReply (Checked m limit proofs) reply → IsReply (Decides m limit proofs) reply
+checked_decides m limit proofs reply faultless is = (is.0, is.1, inr (faultless, is.2))
 
-pub unknown_decides : (m : System) (limit : ℕ) (reply : Reply) → IsReply (LeavesUnknown m limit) reply → IsReply (Decides m limit) reply
-unknown_decides m limit reply is = (is.0, is.1, inl is.2)
+pub unknown_decides : (m : System) (limit : ℕ) (proofs : Option (List ℕ)) (reply : Reply) → IsReply (LeavesUnknown m limit proofs) reply → IsReply (Decides m limit proofs) reply
+unknown_decides m limit proofs reply is = (is.0, is.1, inl is.2)
 
 names_leaves : (job : Job) (m : System) → NamesLeaves job m
-names_leaves Decide m = tt
-
-takes_of : (job : Job) (limit : ℕ) (contents : Option Contents) (m : System) (r : replies.Reply) → Decides m limit r
-    → Undecides job m limit r ⊎ (IsFaultless m × IsSecond job contents None × Does job m limit None r)
-takes_of Decide limit contents m r (inl unknown) = inl unknown
-takes_of Decide limit contents m r (inr done) = inr (done.0, refl, done.1)
-
-taken : (w : Work) (contents : Option Contents) (m : System) (r : replies.Reply) → Decides m w.limit r → Takes w contents m r
-taken w contents m r is = elim (takes_of w.job w.limit contents m r is) [
-  | inl unknown ↦ inl unknown
-  | inr done ↦ inr (record { faultless = done.0; second = None; loaded = done.1; does = done.2 })
-]
-
--- a model whose specifications were decided is taken
-pub decided_reply : (w : Work) (contents : Option Contents) (bytes : List ℕ) (m : System) (reply : Reply) → HasRuled bytes m → state_bits m ≤ most_state_bits → IsReply (Decides m w.limit) reply
-    → IsReply (IsModelReply w contents bytes) reply
-decided_reply w contents bytes m reply ruled few is = (
-  is.0,
-  is.1,
-  inr (record { model = m; has = record { ruled = ruled; few = few }; names = names_leaves w.job m; takes = taken w contents m is.0 is.2 }),
-)
+names_leaves (Decide proofs) m = tt
+names_leaves (Recheck proofs) m = tt
 
 pub names_any : (w : Work) (m : System) → NamesLeaves w.job m
 names_any w m = names_leaves w.job m
+
+-- a reply to the model that takes it
+module _ (w : Work) (contents : Option Contents) (bytes : List ℕ) (m : System) (reply : Reply) (ruled : HasRuled bytes m) (few : state_bits m ≤ most_state_bits) where
+  taken_reply : IsReply (Takes w contents m) reply → IsReply (IsModelReply w contents bytes) reply
+  taken_reply is = (is.0, is.1, inr (record { model = m; has = record { ruled = ruled; few = few }; names = names_any w m; takes = is.2 }))
+
+  -- its specifications were decided
+  pub decided_reply : (proofs : Option (List ℕ)) → w.job ≡ Decide proofs → IsReply (Decides m w.limit proofs) reply → IsReply (IsModelReply w contents bytes) reply
+  decided_reply proofs is (r, gives, inl unknown) = taken_reply (r, gives, inl (subst (λ job. Undecides job m w.limit r) (sym is) unknown))
+  decided_reply proofs is (r, gives, inr done) = taken_reply (r, gives, inr (record {
+    faultless = done.0;
+    second = None;
+    loaded = subst (λ job. IsSecond job contents None) (sym is) refl;
+    does = subst (λ job. Does job m w.limit None r) (sym is) done.1;
+  }))
+
+  -- the limit was met before its proofs were looked at
+  pub unanswered_reply : (proofs : List ℕ) → w.job ≡ Recheck proofs → IsReply (LeavesUnanswered m w.limit) reply → IsReply (IsModelReply w contents bytes) reply
+  unanswered_reply proofs is (r, gives, left) = taken_reply (r, gives, inl (subst (λ job. Undecides job m w.limit r) (sym is) left))
+
+  -- its proofs were tested
+  pub rechecked_reply : (proofs file : List ℕ) → w.job ≡ Recheck proofs → IsFaultless m → IfSome contents (λ files. bytes_under files proofs ≡ Some file) → IsReply (Rechecked m w.limit file) reply
+      → IsReply (IsModelReply w contents bytes) reply
+  rechecked_reply proofs file is faultless there (r, gives, done) = taken_reply (r, gives, inr (record {
+    faultless = faultless;
+    second = Some file;
+    loaded = subst (λ job. IsSecond job contents (Some file)) (sym is) there;
+    does = subst (λ job. Does job m w.limit (Some file) r) (sym is) done;
+  }))
+
+-- what is foreseen for its proof file is foreseen for the work
+pub proofs_foreseen : (w : Work) (contents : Option Contents) (bytes : List ℕ) (m : System) (proofs : List ℕ) (before after : FileFaults) (f : Foreseen) → HasRuled bytes m → state_bits m ≤ most_state_bits → IsFaultless m
+    → w.job ≡ Recheck proofs → ForeseesProofs m w.limit contents proofs before after f → ForeseesText w contents bytes before after f
+proofs_foreseen w contents bytes m proofs before after (foreseen.Reply reply) ruled few faultless is found =
+    record { answer = rechecked_reply w contents bytes m reply ruled few proofs found.bytes is faultless found.there found.answer; quiet = found.quiet }
+proofs_foreseen w contents bytes m proofs before after (foreseen.Fault fault) ruled few faultless is came =
+    record { name = proofs; second = subst (λ job. IsSecondName job proofs) (sym is) refl; model = m; accepted = record { has = record { ruled = ruled; few = few }; faultless = faultless }; came = came }
+
+pub proofs_result : (w : Work) (contents : Option Contents) (bytes : List ℕ) (m : System) (proofs : List ℕ) (before after : FileFaults) (r : Result Foreseen AllocError) → HasRuled bytes m → state_bits m ≤ most_state_bits → IsFaultless m
+    → w.job ≡ Recheck proofs → IfOk r (ForeseesProofs m w.limit contents proofs before after) → IfOk r (ForeseesText w contents bytes before after)
+proofs_result w contents bytes m proofs before after (Ok f) ruled few faultless is found = proofs_foreseen w contents bytes m proofs before after f ruled few faultless is found
+proofs_result w contents bytes m proofs before after (Err e) ruled few faultless is found = tt

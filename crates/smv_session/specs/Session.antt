@@ -5,9 +5,9 @@ use Rattle.std.specs.declared.alloc.Global.{Global}
 use Rattle.std.specs.Io.KnownBytes.{Appends}
 use Rattle.bdd_nodes.specs.declared.refusal.Held.{Held}
 use Rattle.command_words.specs.Words as words
-use Rattle.command_words.specs.Words.{Command, Work, Print, Do, command_of}
+use Rattle.command_words.specs.Words.{Command, Work, Decide, Print, Do, command_of}
 use Rattle.kripke_model.specs.System.{System}
-use Rattle.smv_outside.specs.Contents.{Contents, bytes_under}
+use Rattle.smv_outside.specs.Contents.{AreTold, Contents, IsSaved, bytes_under}
 use Rattle.smv_outside.specs.Faults.{Rose, last_count}
 use Rattle.smv_outside.specs.Written.{AppendsPrefix}
 use Rattle.smv_outside.specs.declared.faults.FileFaults.{FileFaults}
@@ -17,9 +17,9 @@ use Rattle.smv_texts.specs.Replies.{Reply, text_of}
 use Rattle.smv_texts.specs.Statuses.{status_of}
 use Rattle.smv_texts.specs.Texts.{usage_text, fault_line}
 use Rattle.smv_texts.specs.declared.fault.Fault.{Fault}
-use Rattle.smv_texts.specs.declared.fault.Fault.TheVariants.{LoadFailed, LoadMissing}
+use Rattle.smv_texts.specs.declared.fault.Fault.TheVariants.{LoadFailed, LoadMissing, SaveFailed}
 use Rattle.smv_texts.specs.declared.status.Status.{Status}
-use Rattle.smv_texts.specs.declared.status.Status.TheVariants.{Clear, Failed, Undecided, ModelRefused, OutsideFault, Usage, Memory}
+use Rattle.smv_texts.specs.declared.status.Status.TheVariants.{Clear, Failed, Undecided, ModelRefused, OutsideFault, Usage, Memory, ProofRefused}
 use Rattle.smv_session.specs.Answers.{Answers, Loads, Reads, Takes, Tells}
 use Rattle.smv_session.specs.Jobs.{Keeps, NamesLeaves, Undecides}
 use Rattle.smv_session.specs.Refuses.{Refuses}
@@ -58,6 +58,7 @@ session contents file_faults written sink_faults words files files_after out out
 abbrev pub count_of : Fault → FileFaults → ℕ
 count_of LoadFailed counts = counts.failed
 count_of LoadMissing counts = counts.missing
+count_of SaveFailed counts = counts.unsaved
 
 -- the count of the fault rose in this call
 abbrev pub FaultRose : Session → Fault → Type 0
@@ -108,12 +109,12 @@ TellsText None after text = ⊥
 abbrev pub IsToldToPut : Session → List ℕ → Type 0
 IsToldToPut s text = TellsText s.written s.written_after text
 
--- what a reply leaves in the files: the bytes that it saves stand under their name, and all else stays
+-- what a reply leaves in the files: as far as they are told, the bytes that it saves stand under their
+-- name, and all else stays
 abbrev pub Leaves : Option (List ℕ × List ℕ) → Option Contents → Option Contents → Type 0
 Leaves None before after = after ≡ before
-Leaves (Some saved) (Some before) (Some after) = (bytes_under after saved.0 ≡ Some saved.1) × ((other : List ℕ) → other ≢ saved.0 → bytes_under after other ≡ bytes_under before other)
-Leaves (Some saved) None None = Unit {0}
-Leaves (Some saved) before after = ⊥
+Leaves (Some saved) before after =
+    AreTold before after (λ files files_after. IsSaved files files_after saved.0 saved.1)
 
 -- the call ends as the reply says
 pub record Shows (s : Session) (r : Reply) : Type 0 where
@@ -180,6 +181,7 @@ abbrev pub IsOfWork : Status → Type 0
 IsOfWork Clear = Unit {0}
 IsOfWork Failed = Unit {0}
 IsOfWork (Undecided held) = Unit {0}
+IsOfWork ProofRefused = Unit {0}
 IsOfWork status = ⊥
 
 -- No other answer has the status of a reply.
@@ -192,8 +194,18 @@ KeepsOf words.Usage before after = after ≡ before
 KeepsOf (Print n) before after = after ≡ before
 KeepsOf (Do w) before after = Keeps w.job before after
 
-abbrev pub KeepsContents : Session → Type 0
-KeepsContents s = KeepsOf (command_of s.words) s.contents s.contents_after
+-- the statuses of calls that save nothing
+abbrev pub SavesNothing : Status → Type 0
+SavesNothing ModelRefused = Unit {0}
+SavesNothing ProofRefused = Unit {0}
+SavesNothing Usage = Unit {0}
+SavesNothing Memory = Unit {0}
+SavesNothing status = ⊥
+
+-- Whatever the status, each name but that of the proofs keeps its bytes. Where nothing is saved all contents stay.
+pub record KeepsContents (s : Session) : Type 0 where
+  pub others : KeepsOf (command_of s.words) s.contents s.contents_after
+  pub all : SavesNothing s.status → s.contents_after ≡ s.contents
 
 -- A fault of the outside is answered only where a count rose.
 pub record FaultHasCause (s : Session) : Type 0 where
@@ -202,17 +214,29 @@ pub record FaultHasCause (s : Session) : Type 0 where
 -- A count that grew is answered.
 pub record AnswersFaults (s : Session) : Type 0 where
   pub sink : s.sink_faults < s.sink_faults_after → s.status ≡ OutsideFault
+  pub saves : Grew s SaveFailed → s.status ≡ OutsideFault
   pub files : FilesGrew s → (s.status ≡ OutsideFault) ⊎ (s.status ≡ Memory)
 
--- Where a count of the files grew the line of its fault is put: whole, or a prefix where the sink failed too.
-abbrev pub PutsFaultLine : Session → Type 0
-PutsFaultLine s = FilesGrew s → s.status ≡ OutsideFault
-    → (fault : Fault) × Grew s fault × (Puts s (fault_line fault) ⊎ (SinkRose s × PutsPrefix s (fault_line fault)))
+-- the proofs of a model were to be saved: none of the refusals that are read off its text applies
+pub record Saves (s : Session) : Type 0 where
+  pub work : Work
+  pub bytes : List ℕ
+  pub name : List ℕ
+  pub model : System
+  pub asked : MayAsk s work bytes
+  pub job : work.job ≡ Decide (Some name)
+  pub has : HasModel bytes model
 
 -- what a fault line tells
 abbrev pub IsSo : Session → Fault → Type 0
 IsSo s LoadFailed = s.contents_after ≡ s.contents
 IsSo s LoadMissing = (s.contents_after ≡ s.contents) × IfSome s.contents (λ files. (name : List ℕ) × Loads (command_of s.words) s.contents name × (bytes_under files name ≡ None))
+IsSo s SaveFailed = Saves s
+
+-- Where a count of the files grew the line of its fault is put: whole, or a prefix where the sink failed too. What it tells is so.
+abbrev pub PutsFaultLine : Session → Type 0
+PutsFaultLine s = FilesGrew s → s.status ≡ OutsideFault
+    → (fault : Fault) × Grew s fault × IsSo s fault × (Puts s (fault_line fault) ⊎ (SinkRose s × PutsPrefix s (fault_line fault)))
 
 -- A fault line stands only where its own count rose, and what it tells is so.
 abbrev pub FaultLinesHaveCause : Session → Type 0
@@ -222,7 +246,7 @@ FaultLinesHaveCause s = (fault : Fault) → IsToldToPut s (fault_line fault) →
 pub record CutsOffAnswer (s : Session) : Type 0 where
   pub cut : s.status ≡ OutsideFault → ¬ FilesGrew s
       → ((r : Reply) × Answers (command_of s.words) s.contents r × PutsPrefix s (text_of r) × Leaves r.saves s.contents s.contents_after)
-      ⊎ ((fault : Fault) × WasAtLast s fault × PutsPrefix s (fault_line fault))
+      ⊎ ((fault : Fault) × WasAtLast s fault × IsSo s fault × PutsPrefix s (fault_line fault))
 
 -- Where memory ran out nothing was put, and all contents stay.
 pub record MemoryChangesNothing (s : Session) : Type 0 where

@@ -2,9 +2,13 @@
 #![tactic(auto)]
 
 mod decision;
+mod finishing;
 pub mod laws;
+mod rechecking;
+mod relation;
 mod session;
 mod source;
+mod trials;
 mod work;
 
 pub use session::run;

@@ -1,19 +1,29 @@
 // Work over a model's text.
-ghost use Rattle.std.specs.Prelude.{◌≡◌, ◌<◌, ◌^◌, ℕ, List, Option, IfOk};
+ghost use Rattle.std.specs.Prelude.{◌≡◌, ◌<◌, ◌≤◌, ◌^◌, ℕ, IfOk, List, Option, Some};
+ghost use Rattle.bit_encode.specs.Code.{state_bits};
 ghost use Rattle.command_words.specs.Asked.{work_asked};
-ghost use Rattle.command_words.specs.Words as words;
 ghost use Rattle.command_words.specs.Words.{Do, HasLimits};
+ghost use Rattle.command_words.specs.declared.command.Job.{Job};
+ghost use Rattle.kripke_model.specs.Faults.{IsFaultless};
 ghost use Rattle.smv_outside.specs.Contents.{Contents};
 ghost use Rattle.smv_session.specs.Answers.{IsModelReply};
-ghost use Rattle.smv_session.specs.Foreseen.{Foresees, IsForeseenAs};
-ghost use Rattle.smv_session.specs.Source.{HasRuled};
+ghost use Rattle.smv_session.specs.Foreseen.{Foresees, ForeseesProofs, ForeseesText, IsForeseenAs};
+ghost use Rattle.smv_session.specs.Foreseen.{RefusesLongProofs};
+ghost use Rattle.smv_session.specs.Relation.{Stops};
+ghost use Rattle.smv_session.specs.Source.{HasRuled, most_state_bits};
+ghost use Rattle.smv_texts.specs.Refusals as too_long;
 ghost use Rattle.smv_texts.specs.Replies.{IsReply};
+ghost use Rattle.smv_texts.specs.Told.{TellsRefusal};
 
-use crate::decision::{Stop, decide};
+use crate::decision::decide;
+use crate::rechecking::recheck;
+use crate::relation::{Stop, find_fault};
 use crate::session::Foreseen;
 use crate::source::read_model;
 use command_words::{Job, Source, Work};
 use kripke_model::models::Ruled;
+use proof_answers::{refuse_proofs, unanswered_model};
+use proof_text::refusals::TextRefusal;
 use smv_outside::{Files, LoadFault};
 use smv_rings::gen_text;
 use smv_texts::{Fault, Refusal, Reply, refuse, refuse_fault};
@@ -22,31 +32,36 @@ use std::alloc::{AllocError, Global};
 /// The greatest number of bytes of a model's text.
 const MOST_MODEL_BYTES: usize = 1 << 20;
 
+/// The greatest number of bytes of a proof file.
+const MOST_PROOF_BYTES: usize = 1 << 26;
+
 /// What is to be put for work over the text of its source.
-pub(crate) fn do_work<F: Files>(
+pub(crate) fn do_work<'a, F: Files>(
     alloc: Global,
-    work: Work<'_>,
+    work: Work<'a>,
     files: &mut F,
-) -> Result<Foreseen, AllocError>
+) -> Result<Foreseen<'a>, AllocError>
     requires { HasLimits (Do (work_asked work)) }
     ensures contents { F.contents files.new ≡ F.contents files.old }
-    ensures foreseen { IfOk result (Foresees (Do (work_asked work.entry)) (F.contents files.old) (F.faults files.old) (F.faults files.new)) }
+    ensures unsaved { (F.faults files.new).unsaved ≡ (F.faults files.old).unsaved }
+    ensures foreseen { IfOk result (Foresees (Do (work_asked work.entry)) (F.contents files.old)
+        (F.faults files.old) (F.faults files.new)) }
 {
     match work.source {
         Source::File(name) => match files.load(name, MOST_MODEL_BYTES) {
-            Ok(bytes) => Ok(Foreseen::Reply(answer_text(alloc, work, &bytes)?)),
+            Ok(bytes) => answer_text(alloc, work, &bytes, files),
             Err(fault) => answer_fault(alloc, fault),
         },
         Source::Ring(n) => {
             let text = gen_text(alloc, n)?;
-            Ok(Foreseen::Reply(answer_text(alloc, work, &text)?))
+            answer_text(alloc, work, &text, files)
         }
     }
 }
 
 /// What is to be put where the source was not loaded.
-fn answer_fault(alloc: Global, fault: LoadFault) -> Result<Foreseen, AllocError>
-    ensures { IfOk result (IsForeseenAs fault) }
+fn answer_fault<'a>(alloc: Global, fault: LoadFault) -> Result<Foreseen<'a>, AllocError>
+    ensures { IfOk result (IsForeseenAs (TellsRefusal (Some too_long.TooLong)) fault) }
 {
     match fault {
         LoadFault::Failed => Ok(Foreseen::Fault(Fault::LoadFailed)),
@@ -56,36 +71,134 @@ fn answer_fault(alloc: Global, fault: LoadFault) -> Result<Foreseen, AllocError>
     }
 }
 
-/// The reply to a model's text.
-fn answer_text(alloc: Global, work: Work<'_>, text: &[u8]) -> Result<Reply, AllocError>
+/// What is to be put for work over a model's text.
+fn answer_text<'a, F: Files>(
+    alloc: Global,
+    work: Work<'a>,
+    text: &[u8],
+    files: &mut F,
+) -> Result<Foreseen<'a>, AllocError>
     requires { HasLimits (Do (work_asked work)) }
-    ensures { (contents : Option Contents) → IfOk result (IsReply (IsModelReply (work_asked work.entry) contents text.now)) }
+    ensures contents { F.contents files.new ≡ F.contents files.old }
+    ensures unsaved { (F.faults files.new).unsaved ≡ (F.faults files.old).unsaved }
+    ensures foreseen { IfOk result (ForeseesText (work_asked work.entry) (F.contents files.old)
+        text.now (F.faults files.old) (F.faults files.new)) }
 {
     match read_model(alloc, text) {
-        Ok(model) => answer_model(alloc, work, &model),
-        Err(refusal) => refuse(alloc, &refusal),
+        Ok(model) => answer_model(alloc, work, &model, files),
+        Err(refusal) => Ok(Foreseen::Reply(refuse(alloc, &refusal)?)),
     }
 }
 
-/// The reply to a model that breaks no static rule.
-fn answer_model(alloc: Global, work: Work<'_>, model: &Ruled) -> Result<Reply, AllocError>
+/// What is to be put for work over a model that breaks no static rule.
+fn answer_model<'a, F: Files>(
+    alloc: Global,
+    work: Work<'a>,
+    model: &Ruled,
+    files: &mut F,
+) -> Result<Foreseen<'a>, AllocError>
     requires { HasLimits (Do (work_asked work)) }
-    ensures { (contents : Option Contents) (bytes : List ℕ) → HasRuled bytes model.now → IfOk result (IsReply (IsModelReply (work_asked work.entry) contents bytes)) }
+    ensures contents { F.contents files.new ≡ F.contents files.old }
+    ensures unsaved { (F.faults files.new).unsaved ≡ (F.faults files.old).unsaved }
+    ensures foreseen { (bytes : List ℕ) → HasRuled bytes model.now
+        → IfOk result (ForeseesText (work_asked work.entry) (F.contents files.old) bytes
+        (F.faults files.old) (F.faults files.new)) }
 {
     match work.job {
-        Job::Decide => answer_decided(alloc, work, model),
+        Job::Decide { proofs } => Ok(Foreseen::Reply(answer_decided(alloc, work, model, proofs)?)),
+        Job::Recheck { proofs } => answer_rechecked(alloc, work, model, proofs, files),
+    }
+}
+
+/// The reply to a model that is not taken.
+fn answer_stop<'a>(
+    alloc: Global,
+    work: Work<'_>,
+    model: &Ruled,
+    stop: Stop,
+) -> Result<Reply<'a>, AllocError>
+    requires { Stops model.now stop }
+    ensures { (contents : Option Contents) (bytes : List ℕ) → HasRuled bytes model.now
+        → IfOk result (IsReply (IsModelReply (work_asked work.entry) contents bytes)) }
+{
+    match stop {
+        Stop::TooManyBits { bits } => refuse(alloc, &Refusal::TooManyBits { bits }),
+        Stop::Fault(fault) => refuse_fault(alloc, model, &fault),
+        Stop::Memory => Err(AllocError),
     }
 }
 
 /// The reply where the model's specifications are to be decided.
-fn answer_decided(alloc: Global, work: Work<'_>, model: &Ruled) -> Result<Reply, AllocError>
-    requires { HasLimits (Do (work_asked work)) }
-    ensures { (contents : Option Contents) (bytes : List ℕ) → HasRuled bytes model.now → IfOk result (IsReply (IsModelReply (work_asked work.entry) contents bytes)) }
+fn answer_decided<'a>(
+    alloc: Global,
+    work: Work<'a>,
+    model: &Ruled,
+    proofs: Option<&'a str>,
+) -> Result<Reply<'a>, AllocError>
+    requires limits { HasLimits (Do (work_asked work)) }
+    requires job { work.job ≡ Job.Decide proofs }
+    ensures { (contents : Option Contents) (bytes : List ℕ) → HasRuled bytes model.now
+        → IfOk result (IsReply (IsModelReply (work_asked work.entry) contents bytes)) }
 {
-    match decide(alloc, model, work.limit) {
+    match decide(alloc, model, work.limit, proofs) {
         Ok(reply) => Ok(reply),
-        Err(Stop::TooManyBits { bits }) => refuse(alloc, &Refusal::TooManyBits { bits }),
-        Err(Stop::Fault(fault)) => refuse_fault(alloc, model, &fault),
-        Err(Stop::Memory) => Err(AllocError),
+        Err(stop) => answer_stop(alloc, work, model, stop),
+    }
+}
+
+/// What is to be put where a proof file is to be tested.
+fn answer_rechecked<'a, F: Files>(
+    alloc: Global,
+    work: Work<'a>,
+    model: &Ruled,
+    proofs: &'a str,
+    files: &mut F,
+) -> Result<Foreseen<'a>, AllocError>
+    requires limits { HasLimits (Do (work_asked work)) }
+    requires job { work.job ≡ Job.Recheck proofs }
+    ensures contents { F.contents files.new ≡ F.contents files.old }
+    ensures unsaved { (F.faults files.new).unsaved ≡ (F.faults files.old).unsaved }
+    ensures foreseen { (bytes : List ℕ) → HasRuled bytes model.now
+        → IfOk result (ForeseesText (work_asked work.entry) (F.contents files.old) bytes
+        (F.faults files.old) (F.faults files.new)) }
+{
+    match find_fault(alloc, model, work.limit) {
+        Ok(None) => answer_proofs(alloc, work.limit, model, proofs, files),
+        Ok(Some(held)) => Ok(Foreseen::Reply(unanswered_model(alloc, work.limit, held)?)),
+        Err(stop) => Ok(Foreseen::Reply(answer_stop(alloc, work, model, stop)?)),
+    }
+}
+
+/// What is to be put for the proof file of a model without faults.
+fn answer_proofs<'a, F: Files>(
+    alloc: Global,
+    limit: u32,
+    model: &Ruled,
+    proofs: &str,
+    files: &mut F,
+) -> Result<Foreseen<'a>, AllocError>
+    requires limit { limit < 2 ^ 31 }
+    requires faultless { IsFaultless model.now }
+    requires few { state_bits model.now ≤ most_state_bits }
+    ensures contents { F.contents files.new ≡ F.contents files.old }
+    ensures unsaved { (F.faults files.new).unsaved ≡ (F.faults files.old).unsaved }
+    ensures foreseen { IfOk result (ForeseesProofs model.now limit (F.contents files.old) proofs.now
+        (F.faults files.old) (F.faults files.new)) }
+{
+    match files.load(proofs, MOST_PROOF_BYTES) {
+        Ok(bytes) => Ok(Foreseen::Reply(recheck(alloc, model, limit, &bytes)?)),
+        Err(fault) => answer_proof_fault(alloc, fault),
+    }
+}
+
+/// What is to be put where the proof file was not loaded.
+fn answer_proof_fault<'a>(alloc: Global, fault: LoadFault) -> Result<Foreseen<'a>, AllocError>
+    ensures { IfOk result (IsForeseenAs RefusesLongProofs fault) }
+{
+    match fault {
+        LoadFault::Failed => Ok(Foreseen::Fault(Fault::LoadFailed)),
+        LoadFault::NotThere => Ok(Foreseen::Fault(Fault::LoadMissing)),
+        LoadFault::TooLong { .. } => Ok(Foreseen::Reply(refuse_proofs(alloc, TextRefusal::TooLong)?)),
+        LoadFault::Memory => Err(AllocError),
     }
 }

@@ -49,13 +49,8 @@ EachFinding R [] [] = Unit {0}
 EachFinding R (c ∷ cs) (f ∷ fs) = R (formula_of c.expr) f × EachFinding R cs fs
 EachFinding R cs fs = ⊥
 
--- what is told of a specification: its verdict, and of no proof that it was left out, since none is asked for
-pub record IsTold (m : System) (limit : ℕ) (f : Ctl) (finding : Finding) : Type 0 where
-  pub verdict : IsVerdict m limit f finding.outcome
-  pub left_out : finding.left_out ≡ None
-
 abbrev pub AreVerdicts : System → ℕ → List Finding → Type 0
-AreVerdicts m limit fs = EachFinding (IsTold m limit) m.specs fs
+AreVerdicts m limit fs = EachFinding (λ f finding. IsVerdict m limit f finding.outcome) m.specs fs
 
 abbrev pub ShowStates : System → List Finding → Type 0
 ShowStates m fs = EachFinding (λ f finding. ShowsState m f finding.outcome) m.specs fs

@@ -1,32 +1,19 @@
-use Rattle.std.proofs.Common.{◌∙◌, ◌++◌, ◌∷◌, [], List, length, map, ap, refl, arith}
-use Rattle.std.proofs.lemmas.List.{length-replicate}
+use Rattle.std.proofs.Common.{◌∙◌, List, map, ap, refl}
+use Rattle.proof_text.specs.Lines.{header_lines, text_of}
+use Rattle.proof_text.specs.Written.{own_order}
 use Rattle.smv_texts.specs.Outcomes.{finding_of}
+use Rattle.smv_texts.specs.Replies.{saved_of}
 use Rattle.smv_texts.specs.Report.{report}
 use Rattle.smv_texts.specs.declared.ending.Ending.TheVariants.{Undecided}
-use Rattle.smv_texts.specs.declared.outcome.Outcome.{Outcome}
-use Rattle.smv_texts.specs.declared.outcome.Outcome.TheVariants.{Unknown}
-use Rattle.spec_verdicts.proofs.ReplyLemmas.{one_more, unknown_reply}
+use Rattle.smv_texts.specs.declared.outcome.Finding.{Finding}
+use Rattle.spec_verdicts.proofs.ReplyLemmas.{begins_with, header_under, unknown_reply}
 use Rattle.spec_verdicts.proofs.replies.all_unknown.Goals as goal
-
-pub loop-init : goal.loop-init
-loop-init c = c.new-outcomes.ensures.items
-
-pub loop-preserved : goal.loop-preserved
-loop-preserved c =
-    c.in_ok-push.ensures.items ∙ ap (λ (os : List Outcome). os ++ Unknown c.args.limit ∷ []) c.loop.invariant ∙ one_more c.args.limit c.loop.index
-
-pub report_text-requires : goal.report_text-requires
-report_text-requires c =
-    let all = ap length c.deref.ensures.value in
-    let count = ap length c.loop.invariant in
-    let size = length-replicate c.loop.index (Unknown c.args.limit) in
-    let specs = ap length c.specs-specs.ensures in
-    omega (arith, all, count, size, specs, c.loop.auto.index-end)
 
 pub returns : goal.returns
 returns c =
-    let specs = ap length c.specs-specs.ensures in
-    unknown_reply c.args.model.now c.args.limit c.loop.index c.in_ok-vec.field-0 c.args.held c.loop.outcomes.items (record { text = c.in_ok-report_text.field-0; ending = Undecided c.in_ok-vec.field-0 })
-    (omega (arith, specs, c.loop-test.false, c.loop.auto.index-end)) c.loop.invariant
-    (c.in_ok-report_text.ensures ∙ ap (λ (os : List Outcome). report c.args.model.now (map finding_of os)) c.deref.ensures.value)
+    let m = c.args.model.now in
+    unknown_reply m c.args.limit _ c.in_ok-vec.field-0 c.args.held (map finding_of c.in_ok-findings.findings.items)
+    (record { text = c.in_ok-text.text; ending = Undecided c.in_ok-vec.field-0; saves = c.in_ok-saves.saves }) c.in_ok-findings.ensures
+    (c.in_ok-text.ensures ∙ ap (λ (fs : List Finding). report m (map finding_of fs)) c.deref.ensures.value)
     refl c.in_ok-vec.ensures.items c.requires
+    (begins_with m _ (saved_of c.in_ok-saves.saves) c.written_law.ensures (c.in_ok-saves.ensures ∙ header_under (text_of (header_lines m (own_order m))) (λ name. name.now) c.args.proofs))

@@ -1,0 +1,134 @@
+// The blocks of a proof file are tested, each in a store of its own.
+ghost use Rattle.std.specs.Prelude.{◌≡◌, ◌≤◌, ◌<◌, ◌++◌, ◌∷◌, [], ◌^◌, ℕ, IfOk, List, OnOk};
+ghost use Rattle.bit_encode.specs.Code.{state_bits};
+ghost use Rattle.kripke_model.specs.Faults.{IsFaultless};
+ghost use Rattle.kripke_model.specs.System.{System};
+ghost use Rattle.proof_answers.specs.Answered.{AreAnswered};
+ghost use Rattle.proof_answers.specs.Rechecked.{Rechecked};
+ghost use Rattle.proof_checker.specs.Answers.{IsAnswerTo};
+ghost use Rattle.proof_checker.specs.Reads.{IsRead};
+ghost use Rattle.proof_text.specs.File.{Block};
+ghost use Rattle.proof_text.specs.Spells.{Spells};
+ghost use Rattle.smv_session.specs.Source.{most_state_bits};
+ghost use Rattle.smv_texts.specs.Replies.{IsReply};
+
+use bdd_nodes::Steps;
+use kripke_model::models::Ruled;
+use proof_answers::{Answers, rechecked, refuse_proofs};
+use proof_checker::checking::{Answer, check_block};
+use proof_text::file::{Block, ProofFile};
+use proof_text::reading::read_file;
+use smv_texts::Reply;
+use std::alloc::{AllocError, Global};
+use std::marker::Brand;
+use std::sync::ledger::{Blank, Ledger};
+
+/// What is found of a block.
+fn test_in_steps<L: Ledger>(
+    alloc: Global,
+    model: &Ruled,
+    limit: u32,
+    order: &[u32],
+    block: &Block,
+    blank: Blank,
+) -> Result<Answer, AllocError>
+    requires name { blank.name ≡ L.name }
+    requires shares { blank.parts ≡ L.parts }
+    requires some { 0 < L.parts }
+    requires limit { limit < 2 ^ 31 }
+    requires faultless { IsFaultless model.now }
+    requires few { state_bits model.now ≤ most_state_bits }
+    requires read { IsRead model.now order.now block.now }
+    ensures { IfOk result (IsAnswerTo model.now order.now block.now limit) }
+{
+    let mut steps = Steps::<L>::new(blank);
+    check_block(alloc, model, order, block, limit, &mut steps)
+}
+
+/// The same, where the steps are not counted.
+fn test(
+    alloc: Global,
+    model: &Ruled,
+    limit: u32,
+    order: &[u32],
+    block: &Block,
+) -> Result<Answer, AllocError>
+    requires limit { limit < 2 ^ 31 }
+    requires faultless { IsFaultless model.now }
+    requires few { state_bits model.now ≤ most_state_bits }
+    requires read { IsRead model.now order.now block.now }
+    ensures { IfOk result (IsAnswerTo model.now order.now block.now limit) }
+{
+    test_in_steps::<Brand>(alloc, model, limit, order, block, Blank::new(1))
+}
+
+/// Adds what is found of one more block.
+fn add(answers: &mut Answers, limit: u32, answer: Answer) -> Result<(), AllocError>
+    ensures { (m : System) (order : List ℕ) (blocks : List Block) (b : Block)
+        → AreAnswered m limit order blocks answers.old → IsAnswerTo m order b limit answer
+        → OnOk result (AreAnswered m limit order (blocks ++ b ∷ []) answers.new) }
+{
+    match answer {
+        Answer::Accepted => answers.accept(),
+        Answer::Rejected { line } => answers.reject(line),
+        Answer::NodeLimit { held } => answers.leave(limit, held),
+    }
+}
+
+/// What is found of each block of the file.
+fn test_all(
+    alloc: Global,
+    model: &Ruled,
+    limit: u32,
+    file: &ProofFile,
+) -> Result<Answers, AllocError>
+    requires limit { limit < 2 ^ 31 }
+    requires faultless { IsFaultless model.now }
+    requires few { state_bits model.now ≤ most_state_bits }
+    requires spelled { (bytes : List ℕ) × Spells model.now file.now bytes }
+    ensures { IfOk result (AreAnswered model.now limit file.now.order file.now.blocks) }
+{
+    let mut answers = Answers::new(alloc);
+    for block in file.blocks.iter() {
+        let answer = test(alloc, model, limit, &file.order, block)?;
+        add(&mut answers, limit, answer)?;
+    }
+    Ok(answers)
+}
+
+/// The reply to a proof file.
+fn recheck_file<'a>(
+    alloc: Global,
+    model: &Ruled,
+    limit: u32,
+    file: &ProofFile,
+) -> Result<Reply<'a>, AllocError>
+    requires limit { limit < 2 ^ 31 }
+    requires faultless { IsFaultless model.now }
+    requires few { state_bits model.now ≤ most_state_bits }
+    requires spelled { (bytes : List ℕ) × Spells model.now file.now bytes }
+    ensures { (bytes : List ℕ) → Spells model.now file.now bytes
+        → IfOk result (IsReply (Rechecked model.now limit bytes)) }
+{
+    let answers = test_all(alloc, model, limit, file)?;
+    rechecked(alloc, file, answers)
+}
+
+/// The reply to the bytes of a proof file, of a model without faults. Each block is tested in a store
+/// of at most `limit` nodes, which is below 2^31.
+pub(crate) fn recheck<'a>(
+    alloc: Global,
+    model: &Ruled,
+    limit: u32,
+    bytes: &[u8],
+) -> Result<Reply<'a>, AllocError>
+    requires limit { limit < 2 ^ 31 }
+    requires faultless { IsFaultless model.now }
+    requires few { state_bits model.now ≤ most_state_bits }
+    ensures { IfOk result (IsReply (Rechecked model.now limit bytes.now)) }
+{
+    match read_file(alloc, model, bytes) {
+        Ok(file) => recheck_file(alloc, model, limit, &file),
+        Err(refusal) => refuse_proofs(alloc, refusal),
+    }
+}
