@@ -1,123 +1,171 @@
 -- What clap's rows have at the end, and what fails then.
-use Rattle.std.proofs.Common.{◌≡◌, ◌∙◌, ◌||◌, Bool, true, false, cond, List, [], ◌∷◌, ◌++◌, codes, Option, Some, None, is_some, option_map, refl, sym, ap, subst}
+use Rattle.std.proofs.Common.{◌≡◌, ◌∙◌, ◌||◌, Bool, true, false, cond, not, List, [], ◌∷◌, ◌++◌, codes, Option, Some, None, is_some, option_map, refl, sym, ap, subst}
 use Rattle.std.specs.Prelude.{fold, slice_get}
-use Rattle.std.specs.Option.{option_and_then}
+use Rattle.std.specs.Option.{option_and_then, option_map_or}
 use Rattle.clap.specs.declared.error.kind.ErrorKind.TheVariants.{MissingRequiredArgument}
+use Rattle.clap.specs.Facts.{explicit_source}
 use Rattle.clap.specs.Values.{bool_text}
-use Rattle.clap.specs.Walk.{Row, Rule, Text, first_of, one_of, has_row, with_default, more_values, row_text}
+use Rattle.clap.specs.Walk.{Row, Rule, Text, default_rows, first_of, has_row, is_empty, more_values, one_of, reading_by, row_text, with_default}
 use Rattle.clap.specs.Kinds.{Kinds, or_else}
-use Rattle.clap.specs.Faults.{check_fault, defaults_fault}
+use Rattle.clap.specs.Takes.{is_given}
+use Rattle.clap.specs.Faults.{check_fault, default_fault, defaults_fault, given_default_fault}
 use Rattle.clap.specs.declared.parser.matches.ValueSource.TheVariants.{DefaultValue}
-use Rattle.command_words.proofs.Kept.{Keeps}
-use Rattle.command_words.proofs.ClapRows.{Has, row, found, at_new, found_new, found_other}
-use Rattle.command_words.proofs.ClapWalk.{Agrees, ends, operand_built, nodes_built, check_built, shape_with, no_check, some_check}
-use Rattle.command_words.proofs.ClapForms.{check_rules, gen_rules}
+use Rattle.command_words.specs.Given.{Values}
+use Rattle.command_words.proofs.Kept.{Kept, file_names, flag_value, model_name, number_name, wants}
+use Rattle.command_words.proofs.ClapRows.{Has, at_new, found, found_new, found_none, found_other, has_none, has_some, row}
+use Rattle.command_words.proofs.ClapTurns.{shape_with}
+use Rattle.command_words.proofs.ClapUses.{flag_built, operand_built}
+use Rattle.command_words.proofs.ClapWalk.{Agrees, ends}
+use Rattle.command_words.proofs.ClapForms.{check_rules, gen_rules, recheck_rules}
 
--- an argument that has a row, or no default values, changes nothing
-operand_default : (rows : List Row) → with_default rows operand_built ≡ rows
-operand_default rows = go (has_row (codes "operand") rows)
-  where
-    go : (b : Bool) → cond b rows rows ≡ rows
-    go true = refl
-    go false = refl
+-- ---- arguments without default values change nothing
 
-nodes_default : (rows : List Row) → with_default rows nodes_built ≡ rows
-nodes_default rows = go (has_row (codes "nodes") rows)
-  where
-    go : (b : Bool) → cond b rows rows ≡ rows
-    go true = refl
-    go false = refl
+if_same : {A : Type 0} (b : Bool) (x : A) → cond b x x ≡ x
+if_same true x = refl
+if_same false x = refl
 
-no_default_fault : (b : Bool) (fault : Kinds) → cond (b || true) [] fault ≡ []
-no_default_fault true fault = refl
-no_default_fault false fault = refl
+if_either : (b : Bool) (fault : Kinds) → cond (b || true) [] fault ≡ []
+if_either true fault = refl
+if_either false fault = refl
 
-check_defaults_fault : (rows : List Row) → defaults_fault rows check_rules ≡ []
+module _ (rule : Rule) (none : rule.defaults ≡ []) (rows : List Row) where
+  default_same : with_default rows rule ≡ rows
+  default_same = ap (λ values. cond (has_row rule.id rows) rows (default_rows rule.id (reading_by rule) values rows)) none ∙ if_same (has_row rule.id rows) rows
+
+  no_default_fault : default_fault rows rule ≡ []
+  no_default_fault =
+      ap (λ values. cond (has_row rule.id rows || is_empty values) [] (given_default_fault rule values)) none ∙ if_either (has_row rule.id rows) _
+
+abbrev HasNoDefaults : List Rule → Type 0
+HasNoDefaults [] = Unit {0}
+HasNoDefaults (rule ∷ rules) = (rule.defaults ≡ []) × HasNoDefaults rules
+
+all_same : (rules : List Rule) → HasNoDefaults rules → (rows : List Row) → fold with_default rows rules ≡ rows
+all_same [] none rows = refl
+all_same (rule ∷ rules) none rows = all_same rules none.1 (with_default rows rule) ∙ default_same rule none.0 rows
+
+no_defaults_fault : (rules : List Rule) → HasNoDefaults rules → (rows : List Row) → defaults_fault rows rules ≡ []
 unfolding defaults_fault
-check_defaults_fault rows =
-    ap (λ fault. or_else fault (defaults_fault (with_default rows operand_built) (nodes_built ∷ []))) (no_default_fault (has_row (codes "operand") rows) _)
-    ∙ ap (λ fault. or_else fault []) (no_default_fault (has_row (codes "nodes") (with_default rows operand_built)) _)
+no_defaults_fault [] none rows = refl
+no_defaults_fault (rule ∷ rules) none rows =
+    ap (λ fault. or_else fault (defaults_fault (with_default rows rule) rules)) (no_default_fault rule none.0 rows)
+    ∙ no_defaults_fault rules none.1 (with_default rows rule)
+
+-- ---- operands that no word was given for
+
+abbrev lacks : List Text → List Row → Bool
+lacks [] rows = false
+lacks (id ∷ names) rows = not (is_given id rows) || lacks names rows
+
+module _ (rows : List Row) (values : Values) where
+  abbrev HasAll : List Text → Type 0
+  HasAll [] = Unit {0}
+  HasAll (id ∷ names) = (found id rows ≡ option_map (row id) (values id)) × HasAll names
+
+  given_is : (id : Text) → found id rows ≡ option_map (row id) (values id) → is_given id rows ≡ is_some (values id)
+  given_is id has = ap (λ r. option_map_or (λ r. explicit_source r.source) r false) has ∙ go (values id)
+    where
+      go : (value : Option Text) → option_map_or (λ r. explicit_source r.source) (option_map (row id) value) false ≡ is_some value
+      go None = refl
+      go (Some text) = refl
+
+  lacks_is : (names : List Text) → HasAll names → lacks names rows ≡ wants names values
+  lacks_is [] has = refl
+  lacks_is (id ∷ names) has = λ i. not (given_is id has.0 i) || lacks_is names has.1 i
+
+  has_all : Has rows values → (names : List Text) → HasAll names
+  has_all has [] = tt
+  has_all has (id ∷ names) = (has id, has_all has names)
+
+closed : (names : List Text) (Reads : List Row → Values → Type 0) (rows : List Row) (kept : Kept) (lacking : Bool) → lacking ≡ wants names kept.values
+    → Reads rows kept.values → Agrees names Reads (cond lacking (MissingRequiredArgument ∷ []) []) rows (Some kept)
+closed names Reads rows kept true e reads = sym e
+closed names Reads rows kept false e reads = reads
+
+-- ---- what the rows have of each argument
+
+value_of : (id : Text) (value : Option Text) → option_and_then (λ r. slice_get r.values 0) (option_map (row id) value) ≡ value
+value_of id None = refl
+value_of id (Some text) = refl
+
+first_is : (rows : List Row) (values : Values) (id : Text) → found id rows ≡ option_map (row id) (values id) → first_of id rows ≡ values id
+first_is rows values id has = ap (option_and_then (λ r. slice_get r.values 0)) has ∙ value_of id (values id)
+
+-- all that is kept
+abbrev pub ReadsAll : List Row → Values → Type 0
+ReadsAll rows values = (id : Text) → first_of id rows ≡ values id
+
+-- commands without defaults
+module _ (name : Text) (names : List Text) (rules : List Rule) (none : HasNoDefaults rules)
+    (checked : (rows : List Row) → check_fault (shape_with name rules) rows false ≡ cond (lacks names rows) (MissingRequiredArgument ∷ []) []) where
+  ending : (rows : List Row) (kept : Kept) → Has rows kept.values
+      → Agrees names ReadsAll (ends (shape_with name rules) rows) (fold with_default rows rules) (Some kept)
+  ending rows kept has =
+      subst (λ now. Agrees names ReadsAll (or_else (defaults_fault rows rules) (check_fault (shape_with name rules) now false)) now (Some kept)) (sym (all_same rules none rows))
+      (subst (λ fault. Agrees names ReadsAll fault rows (Some kept))
+      (sym (ap (λ fault. or_else fault (check_fault (shape_with name rules) rows false)) (no_defaults_fault rules none rows) ∙ checked rows))
+      (closed names ReadsAll rows kept (lacks names rows) (lacks_is rows kept.values names (has_all rows kept.values has names)) (λ id. first_is rows kept.values id (has id))))
+
+pub check_ending : (rows : List Row) (kept : Kept) → Has rows kept.values
+    → Agrees model_name ReadsAll (ends (shape_with (codes "check") check_rules) rows) (fold with_default rows check_rules) (Some kept)
+check_ending = ending (codes "check") model_name check_rules (refl, (refl, (refl, tt))) (λ rows. refl)
+
+pub recheck_ending : (rows : List Row) (kept : Kept) → Has rows kept.values
+    → Agrees file_names ReadsAll (ends (shape_with (codes "recheck") recheck_rules) rows) (fold with_default rows recheck_rules) (Some kept)
+recheck_ending = ending (codes "recheck") file_names recheck_rules (refl, (refl, (refl, tt))) (λ rows. refl)
+
+-- ---- the flag of `gen`, which has a default
+
+abbrev pub ReadsGen : List Row → Values → Type 0
+ReadsGen rows values =
+    (first_of (codes "number") rows ≡ values (codes "number"))
+    × ((check : Bool) → values (codes "check") ≡ flag_value check → one_of (codes "check") rows ≡ Some (bool_text check))
+
+module _ (rows : List Row) (values : Values) (has : Has rows values) where
+  abbrev with_flag : List Row
+  with_flag = with_default rows (flag_built (codes "check"))
+
+  abbrev unused : Row
+  unused = record (row (codes "check") (codes "false")) { source = Some DefaultValue }
+
+  used_same : (value : Text) → values (codes "check") ≡ Some value → with_flag ≡ rows
+  used_same value e = rw (has_some rows values has (codes "check") value e) refl
+
+  unused_added : values (codes "check") ≡ None → with_flag ≡ rows ++ unused ∷ []
+  unused_added e = rw (has_none rows values has (codes "check") e)
+      (at_new (codes "check") (more_values DefaultValue (codes "false" ∷ [])) (unused ∷ []) rows (found_none rows values has (codes "check") e))
+
+  number_stays : (check : Option Text) → values (codes "check") ≡ check → found (codes "number") with_flag ≡ option_map (row (codes "number")) (values (codes "number"))
+  number_stays None e = ap (found (codes "number")) (unused_added e) ∙ found_other (codes "number") rows unused refl ∙ has (codes "number")
+  number_stays (Some value) e = ap (found (codes "number")) (used_same value e) ∙ has (codes "number")
+
+  flag_is : (check : Bool) → values (codes "check") ≡ flag_value check → one_of (codes "check") with_flag ≡ Some (bool_text check)
+  flag_is true e = ap (one_of (codes "check")) (used_same (codes "true") e) ∙ ap (option_and_then row_text) (has (codes "check") ∙ ap (option_map (row (codes "check"))) e)
+  flag_is false e = ap (one_of (codes "check")) (unused_added e)
+      ∙ ap (option_and_then row_text) (found_new (codes "check") rows unused (found_none rows values has (codes "check") e) refl)
 
 gen_defaults_fault : (rows : List Row) → defaults_fault rows gen_rules ≡ []
 unfolding defaults_fault
 gen_defaults_fault rows =
-    ap (λ fault. or_else fault (defaults_fault (with_default rows operand_built) (check_built ∷ []))) (no_default_fault (has_row (codes "operand") rows) _)
-    ∙ go (has_row (codes "check") (with_default rows operand_built))
+    ap (λ fault. or_else fault (defaults_fault (with_default rows (operand_built 1 (codes "number"))) (flag_built (codes "check") ∷ [])))
+    (no_default_fault (operand_built 1 (codes "number")) refl rows)
+    ∙ go (has_row (codes "check") (with_default rows (operand_built 1 (codes "number"))))
   where
     go : (b : Bool) → or_else (cond (b || false) [] []) [] ≡ []
     go true = refl
     go false = refl
 
--- the rows of an argument after the rows of others
-abbrev pub ReadsCheck : List Row → Text → Option Text → Bool → Type 0
-ReadsCheck rows word limit check = (first_of (codes "operand") rows ≡ Some word) × (first_of (codes "nodes") rows ≡ limit)
-
-abbrev pub ReadsGen : List Row → Text → Option Text → Bool → Type 0
-ReadsGen rows word limit check = (first_of (codes "operand") rows ≡ Some word) × (one_of (codes "check") rows ≡ Some (bool_text check))
-
-value_of : (limit : Option Text) → option_and_then (λ r. slice_get r.values 0) (option_map (row (codes "nodes")) limit) ≡ limit
-value_of None = refl
-value_of (Some text) = refl
-
--- an operand is wanted, and nothing else is
-wanted : (name : Text) (rows : List Row) (operand : Option Text) (option : Rule) → option.required ≡ false
-    → found (codes "operand") rows ≡ option_map (row (codes "operand")) operand
-    → check_fault (shape_with name (operand_built ∷ option ∷ [])) rows false ≡ cond (is_some operand) [] (MissingRequiredArgument ∷ [])
-wanted name rows None option e has = rw has refl
-wanted name rows (Some word) option e has = rw (has, e) refl
-
-pub check_ending : (rows : List Row) (operand limit : Option Text) (check : Bool) → Has rows operand limit check
-    → Agrees ReadsCheck (ends (shape_with (codes "check") check_rules) rows) (fold with_default rows check_rules) (Some (Keeps operand limit check))
-check_ending rows operand limit check has =
-    subst (λ rs. Agrees ReadsCheck (or_else (defaults_fault rows check_rules) (check_fault (shape_with (codes "check") check_rules) rs false)) rs (Some (Keeps operand limit check)))
-    (sym (nodes_default (with_default rows operand_built) ∙ operand_default rows))
-    (subst (λ fault. Agrees ReadsCheck (or_else fault (check_fault (shape_with (codes "check") check_rules) rows false)) rows (Some (Keeps operand limit check)))
-    (sym (check_defaults_fault rows))
-    (subst (λ fault. Agrees ReadsCheck fault rows (Some (Keeps operand limit check))) (sym (wanted (codes "check") rows operand nodes_built refl has.operand)) (go operand has.operand)))
-  where
-    go : (word : Option Text) → found (codes "operand") rows ≡ option_map (row (codes "operand")) word
-        → Agrees ReadsCheck (cond (is_some word) [] (MissingRequiredArgument ∷ [])) rows (Some (Keeps word limit check))
-    go None e = tt
-    go (Some word) e = (ap (option_and_then (λ r. slice_get r.values 0)) e, ap (option_and_then (λ r. slice_get r.values 0)) has.nodes ∙ value_of limit)
-
--- the rows with the flag that was not used
-check_default : (rows : List Row) (operand limit : Option Text) (check : Bool) → Has rows operand limit check
-    → (found (codes "operand") (with_default rows check_built) ≡ option_map (row (codes "operand")) operand) × (one_of (codes "check") (with_default rows check_built) ≡ Some (bool_text check))
-check_default rows operand limit true has =
-    subst (λ rs. (found (codes "operand") rs ≡ option_map (row (codes "operand")) operand) × (one_of (codes "check") rs ≡ Some (codes "true")))
-    (sym same) (has.operand, ap (option_and_then row_text) has.check)
-  where
-    same : with_default rows check_built ≡ rows
-    same = rw (some_check rows operand limit true has refl) refl
-check_default rows operand limit false has =
-    subst (λ rs. (found (codes "operand") rs ≡ option_map (row (codes "operand")) operand) × (one_of (codes "check") rs ≡ Some (codes "false")))
-    (sym added) (
-      found_other (codes "operand") rows unused refl ∙ has.operand,
-      ap (option_and_then row_text) (found_new (codes "check") rows unused has.check refl),
-    )
-  where
-    unused : Row
-    unused = record (row (codes "check") (codes "false")) { source = Some DefaultValue }
-
-    added : with_default rows check_built ≡ rows ++ unused ∷ []
-    added = rw (no_check rows operand limit false has refl) (at_new (codes "check") (more_values DefaultValue (codes "false" ∷ [])) (unused ∷ []) rows has.check)
-
-pub gen_ending : (rows : List Row) (operand limit : Option Text) (check : Bool) → Has rows operand limit check
-    → Agrees ReadsGen (ends (shape_with (codes "gen") gen_rules) rows) (fold with_default rows gen_rules) (Some (Keeps operand limit check))
-gen_ending rows operand limit check has =
-    subst (λ rs. Agrees ReadsGen (or_else (defaults_fault rows gen_rules) (check_fault (shape_with (codes "gen") gen_rules) (with_default rs check_built) false)) (with_default rs check_built) (Some (Keeps operand limit check)))
-    (sym (operand_default rows))
-    (subst (λ fault. Agrees ReadsGen (or_else fault (check_fault (shape_with (codes "gen") gen_rules) now false)) now (Some (Keeps operand limit check)))
-    (sym (gen_defaults_fault rows))
-    (subst (λ fault. Agrees ReadsGen fault now (Some (Keeps operand limit check))) (sym (wanted (codes "gen") now operand check_built refl told.0)) (go operand told.0)))
+pub gen_ending : (rows : List Row) (kept : Kept) → Has rows kept.values
+    → Agrees number_name ReadsGen (ends (shape_with (codes "gen") gen_rules) rows) (fold with_default rows gen_rules) (Some kept)
+gen_ending rows kept has =
+    subst (λ rs. Agrees number_name ReadsGen (or_else (defaults_fault rows gen_rules) (check_fault (shape_with (codes "gen") gen_rules) (with_default rs (flag_built (codes "check"))) false))
+    (with_default rs (flag_built (codes "check"))) (Some kept)) (sym (default_same (operand_built 1 (codes "number")) refl rows))
+    (subst (λ fault. Agrees number_name ReadsGen (or_else fault (check_fault (shape_with (codes "gen") gen_rules) now false)) now (Some kept)) (sym (gen_defaults_fault rows))
+    (closed number_name ReadsGen now kept (lacks number_name now) (lacks_is now kept.values number_name (number, tt))
+    (first_is now kept.values (codes "number") number, flag_is rows kept.values has)))
   where
     now : List Row
-    now = with_default rows check_built
+    now = with_flag rows kept.values has
 
-    told : (found (codes "operand") now ≡ option_map (row (codes "operand")) operand) × (one_of (codes "check") now ≡ Some (bool_text check))
-    told = check_default rows operand limit check has
-
-    go : (word : Option Text) → found (codes "operand") now ≡ option_map (row (codes "operand")) word
-        → Agrees ReadsGen (cond (is_some word) [] (MissingRequiredArgument ∷ [])) now (Some (Keeps word limit check))
-    go None e = tt
-    go (Some word) e = (ap (option_and_then (λ r. slice_get r.values 0)) e, told.1)
+    number : found (codes "number") now ≡ option_map (row (codes "number")) (kept.values (codes "number"))
+    number = number_stays rows kept.values has (kept.values (codes "check")) refl

@@ -1,9 +1,12 @@
 -- The rows of what clap has found.
-use Rattle.std.proofs.Common.{◌≡◌, ◌∙◌, ◌||◌, Bool, true, false, cond, List, [], ◌∷◌, ◌++◌, codes, bytes_eq, Option, Some, None, is_some, option_map, refl, sym, ap, subst}
+use Rattle.std.proofs.Common.{◌≡◌, ◌∙◌, ◌||◌, Bool, true, false, cond, List, [], ◌∷◌, ◌++◌, bytes_eq, Option, Some, None, is_some, option_map, if◌then◌else◌, refl, sym, ap, subst}
 use Rattle.std.specs.Prelude.{find}
+use Rattle.std.proofs.lemmas.Slice.Eq.{bytes_eq-Decides}
 use Rattle.clap.specs.Walk.{Row, Text, at_row, has_row, more_values, with_values, without}
 use Rattle.clap.specs.declared.builder.value_parser.Reading.TheVariants.{AsWritten}
 use Rattle.clap.specs.declared.parser.matches.ValueSource.TheVariants.{CommandLine}
+use Rattle.command_words.specs.Given.{Values}
+use Rattle.command_words.proofs.Kept.{nothing, put}
 
 -- the row of an argument that has this value
 abbrev pub row : (id value : Text) → Row
@@ -34,7 +37,7 @@ no_more [] = refl
 no_more (r ∷ rows) = ap (λ rs. r ∷ rs) (no_more rows)
 
 -- the first use of an argument puts its row at the end
-pub used_first : (id value : Text) (rows : List Row) → found id rows ≡ None
+used_first : (id value : Text) (rows : List Row) → found id rows ≡ None
     → with_values id AsWritten CommandLine (value ∷ []) (without id rows) ≡ rows ++ row id value ∷ []
 used_first id value rows e =
     let same : without id rows ≡ rows = at_new id (λ r. []) [] rows e ∙ no_more rows in
@@ -54,45 +57,34 @@ found_other id [] r other = rw other refl
 found_other id (first ∷ rows) r other = ap (cond (bytes_eq first.id id) (Some first)) (found_other id rows r other)
 
 -- the rows have what is kept
-abbrev pub check_row : Bool → Option Row
-check_row false = None
-check_row true = Some (row (codes "check") (codes "true"))
+abbrev pub Has : List Row → Values → Type 0
+Has rows values = (id : Text) → found id rows ≡ option_map (row id) (values id)
 
-pub record Has (rows : List Row) (word value : Option Text) (is_checked : Bool) : Type 0 where
-  pub operand : found (codes "operand") rows ≡ option_map (row (codes "operand")) word
-  pub nodes : found (codes "nodes") rows ≡ option_map (row (codes "nodes")) value
-  pub check : found (codes "check") rows ≡ check_row is_checked
+pub nothing_found : Has [] nothing
+nothing_found id = refl
 
-pub nothing_found : Has [] None None false
-nothing_found = record { operand = refl; nodes = refl; check = refl }
+pub same_name : (id : Text) → bytes_eq id id ≡ true
+same_name id = (bytes_eq-Decides id id).1 refl
 
--- with one argument more
-pub with_operand : (rows : List Row) (limit : Option Text) (check : Bool) (word : Text) → Has rows None limit check
-    → Has (with_values (codes "operand") AsWritten CommandLine (word ∷ []) (without (codes "operand") rows)) (Some word) limit check
-with_operand rows limit check word has =
-    let more = row (codes "operand") word in
-    subst (λ rs. Has rs (Some word) limit check) (sym (used_first (codes "operand") word rows has.operand)) (record {
-      operand = found_new (codes "operand") rows more has.operand refl;
-      nodes = found_other (codes "nodes") rows more refl ∙ has.nodes;
-      check = found_other (codes "check") rows more refl ∙ has.check;
-    })
+module _ (rows : List Row) (values : Values) (has : Has rows values) (id : Text) where
+  pub found_none : values id ≡ None → found id rows ≡ None
+  found_none e = has id ∙ ap (option_map (row id)) e
 
-pub with_nodes : (rows : List Row) (operand : Option Text) (check : Bool) (word : Text) → Has rows operand None check
-    → Has (with_values (codes "nodes") AsWritten CommandLine (word ∷ []) (without (codes "nodes") rows)) operand (Some word) check
-with_nodes rows operand check word has =
-    let more = row (codes "nodes") word in
-    subst (λ rs. Has rs operand (Some word) check) (sym (used_first (codes "nodes") word rows has.nodes)) (record {
-      operand = found_other (codes "operand") rows more refl ∙ has.operand;
-      nodes = found_new (codes "nodes") rows more has.nodes refl;
-      check = found_other (codes "check") rows more refl ∙ has.check;
-    })
+  pub has_none : values id ≡ None → has_row id rows ≡ false
+  has_none e = has_found id rows ∙ ap is_some (found_none e)
 
-pub with_check : (rows : List Row) (operand limit : Option Text) → Has rows operand limit false
-    → Has (with_values (codes "check") AsWritten CommandLine (codes "true" ∷ []) (without (codes "check") rows)) operand limit true
-with_check rows operand limit has =
-    let more = row (codes "check") (codes "true") in
-    subst (λ rs. Has rs operand limit true) (sym (used_first (codes "check") (codes "true") rows has.check)) (record {
-      operand = found_other (codes "operand") rows more refl ∙ has.operand;
-      nodes = found_other (codes "nodes") rows more refl ∙ has.nodes;
-      check = found_new (codes "check") rows more has.check refl;
-    })
+  pub has_some : (value : Text) → values id ≡ Some value → has_row id rows ≡ true
+  has_some value e = has_found id rows ∙ ap is_some (has id ∙ ap (option_map (row id)) e)
+
+  -- with one argument more
+  pub with_use : (value : Text) → values id ≡ None
+      → Has (with_values id AsWritten CommandLine (value ∷ []) (without id rows)) (put id value values)
+  with_use value new =
+      subst (λ rs. Has rs (put id value values)) (sym (used_first id value rows (found_none new))) (λ other. go other (bytes_eq id other) refl)
+    where
+      go : (other : Text) (same : Bool) → bytes_eq id other ≡ same
+          → found other (rows ++ row id value ∷ []) ≡ option_map (row other) (if same then Some value else values other)
+      go other true e =
+          subst (λ name. found name (rows ++ row id value ∷ []) ≡ Some (row name value)) ((bytes_eq-Decides id other).0 e)
+          (found_new id rows (row id value) (found_none new) (same_name id))
+      go other false e = found_other other rows (row id value) e ∙ has other

@@ -1,93 +1,226 @@
 -- The commands by what is kept of their parts.
-use Rattle.std.proofs.Common.{◌≡◌, ℕ, suc, ◌+◌, Bool, true, false, List, [], ◌∷◌, ◌++◌, Option, Some, None, IfSome, unwrap_or, if◌then◌else◌, refl, sym, ap, ◌∙◌, arith}
+use Rattle.std.proofs.Common.{◌≡◌, ℕ, suc, ◌+◌, Bool, true, false, List, [], ◌∷◌, ◌++◌, codes, Option, Some, None, IfSome, if◌then◌else◌, refl, sym, ap, subst, ◌∙◌, arith}
 use Rattle.std.specs.Option.{option_map, option_and_then}
-use Rattle.command_words.specs.Number.{number_of}
-use Rattle.command_words.specs.Parts.{Part, Operand, Nodes, Check, check_form, gen_form, parts_of, operands, limits, checks}
-use Rattle.command_words.specs.Words.{Command, Usage, Print, File, Ring, decide, usual_limit, only_file, only_number, only_limit, at_most_once, check_of, gen_of}
-use Rattle.command_words.proofs.PartKinds.{Every, IsOfCheck, IsOfGen, parts_of_check, parts_of_gen}
-use Rattle.command_words.proofs.Kept.{Kept, Keeps, nothing, keep_all, keep_parts, check_kept, gen_kept}
+use Rattle.std.proofs.lemmas.List.{append-nil}
+use Rattle.command_words.specs.Given.{Values, both_of, check_lists, check_with, gen_with, list_of, recheck_lists, recheck_with}
+use Rattle.command_words.specs.Parts.{Part, Operand, Nodes, Proof, Check, check_form, gen_form, parts_of, operands, limits, proofs, checks, recheck_form}
+use Rattle.command_words.specs.Words.{Command, Print, File, Ring, Decide, Recheck, work_on, usual_limit, only_file, only_number, only_limit, only_proofs, two_files, at_most_once, check_of, gen_of, recheck_of}
+use Rattle.command_words.proofs.PartKinds.{Every, IsOfCheck, IsOfGen, IsOfRecheck, parts_of_check, parts_of_gen, parts_of_recheck}
+use Rattle.command_words.proofs.Kept.{Kept, file_names, flag_value, keep_all, keep_parts, model_name, nothing, number_name, put}
 
-abbrev list_of : {A : Type 0} → Option A → List A
-list_of None = []
-list_of (Some one) = one ∷ []
+-- the name of an operand that is still to come, by the word that was given for it
+abbrev free_of : List ℕ → Option (List ℕ) → List (List ℕ)
+free_of name None = name ∷ []
+free_of name (Some word) = []
+
+-- ---- lists that make no command
+
+two_models : (first second : List ℕ) (models limits names : List (List ℕ)) → check_lists (first ∷ second ∷ models) limits names ≡ None
+two_models [] second models limits names = refl
+two_models (byte ∷ first) second models limits names = refl
+
+two_limits : (models names limits : List (List ℕ)) (first second : List ℕ) → check_lists models (first ∷ second ∷ limits) names ≡ None
+two_limits models names limits first second = go (only_file models)
+  where
+    go : (model : Option (List ℕ)) → option_and_then (λ model. option_and_then (λ limit. option_map (λ name. work_on (File model) limit (Decide name)) (only_proofs model names)) None) model ≡ None
+    go None = refl
+    go (Some model) = refl
+
+two_names : (models limits names : List (List ℕ)) (first second : List ℕ) → check_lists models limits (first ∷ second ∷ names) ≡ None
+two_names models limits names first second = go (only_file models) (only_limit limits)
+  where
+    none : (model first : List ℕ) → only_proofs model (first ∷ second ∷ names) ≡ None
+    none model [] = refl
+    none model (byte ∷ first) = refl
+
+    go : (model : Option (List ℕ)) (limit : Option ℕ)
+        → option_and_then (λ model. option_and_then (λ limit. option_map (λ name. work_on (File model) limit (Decide name)) (only_proofs model (first ∷ second ∷ names))) limit) model ≡ None
+    go None limit = refl
+    go (Some model) None = refl
+    go (Some model) (Some limit) = ap (option_map (λ name. work_on (File model) limit (Decide name))) (none model first)
+
+three_files : (first second third : List ℕ) (files limits : List (List ℕ)) → recheck_lists (first ∷ second ∷ third ∷ files) limits ≡ None
+three_files [] second third files limits = refl
+three_files (byte ∷ first) [] third files limits = refl
+three_files (byte ∷ first) (other ∷ second) third files limits = refl
+
+two_rechecked : (files limits : List (List ℕ)) (first second : List ℕ) → recheck_lists files (first ∷ second ∷ limits) ≡ None
+two_rechecked files limits first second = go (two_files files)
+  where
+    go : (names : Option (List ℕ × List ℕ)) → option_and_then (λ names. option_map (λ limit. work_on (File names.0) limit (Recheck names.1)) None) names ≡ None
+    go None = refl
+    go (Some names) = refl
+
+-- ---- from what is kept so far and the parts to come
+
+abbrev check_kept : Option Kept → Option Command
+check_kept = option_and_then (λ kept. check_with kept.values)
+
+abbrev recheck_kept : Option Kept → Option Command
+recheck_kept = option_and_then (λ kept. recheck_with kept.values)
+
+-- the command `check` of what is kept, with the operand that was given, and of the parts to come
+abbrev IsCheck : Option (List ℕ) → Values → List Part → Type 0
+IsCheck model values parts =
+    check_lists (list_of model ++ operands parts) (list_of (values (codes "nodes")) ++ limits parts) (list_of (values (codes "proof")) ++ proofs parts)
+    ≡ check_kept (keep_all (free_of (codes "model") model) values parts)
+
+check_nodes : (model : Option (List ℕ)) (values : Values) (value : List ℕ) (parts : List Part) → IsCheck model (put (codes "nodes") value values) parts
+    → (before : Option (List ℕ)) → values (codes "nodes") ≡ before → IsCheck model values (Nodes value ∷ parts)
+check_nodes model values value parts rest None e = rw e rest
+check_nodes model values value parts rest (Some first) e =
+    rw e (two_limits (list_of model ++ operands parts) (list_of (values (codes "proof")) ++ proofs parts) (limits parts) first value)
+
+check_proof : (model : Option (List ℕ)) (values : Values) (name : List ℕ) (parts : List Part) → IsCheck model (put (codes "proof") name values) parts
+    → (before : Option (List ℕ)) → values (codes "proof") ≡ before → IsCheck model values (Proof name ∷ parts)
+check_proof model values name parts rest None e = rw e rest
+check_proof model values name parts rest (Some first) e =
+    rw e (two_names (list_of model ++ operands parts) (list_of (values (codes "nodes")) ++ limits parts) (proofs parts) first name)
+
+check_from : (model : Option (List ℕ)) (values : Values) → values (codes "model") ≡ model → (parts : List Part) → Every IsOfCheck parts → IsCheck model values parts
+check_from model values is [] all = λ i. check_lists ((append-nil (list_of model) ∙ ap list_of (sym is)) i)
+    (append-nil (list_of (values (codes "nodes"))) i)
+    (append-nil (list_of (values (codes "proof"))) i)
+check_from None values is (Operand word ∷ parts) all = rw is (check_from (Some word) (put (codes "model") word values) refl parts all.1)
+check_from (Some first) values is (Operand word ∷ parts) all =
+    two_models first word (operands parts) (list_of (values (codes "nodes")) ++ limits parts) (list_of (values (codes "proof")) ++ proofs parts)
+check_from model values is (Nodes value ∷ parts) all =
+    check_nodes model values value parts (check_from model (put (codes "nodes") value values) is parts all.1) (values (codes "nodes")) refl
+check_from model values is (Proof name ∷ parts) all =
+    check_proof model values name parts (check_from model (put (codes "proof") name values) is parts all.1) (values (codes "proof")) refl
+check_from model values is (Check ∷ parts) all = absurd all.0
+
+-- the operands of `recheck` that were given
+data Files : Type 0 where
+  NoFile : Files
+  OneFile : (model : List ℕ) → Files
+  BothFiles : (model proof : List ℕ) → Files
+
+abbrev words_in : Files → List (List ℕ)
+words_in NoFile = []
+words_in (OneFile model) = model ∷ []
+words_in (BothFiles model proof) = model ∷ proof ∷ []
+
+abbrev free_in : Files → List (List ℕ)
+free_in NoFile = file_names
+free_in (OneFile model) = codes "proof" ∷ []
+free_in (BothFiles model proof) = []
+
+abbrev model_in : Files → Option (List ℕ)
+model_in NoFile = None
+model_in (OneFile model) = Some model
+model_in (BothFiles model proof) = Some model
+
+abbrev proof_in : Files → Option (List ℕ)
+proof_in NoFile = None
+proof_in (OneFile model) = None
+proof_in (BothFiles model proof) = Some proof
+
+words_are : (files : Files) → words_in files ++ [] ≡ both_of (model_in files) (proof_in files)
+words_are NoFile = refl
+words_are (OneFile model) = refl
+words_are (BothFiles model proof) = refl
+
+abbrev IsRecheck : Files → Values → List Part → Type 0
+IsRecheck files values parts =
+    recheck_lists (words_in files ++ operands parts) (list_of (values (codes "nodes")) ++ limits parts) ≡ recheck_kept (keep_all (free_in files) values parts)
+
+recheck_nodes : (files : Files) (values : Values) (value : List ℕ) (parts : List Part) → IsRecheck files (put (codes "nodes") value values) parts
+    → (before : Option (List ℕ)) → values (codes "nodes") ≡ before → IsRecheck files values (Nodes value ∷ parts)
+recheck_nodes files values value parts rest None e = rw e rest
+recheck_nodes files values value parts rest (Some first) e = rw e (two_rechecked (words_in files ++ operands parts) (limits parts) first value)
+
+recheck_from : (files : Files) (values : Values) → values (codes "model") ≡ model_in files → values (codes "proof") ≡ proof_in files → (parts : List Part) → Every IsOfRecheck parts
+    → IsRecheck files values parts
+recheck_from files values is_model is_proof [] all = λ i. recheck_lists ((words_are files ∙ (λ j. both_of (sym is_model j) (sym is_proof j))) i)
+    (append-nil (list_of (values (codes "nodes"))) i)
+recheck_from NoFile values is_model is_proof (Operand word ∷ parts) all = rw is_model (recheck_from (OneFile word) (put (codes "model") word values) refl is_proof parts all.1)
+recheck_from (OneFile model) values is_model is_proof (Operand word ∷ parts) all =
+    rw is_proof (recheck_from (BothFiles model word) (put (codes "proof") word values) is_model refl parts all.1)
+recheck_from (BothFiles model proof) values is_model is_proof (Operand word ∷ parts) all =
+    three_files model proof word (operands parts) (list_of (values (codes "nodes")) ++ limits parts)
+recheck_from files values is_model is_proof (Nodes value ∷ parts) all =
+    recheck_nodes files values value parts (recheck_from files (put (codes "nodes") value values) is_model is_proof parts all.1) (values (codes "nodes")) refl
+recheck_from files values is_model is_proof (Proof name ∷ parts) all = absurd all.0
+recheck_from files values is_model is_proof (Check ∷ parts) all = absurd all.0
+
+-- ---- the same for `gen`, whose flag stands or not
 
 abbrev count_of : Bool → ℕ
 count_of false = 0
 count_of true = 1
 
--- the commands by the lists of their parts
-abbrev check_lists : List (List ℕ) → List (List ℕ) → Option Command
-check_lists files values =
-    option_and_then (λ name. option_map (λ limit. decide (File name) limit) (only_limit values)) (only_file files)
-
 abbrev gen_lists : List (List ℕ) → ℕ → Option Command
 gen_lists words times =
-    option_and_then (λ n. option_map (λ is_checked. if is_checked then decide (Ring n) usual_limit else Print n) (at_most_once times)) (only_number words)
+    option_and_then (λ n. option_map (λ is_checked. if is_checked then work_on (Ring n) usual_limit (Decide None) else Print n) (at_most_once times)) (only_number words)
 
-two_files : (first second : List ℕ) (files : List (List ℕ)) (values : List (List ℕ)) → check_lists (first ∷ second ∷ files) values ≡ None
-two_files [] second files values = refl
-two_files (byte ∷ name) second files values = refl
-
-no_limit : (name : Option (List ℕ)) → option_and_then (λ model. option_map (λ limit. decide (File model) limit) None) name ≡ None
-no_limit None = refl
-no_limit (Some name) = refl
-
--- from what is kept so far and the parts to come
-check_from : (operand limit : Option (List ℕ)) (check : Bool) (parts : List Part) → Every IsOfCheck parts
-    → check_lists (list_of operand ++ operands parts) (list_of limit ++ limits parts) ≡ option_and_then check_kept (keep_all (Keeps operand limit check) parts)
-check_from None limit check [] all = refl
-check_from (Some []) limit check [] all = refl
-check_from (Some (byte ∷ name)) None check [] all = refl
-check_from (Some (byte ∷ name)) (Some value) check [] all = refl
-check_from None limit check (Operand word ∷ parts) all = check_from (Some word) limit check parts all.1
-check_from (Some first) limit check (Operand word ∷ parts) all = two_files first word (operands parts) (list_of limit ++ limits parts)
-check_from operand None check (Nodes value ∷ parts) all = check_from operand (Some value) check parts all.1
-check_from operand (Some first) check (Nodes value ∷ parts) all = no_limit (only_file (list_of operand ++ operands parts))
-check_from operand limit check (Check ∷ parts) all = absurd all.0
-
-two_numbers : (first second : List ℕ) (words : List (List ℕ)) (times : ℕ) → gen_lists (first ∷ second ∷ words) times ≡ None
-two_numbers first second words times = refl
-
-no_times : (n : Option ℕ) → option_and_then (λ many. option_map (λ is_checked. if is_checked then decide (Ring many) usual_limit else Print many) None) n ≡ None
+no_times : (n : Option ℕ) → option_and_then (λ many. option_map (λ is_checked. if is_checked then work_on (Ring many) usual_limit (Decide None) else Print many) None) n ≡ None
 no_times None = refl
 no_times (Some n) = refl
 
-read_same : (n : Option ℕ) (f g : ℕ → Command) → ((many : ℕ) → f many ≡ g many) → option_and_then (λ many. Some (f many)) n ≡ option_map g n
-read_same None f g same = refl
-read_same (Some n) f g same = ap Some (same n)
+read_same : (n : Option ℕ) (f : ℕ → Command) → option_and_then (λ many. Some (f many)) n ≡ option_map f n
+read_same None f = refl
+read_same (Some n) f = refl
 
-gen_from : (operand limit : Option (List ℕ)) (check : Bool) (parts : List Part) → Every IsOfGen parts
-    → gen_lists (list_of operand ++ operands parts) (checks parts + count_of check) ≡ option_and_then gen_kept (keep_all (Keeps operand limit check) parts)
-gen_from None limit false [] all = refl
-gen_from None limit true [] all = refl
-gen_from (Some word) limit false [] all = read_same (number_of 999 word) _ _ (λ n. refl)
-gen_from (Some word) limit true [] all = read_same (number_of 999 word) _ _ (λ n. refl)
-gen_from None limit check (Operand word ∷ parts) all = gen_from (Some word) limit check parts all.1
-gen_from (Some first) limit check (Operand word ∷ parts) all = two_numbers first word (operands parts) (checks parts + count_of check)
-gen_from operand limit check (Nodes value ∷ parts) all = absurd all.0
-gen_from operand limit false (Check ∷ parts) all = ap (gen_lists (list_of operand ++ operands parts)) once ∙ gen_from operand limit true parts all.1
+no_more : (check : Bool) → count_of check + 0 ≡ count_of check
+no_more check = omega arith
+
+once : (times : ℕ) → 1 + times ≡ 0 + (times + 1)
+once times = omega arith
+
+twice : (times : ℕ) → 1 + (times + 1) ≡ suc (suc times)
+twice times = omega arith
+
+none : (times : ℕ) → 0 + times ≡ times
+none times = omega arith
+
+gen_same : (values : Values) (check : Bool) → gen_lists (list_of (values (codes "number"))) (count_of check) ≡ gen_with values check
+gen_same values false = read_same (only_number (list_of (values (codes "number")))) (λ n. Print n)
+gen_same values true = read_same (only_number (list_of (values (codes "number")))) (λ n. work_on (Ring n) usual_limit (Decide None))
+
+-- the command is the one of what is kept
+abbrev pub IsGen : Option Command → Option Kept → Type 0
+IsGen command None = command ≡ None
+IsGen command (Some kept) = (check : Bool) × (kept.values (codes "check") ≡ flag_value check) × (command ≡ gen_with kept.values check)
+
+gen_from : (number : Option (List ℕ)) (check : Bool) (values : Values) → values (codes "number") ≡ number → values (codes "check") ≡ flag_value check
+    → (parts : List Part) → Every IsOfGen parts
+    → IsGen (gen_lists (list_of number ++ operands parts) (count_of check + checks parts)) (keep_all (free_of (codes "number") number) values parts)
+gen_from number check values is_number is_check [] all = (
+  check,
+  is_check,
+  (λ i. gen_lists ((append-nil (list_of number) ∙ ap list_of (sym is_number)) i) (no_more check i)) ∙ gen_same values check,
+)
+gen_from None check values is_number is_check (Operand word ∷ parts) all = rw is_number (gen_from (Some word) check (put (codes "number") word values) refl is_check parts all.1)
+gen_from (Some first) check values is_number is_check (Operand word ∷ parts) all = refl
+gen_from number check values is_number is_check (Nodes value ∷ parts) all = absurd all.0
+gen_from number check values is_number is_check (Proof name ∷ parts) all = absurd all.0
+gen_from number false values is_number is_check (Check ∷ parts) all =
+    rw is_check (subst (λ times. IsGen (gen_lists (list_of number ++ operands parts) times) (keep_all (free_of (codes "number") number) (put (codes "check") (codes "true") values) parts))
+    (once (checks parts)) (gen_from number true (put (codes "check") (codes "true") values) is_number refl parts all.1))
+gen_from number true values is_number is_check (Check ∷ parts) all =
+    rw is_check (ap (gen_lists (list_of number ++ operands parts)) (twice (checks parts)) ∙ no_times (only_number (list_of number ++ operands parts)))
+
+-- ---- from nothing
+
+pub check_words : (words : List (List ℕ)) → check_kept (keep_parts model_name nothing (parts_of check_form words)) ≡ option_and_then check_of (parts_of check_form words)
+check_words words = go (parts_of check_form words) (parts_of_check words)
   where
-    once : checks parts + 1 + 0 ≡ checks parts + 1
-    once = omega arith
-gen_from operand limit true (Check ∷ parts) all = ap (gen_lists (list_of operand ++ operands parts)) twice ∙ no_times (only_number (list_of operand ++ operands parts))
+    go : (parts : Option (List Part)) → IfSome parts (Every IsOfCheck) → check_kept (keep_parts model_name nothing parts) ≡ option_and_then check_of parts
+    go None all = refl
+    go (Some parts) all = sym (check_from None nothing refl parts all)
+
+pub recheck_words : (words : List (List ℕ)) → recheck_kept (keep_parts file_names nothing (parts_of recheck_form words)) ≡ option_and_then recheck_of (parts_of recheck_form words)
+recheck_words words = go (parts_of recheck_form words) (parts_of_recheck words)
   where
-    twice : checks parts + 1 + 1 ≡ suc (suc (checks parts))
-    twice = omega arith
+    go : (parts : Option (List Part)) → IfSome parts (Every IsOfRecheck) → recheck_kept (keep_parts file_names nothing parts) ≡ option_and_then recheck_of parts
+    go None all = refl
+    go (Some parts) all = sym (recheck_from NoFile nothing refl refl parts all)
 
-check_parts : (parts : Option (List Part)) → IfSome parts (Every IsOfCheck) → option_and_then check_of parts ≡ option_and_then check_kept (keep_parts nothing parts)
-check_parts None all = refl
-check_parts (Some parts) all = check_from None None false parts all
-
-gen_parts : (parts : Option (List Part)) → IfSome parts (Every IsOfGen) → option_and_then gen_of parts ≡ option_and_then gen_kept (keep_parts nothing parts)
-gen_parts None all = refl
-gen_parts (Some parts) all = ap (gen_lists (operands parts)) (omega arith) ∙ gen_from None None false parts all
-
-pub check_words : (words : List (List ℕ)) (kept : Option Kept) → kept ≡ keep_parts nothing (parts_of check_form words)
-    → unwrap_or (option_and_then check_kept kept) Usage ≡ unwrap_or (option_and_then check_of (parts_of check_form words)) Usage
-check_words words kept e =
-    ap (λ told. unwrap_or (option_and_then check_kept told) Usage) e ∙ ap (λ command. unwrap_or command Usage) (sym (check_parts (parts_of check_form words) (parts_of_check words)))
-
-pub gen_words : (words : List (List ℕ)) (kept : Option Kept) → kept ≡ keep_parts nothing (parts_of gen_form words)
-    → unwrap_or (option_and_then gen_kept kept) Usage ≡ unwrap_or (option_and_then gen_of (parts_of gen_form words)) Usage
-gen_words words kept e =
-    ap (λ told. unwrap_or (option_and_then gen_kept told) Usage) e ∙ ap (λ command. unwrap_or command Usage) (sym (gen_parts (parts_of gen_form words) (parts_of_gen words)))
+pub gen_words : (words : List (List ℕ)) → IsGen (option_and_then gen_of (parts_of gen_form words)) (keep_parts number_name nothing (parts_of gen_form words))
+gen_words words = go (parts_of gen_form words) (parts_of_gen words)
+  where
+    go : (parts : Option (List Part)) → IfSome parts (Every IsOfGen) → IsGen (option_and_then gen_of parts) (keep_parts number_name nothing parts)
+    go None all = refl
+    go (Some parts) all = subst (λ times. IsGen (gen_lists (operands parts) times) (keep_all number_name nothing parts)) (none (checks parts))
+        (gen_from None false nothing refl refl parts all)

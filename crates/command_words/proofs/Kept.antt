@@ -1,38 +1,65 @@
--- What is kept of the parts of words: one of each kind at most.
-use Rattle.std.proofs.Common.{ℕ, Bool, true, false, List, [], ◌∷◌, Option, Some, None}
+-- What is kept of the parts of words: one value of each argument at most.
+use Rattle.std.proofs.Common.{ℕ, Bool, true, false, ◌||◌, not, List, [], ◌∷◌, Option, Some, None, is_some, if◌then◌else◌, codes, bytes_eq}
 use Rattle.std.specs.Option.{option_and_then}
-use Rattle.command_words.specs.Parts.{Part, Operand, Nodes, Check}
-use Rattle.command_words.specs.Words.{Command}
-use Rattle.command_words.specs.Given.{check_with, gen_with}
+use Rattle.command_words.specs.Given.{Values}
+use Rattle.command_words.specs.Parts.{Part, Operand, Nodes, Proof, Check}
 
--- an operand and the value of `--nodes`, where they were read, and whether `--check` was
-pub data Kept : Type 0 where
-  Keeps : Option (List ℕ) → Option (List ℕ) → Bool → Kept
+abbrev pub nothing : Values
+nothing name = None
 
-abbrev pub nothing : Kept
-nothing = Keeps None None false
+-- with this value of this argument
+abbrev pub put : (name value : List ℕ) → Values → Values
+put name value values other = if bytes_eq name other then Some value else values other
 
--- with one part more; None where its kind was kept before
-abbrev pub keep : Kept → Part → Option Kept
-keep (Keeps None limit check) (Operand word) = Some (Keeps (Some word) limit check)
-keep (Keeps (Some first) limit check) (Operand word) = None
-keep (Keeps operand None check) (Nodes value) = Some (Keeps operand (Some value) check)
-keep (Keeps operand (Some first) check) (Nodes value) = None
-keep (Keeps operand limit false) Check = Some (Keeps operand limit true)
-keep (Keeps operand limit true) Check = None
+-- the operands of `check`, of `recheck` and of `gen`
+abbrev pub model_name : List (List ℕ)
+model_name = codes "model" ∷ []
+
+abbrev pub file_names : List (List ℕ)
+file_names = codes "model" ∷ codes "proof" ∷ []
+
+abbrev pub number_name : List (List ℕ)
+number_name = codes "number" ∷ []
+
+-- what is kept of a flag
+abbrev pub flag_value : Bool → Option (List ℕ)
+flag_value false = None
+flag_value true = Some (codes "true")
+
+-- the names of the operands that are still to come, and what is kept
+pub record Kept : Type 0 where
+  pub free : List (List ℕ)
+  pub values : Values
+
+-- a value more, by what its argument had before
+abbrev pub put_new : List (List ℕ) → Values → (name value : List ℕ) → Option (List ℕ) → Option Kept
+put_new free values name value None = Some (record { free = free; values = put name value values })
+put_new free values name value (Some first) = None
+
+abbrev pub keep_as : List (List ℕ) → Values → (name value : List ℕ) → Option Kept
+keep_as free values name value = put_new free values name value (values name)
+
+abbrev pub keep_operand : List (List ℕ) → Values → List ℕ → Option Kept
+keep_operand [] values word = None
+keep_operand (name ∷ free) values word = keep_as free values name word
+
+-- with one part more; None where its argument has a value, or no operand is still to come
+abbrev pub keep : List (List ℕ) → Values → Part → Option Kept
+keep free values (Operand word) = keep_operand free values word
+keep free values (Nodes value) = keep_as free values (codes "nodes") value
+keep free values (Proof name) = keep_as free values (codes "proof") name
+keep free values Check = keep_as free values (codes "check") (codes "true")
 
 -- with all of these parts
-abbrev pub keep_all : Kept → List Part → Option Kept
-keep_all kept [] = Some kept
-keep_all kept (part ∷ others) = option_and_then (λ more. keep_all more others) (keep kept part)
+abbrev pub keep_all : List (List ℕ) → Values → List Part → Option Kept
+keep_all free values [] = Some (record { free = free; values = values })
+keep_all free values (part ∷ others) = option_and_then (λ more. keep_all more.free more.values others) (keep free values part)
 
 -- with these parts, where they are parts
-abbrev pub keep_parts : Kept → Option (List Part) → Option Kept
-keep_parts kept = option_and_then (keep_all kept)
+abbrev pub keep_parts : List (List ℕ) → Values → Option (List Part) → Option Kept
+keep_parts free values = option_and_then (keep_all free values)
 
--- the command `check`, and `gen`, of what is kept
-abbrev pub check_kept : Kept → Option Command
-check_kept (Keeps operand limit check) = check_with operand limit
-
-abbrev pub gen_kept : Kept → Option Command
-gen_kept (Keeps operand limit check) = gen_with operand check
+-- one of these operands has no word
+abbrev pub wants : List (List ℕ) → Values → Bool
+wants [] values = false
+wants (name ∷ names) values = not (is_some (values name)) || wants names values

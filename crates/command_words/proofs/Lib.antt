@@ -1,8 +1,11 @@
 mod ClapAnswers
 mod ClapCommands
 mod ClapEnds
+mod ClapFaults
 mod ClapForms
 mod ClapRows
+mod ClapTurns
+mod ClapUses
 mod ClapWalk
 mod Commands
 mod Kept

@@ -1,7 +1,7 @@
 -- Of which kinds the parts of a command are.
-use Rattle.std.proofs.Common.{ℕ, Bool, true, false, List, [], ◌∷◌, map, codes, bytes_eq, nat_eq, drop, Option, Some, None, IfSome, if◌then◌else◌}
+use Rattle.std.proofs.Common.{ℕ, ◌+◌, Bool, true, false, List, [], ◌∷◌, ◌++◌, map, codes, bytes_eq, nat_eq, drop, length, Option, Some, None, IfSome, if◌then◌else◌}
 use Rattle.std.specs.List.{starts_with}
-use Rattle.command_words.specs.Parts.{Part, Operand, Nodes, Check, Form, Unknown, Whole, Valued, check_form, gen_form, is_option, before, parts_of, by_form, parts_valued}
+use Rattle.command_words.specs.Parts.{Part, Operand, Nodes, Proof, Check, Form, Unknown, Whole, Valued, check_form, gen_form, recheck_form, option_or, is_option, before, parts_of, by_form, parts_valued}
 
 abbrev pub Every : (Part → Type 0) → List Part → Type 0
 Every Is [] = Unit {0}
@@ -52,24 +52,41 @@ module _ (Is : Part → Type 0) (operand : (word : List ℕ) → Is (Operand wor
     every_valued [] part is = tt
     every_valued (value ∷ words) part is = by_value part value words (is value) (every_part words) (is_option value)
 
--- the parts of `check`, and of `gen`
+-- the parts of each command
 abbrev pub IsOfCheck : Part → Type 0
 IsOfCheck (Operand word) = Unit {0}
 IsOfCheck (Nodes value) = Unit {0}
+IsOfCheck (Proof name) = Unit {0}
 IsOfCheck Check = ⊥
+
+abbrev pub IsOfRecheck : Part → Type 0
+IsOfRecheck (Operand word) = Unit {0}
+IsOfRecheck (Nodes value) = Unit {0}
+IsOfRecheck (Proof name) = ⊥
+IsOfRecheck Check = ⊥
 
 abbrev pub IsOfGen : Part → Type 0
 IsOfGen (Operand word) = Unit {0}
 IsOfGen (Nodes value) = ⊥
+IsOfGen (Proof name) = ⊥
 IsOfGen Check = Unit {0}
 
-check_forms : (word : List ℕ) → IsForm IsOfCheck (check_form word)
-check_forms word = go (bytes_eq word (codes "--nodes")) (starts_with nat_eq word (codes "--nodes="))
+option_forms : (Is : Part → Type 0) (option : List ℕ) (part : List ℕ → Part) → ((value : List ℕ) → Is (part value))
+    → (others : Form) → IsForm Is others → (word : List ℕ) → IsForm Is (option_or option part others word)
+option_forms Is option part is others are word = go (bytes_eq word option) (starts_with nat_eq word (option ++ codes "="))
   where
-    go : (alone joined : Bool) → IsForm IsOfCheck (if alone then Valued Nodes else if joined then Whole (Nodes (drop 8 word)) else Unknown)
-    go true joined = λ value. tt
-    go false true = tt
-    go false false = tt
+    go : (alone joined : Bool) → IsForm Is (if alone then Valued part else if joined then Whole (part (drop (length option + 1) word)) else others)
+    go true joined = is
+    go false true = is (drop (length option + 1) word)
+    go false false = are
+
+check_forms : (word : List ℕ) → IsForm IsOfCheck (check_form word)
+check_forms word =
+    option_forms IsOfCheck (codes "--nodes") Nodes (λ value. tt) (option_or (codes "--proof") Proof Unknown word)
+    (option_forms IsOfCheck (codes "--proof") Proof (λ value. tt) Unknown tt word) word
+
+recheck_forms : (word : List ℕ) → IsForm IsOfRecheck (recheck_form word)
+recheck_forms word = option_forms IsOfRecheck (codes "--nodes") Nodes (λ value. tt) Unknown tt word
 
 gen_forms : (word : List ℕ) → IsForm IsOfGen (gen_form word)
 gen_forms word = go (bytes_eq word (codes "--check"))
@@ -80,6 +97,9 @@ gen_forms word = go (bytes_eq word (codes "--check"))
 
 pub parts_of_check : (words : List (List ℕ)) → EveryOf IsOfCheck (parts_of check_form words)
 parts_of_check = every_part IsOfCheck (λ word. tt) check_form check_forms
+
+pub parts_of_recheck : (words : List (List ℕ)) → EveryOf IsOfRecheck (parts_of recheck_form words)
+parts_of_recheck = every_part IsOfRecheck (λ word. tt) recheck_form recheck_forms
 
 pub parts_of_gen : (words : List (List ℕ)) → EveryOf IsOfGen (parts_of gen_form words)
 parts_of_gen = every_part IsOfGen (λ word. tt) gen_form gen_forms

@@ -2,8 +2,8 @@
 use Rattle.std.proofs.Common.{◌≡◌, ℕ, ◌<◌, ◌≤◌, ◌^◌, Bool, true, false, List, [], ◌∷◌, Option, Some, None, IfSome, if◌then◌else◌, unwrap_or, refl, arith}
 use Rattle.std.specs.Option.{option_map, option_and_then}
 use Rattle.command_words.specs.Number.{number_of}
-use Rattle.command_words.specs.Parts.{Part, operands, limits, checks}
-use Rattle.command_words.specs.Words.{Command, Usage, Print, File, Ring, decide, usual_limit, only_file, only_number, only_limit, at_most_once, check_of, gen_of, HasLimits, HasRing}
+use Rattle.command_words.specs.Parts.{Part, Form, check_form, gen_form, recheck_form, parts_of, operands, limits, proofs, checks}
+use Rattle.command_words.specs.Words.{Command, Usage, Print, File, Ring, Decide, Recheck, work_on, usual_limit, only_file, only_number, only_limit, only_proofs, two_files, at_most_once, check_of, gen_of, recheck_of, command_by, HasLimits, HasRing}
 use Rattle.command_words.proofs.Numbers.{number_is_decimal}
 
 abbrev InRange : ℕ → Type 0
@@ -25,11 +25,21 @@ of_limit [] = (omega arith, omega arith)
 of_limit (value ∷ []) = below (number_of 2147483647 value) (of_number 2147483647 (omega arith) value)
 of_limit (value ∷ other ∷ more) = tt
 
-of_check : (name : Option (List ℕ)) (limit : Option ℕ) → IfSome limit InRange
-    → IfSome (option_and_then (λ model. option_map (λ most. decide (File model) most) limit) name) HasLimits
-of_check None limit told = tt
-of_check (Some name) None told = tt
-of_check (Some name) (Some most) told = (tt, told.0, told.1)
+of_check : (model : Option (List ℕ)) (limit : Option ℕ) (name : List ℕ → Option (Option (List ℕ))) → IfSome limit InRange
+    → IfSome (option_and_then (λ from. option_and_then (λ most. option_map (λ saved. work_on (File from) most (Decide saved)) (name from)) limit) model) HasLimits
+of_check None limit name told = tt
+of_check (Some from) None name told = tt
+of_check (Some from) (Some most) name told = go (name from)
+  where
+    go : (saved : Option (Option (List ℕ))) → IfSome (option_map (λ saved. work_on (File from) most (Decide saved)) saved) HasLimits
+    go None = tt
+    go (Some saved) = (tt, told.0, told.1)
+
+of_recheck : (names : Option (List ℕ × List ℕ)) (limit : Option ℕ) → IfSome limit InRange
+    → IfSome (option_and_then (λ both. option_map (λ most. work_on (File both.0) most (Recheck both.1)) limit) names) HasLimits
+of_recheck None limit told = tt
+of_recheck (Some both) None told = tt
+of_recheck (Some both) (Some most) told = (tt, told.0, told.1)
 
 of_words : (words : List (List ℕ)) → IfSome (only_number words) HasRing
 of_words [] = tt
@@ -37,7 +47,7 @@ of_words (word ∷ []) = of_number 999 (omega arith) word
 of_words (word ∷ other ∷ more) = tt
 
 of_gen : (number : Option ℕ) (is_checked : Option Bool) → IfSome number HasRing
-    → IfSome (option_and_then (λ n. option_map (λ check. if check then decide (Ring n) usual_limit else Print n) is_checked) number) HasLimits
+    → IfSome (option_and_then (λ n. option_map (λ check. if check then work_on (Ring n) usual_limit (Decide None) else Print n) is_checked) number) HasLimits
 of_gen None is_checked told = tt
 of_gen (Some n) None told = tt
 of_gen (Some n) (Some true) told = (told, omega arith, omega arith)
@@ -48,12 +58,18 @@ or_usage None told = tt
 or_usage (Some command) told = told
 
 of_parts : (read : List Part → Option Command) → ((parts : List Part) → IfSome (read parts) HasLimits)
-    → (parts : Option (List Part)) → HasLimits (unwrap_or (option_and_then read parts) Usage)
-of_parts read told None = tt
-of_parts read told (Some parts) = or_usage (read parts) (told parts)
+    → (form : List ℕ → Form) (words : List (List ℕ)) → HasLimits (command_by form read words)
+of_parts read told form words = go (parts_of form words)
+  where
+    go : (parts : Option (List Part)) → HasLimits (unwrap_or (option_and_then read parts) Usage)
+    go None = tt
+    go (Some parts) = or_usage (read parts) (told parts)
 
-pub check_limits : (parts : Option (List Part)) → HasLimits (unwrap_or (option_and_then check_of parts) Usage)
-check_limits = of_parts check_of (λ parts. of_check (only_file (operands parts)) (only_limit (limits parts)) (of_limit (limits parts)))
+pub check_limits : (words : List (List ℕ)) → HasLimits (command_by check_form check_of words)
+check_limits = of_parts check_of (λ parts. of_check (only_file (operands parts)) (only_limit (limits parts)) (λ model. only_proofs model (proofs parts)) (of_limit (limits parts))) check_form
 
-pub gen_limits : (parts : Option (List Part)) → HasLimits (unwrap_or (option_and_then gen_of parts) Usage)
-gen_limits = of_parts gen_of (λ parts. of_gen (only_number (operands parts)) (at_most_once (checks parts)) (of_words (operands parts)))
+pub recheck_limits : (words : List (List ℕ)) → HasLimits (command_by recheck_form recheck_of words)
+recheck_limits = of_parts recheck_of (λ parts. of_recheck (two_files (operands parts)) (only_limit (limits parts)) (of_limit (limits parts))) recheck_form
+
+pub gen_limits : (words : List (List ℕ)) → HasLimits (command_by gen_form gen_of words)
+gen_limits = of_parts gen_of (λ parts. of_gen (only_number (operands parts)) (at_most_once (checks parts)) (of_words (operands parts))) gen_form

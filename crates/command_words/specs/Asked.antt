@@ -1,4 +1,5 @@
 -- The command of the code, as the definitions have it.
+use Rattle.std.specs.Prelude.{option_map}
 use Rattle.command_words.specs.Words as words
 use Rattle.command_words.specs.declared.command.Command.{Command}
 use Rattle.command_words.specs.declared.command.Command.TheVariants.{Usage, Print, Do}
@@ -6,14 +7,15 @@ use Rattle.command_words.specs.declared.command.Work.{Work}
 use Rattle.command_words.specs.declared.command.Source.{Source}
 use Rattle.command_words.specs.declared.command.Source.TheVariants.{File, Ring}
 use Rattle.command_words.specs.declared.command.Job.{Job}
-use Rattle.command_words.specs.declared.command.Job.TheVariants.{Decide}
+use Rattle.command_words.specs.declared.command.Job.TheVariants.{Decide, Recheck}
 
 abbrev pub source_asked : Source → words.Source
 source_asked (File name) = words.File name.now
 source_asked (Ring n) = words.Ring n
 
 abbrev pub job_asked : Job → words.Job
-job_asked Decide = words.Decide
+job_asked (Decide name) = words.Decide (option_map (λ s. s.now) name)
+job_asked (Recheck name) = words.Recheck name.now
 
 abbrev pub work_asked : Work → words.Work
 work_asked work = record { source = source_asked work.source; limit = work.limit; job = job_asked work.job }

@@ -1,37 +1,88 @@
 -- What clap is told of each command, and what the words are by what it finds. Devices of the proof.
-use Rattle.std.specs.Prelude.{ℕ, Bool, true, List, ◌∷◌, Option, Some, None, codes, if◌then◌else◌}
-use Rattle.std.specs.Option.{option_map}
+use Rattle.std.specs.Prelude.{ℕ, Bool, true, List, [], ◌∷◌, Option, Some, None, codes, if◌then◌else◌}
+use Rattle.std.specs.Option.{option_map, option_and_then}
 use Rattle.clap.specs.Words.{App, Rule, new_app, new_rule, with_rule}
 use Rattle.clap.specs.Simple.{on_top}
 use Rattle.clap.specs.declared.builder.action.ArgAction.TheVariants.{Set, SetTrue}
-use Rattle.command_words.specs.Number.{number_of}
-use Rattle.command_words.specs.Words.{Command, Print, File, Ring, decide, usual_limit}
+use Rattle.command_words.specs.Words.{Command, Print, File, Ring, Decide, Recheck, work_on, usual_limit, only_file, two_files, only_number, only_limit, only_proofs}
 
-abbrev pub operand_rule : Rule
-operand_rule = record (new_rule (codes "operand")) { required = true; action = Some Set }
+-- an operand of this name
+abbrev pub operand_rule : List ℕ → Rule
+operand_rule name = record (new_rule name) { required = true; action = Some Set }
 
-abbrev pub nodes_rule : Rule
-nodes_rule = record (new_rule (codes "nodes")) { long = Some (codes "nodes"); action = Some Set }
+-- the option of this name, which has a value
+abbrev pub option_rule : List ℕ → Rule
+option_rule name = record (new_rule name) { long = Some name; action = Some Set }
 
-abbrev pub check_rule : Rule
-check_rule = record (new_rule (codes "check")) { long = Some (codes "check"); action = Some SetTrue }
+-- the option of this name, which has none
+abbrev pub flag_rule : List ℕ → Rule
+flag_rule name = record (new_rule name) { long = Some name; action = Some SetTrue }
 
--- a command with one operand and this option
-abbrev pub command_with : (name : List ℕ) → Rule → App
-command_with name option =
-    with_rule (with_rule (on_top (λ s. record s { no_binary_name = true; disable_help_flag = true }) (new_app name)) operand_rule) option
+-- a command with no help
+abbrev pub bare_app : (name : List ℕ) → App
+bare_app name = on_top (λ s. record s { no_binary_name = true; disable_help_flag = true }) (new_app name)
 
--- the limit that a value of `--nodes` asks for
-abbrev pub limit_with : Option (List ℕ) → Option ℕ
-limit_with None = Some usual_limit
-limit_with (Some value) = number_of 2147483647 value
+abbrev pub check_app : App
+check_app =
+    with_rule (with_rule (with_rule (bare_app (codes "check")) (operand_rule (codes "model")))
+    (option_rule (codes "nodes")))
+    (option_rule (codes "proof"))
 
--- the command `check` with this operand and this value of `--nodes`
-abbrev pub check_with : Option (List ℕ) → Option (List ℕ) → Option Command
-check_with (Some (byte ∷ name)) limit = option_map (λ most. decide (File (byte ∷ name)) most) (limit_with limit)
-check_with operand limit = None
+abbrev pub recheck_app : App
+recheck_app =
+    with_rule (with_rule (with_rule (bare_app (codes "recheck")) (operand_rule (codes "model")))
+    (operand_rule (codes "proof")))
+    (option_rule (codes "nodes"))
+
+abbrev pub gen_app : App
+gen_app =
+    with_rule (with_rule (bare_app (codes "gen")) (operand_rule (codes "number"))) (flag_rule (codes "check"))
+
+-- the one word that an argument has, or none
+abbrev pub list_of : Option (List ℕ) → List (List ℕ)
+list_of None = []
+list_of (Some word) = word ∷ []
+
+-- the values that are given, by the names of their arguments
+abbrev pub Values : Type 0
+Values = List ℕ → Option (List ℕ)
+
+-- the limit that they ask for
+abbrev pub limit_with : Values → Option ℕ
+limit_with values = only_limit (list_of (values (codes "nodes")))
+
+-- the command `check` with these operands, and values of `--nodes` and of `--proof`
+abbrev pub check_lists : (models limits names : List (List ℕ)) → Option Command
+check_lists models limits names =
+    option_and_then (λ model. option_and_then (λ limit. option_map (λ name.
+    work_on (File model) limit (Decide name))
+    (only_proofs model names))
+    (only_limit limits))
+    (only_file models)
+
+abbrev pub check_with : Values → Option Command
+check_with values =
+    check_lists (list_of (values (codes "model"))) (list_of (values (codes "nodes"))) (list_of (values (codes "proof")))
+
+-- the command `recheck` with these operands, and values of `--nodes`
+abbrev pub recheck_lists : (files limits : List (List ℕ)) → Option Command
+recheck_lists files limits =
+    option_and_then (λ names. option_map (λ limit.
+    work_on (File names.0) limit (Recheck names.1))
+    (only_limit limits))
+    (two_files files)
+
+-- two operands, of which the second stands behind the first
+abbrev pub both_of : Option (List ℕ) → Option (List ℕ) → List (List ℕ)
+both_of None second = []
+both_of (Some first) second = first ∷ list_of second
+
+abbrev pub recheck_with : Values → Option Command
+recheck_with values =
+    recheck_lists (both_of (values (codes "model")) (values (codes "proof"))) (list_of (values (codes "nodes")))
 
 -- the command `gen` with this operand, where `--check` stands or not
-abbrev pub gen_with : Option (List ℕ) → Bool → Option Command
-gen_with (Some word) is_checked = option_map (λ n. if is_checked then decide (Ring n) usual_limit else Print n) (number_of 999 word)
-gen_with None is_checked = None
+abbrev pub gen_with : Values → Bool → Option Command
+gen_with values is_checked =
+    option_map (λ n. if is_checked then work_on (Ring n) usual_limit (Decide None) else Print n)
+    (only_number (list_of (values (codes "number"))))

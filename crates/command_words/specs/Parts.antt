@@ -1,5 +1,5 @@
 -- The parts of the words behind a command: operands, and options with their values.
-use Rattle.std.specs.Prelude.{ℕ, ◌+◌, Bool, false, List, [], ◌∷◌, Option, Some, None, if◌then◌else◌, ◌==◌, bytes_eq, nat_eq, codes, map, drop}
+use Rattle.std.specs.Prelude.{ℕ, ◌+◌, Bool, false, List, [], ◌∷◌, ◌++◌, Option, Some, None, if◌then◌else◌, ◌==◌, bytes_eq, nat_eq, codes, map, drop, length}
 use Rattle.std.specs.List.{starts_with}
 use Rattle.std.specs.Option.{option_map}
 
@@ -7,6 +7,8 @@ pub data Part : Type 0 where
   Operand : List ℕ → Part
   -- the option `--nodes` with its value
   Nodes : List ℕ → Part
+  -- the option `--proof` with its value
+  Proof : List ℕ → Part
   -- the option `--check`, which takes none
   Check : Part
 
@@ -19,12 +21,22 @@ pub data Form : Type 0 where
   -- an option whose value is the next word
   Valued : (List ℕ → Part) → Form
 
--- The options of `check`: `--nodes N` and `--nodes=N`.
+-- The option word is this option alone, whose value is the next word, or it has the value behind
+-- `=`; or it is one of the others.
+abbrev pub option_or : (option : List ℕ) → (List ℕ → Part) → (others : Form) → (word : List ℕ) → Form
+option_or option part others word =
+    if bytes_eq word option then Valued part
+    else if starts_with nat_eq word (option ++ codes "=") then Whole (part (drop (length option + 1) word))
+    else others
+
+-- The options of `check`: `--nodes N` and `--nodes=N`, `--proof FILE` and `--proof=FILE`.
 abbrev pub check_form : List ℕ → Form
 check_form word =
-    if bytes_eq word (codes "--nodes") then Valued Nodes
-    else if starts_with nat_eq word (codes "--nodes=") then Whole (Nodes (drop 8 word))
-    else Unknown
+    option_or (codes "--nodes") Nodes (option_or (codes "--proof") Proof Unknown word) word
+
+-- The options of `recheck`: `--nodes N` and `--nodes=N`.
+abbrev pub recheck_form : List ℕ → Form
+recheck_form word = option_or (codes "--nodes") Nodes Unknown word
 
 -- The options of `gen`: `--check`.
 abbrev pub gen_form : List ℕ → Form
@@ -64,6 +76,7 @@ abbrev pub operands : List Part → List (List ℕ)
 operands [] = []
 operands (Operand word ∷ parts) = word ∷ operands parts
 operands (Nodes value ∷ parts) = operands parts
+operands (Proof name ∷ parts) = operands parts
 operands (Check ∷ parts) = operands parts
 
 -- the values of `--nodes`
@@ -71,11 +84,21 @@ abbrev pub limits : List Part → List (List ℕ)
 limits [] = []
 limits (Operand word ∷ parts) = limits parts
 limits (Nodes value ∷ parts) = value ∷ limits parts
+limits (Proof name ∷ parts) = limits parts
 limits (Check ∷ parts) = limits parts
+
+-- the values of `--proof`
+abbrev pub proofs : List Part → List (List ℕ)
+proofs [] = []
+proofs (Operand word ∷ parts) = proofs parts
+proofs (Nodes value ∷ parts) = proofs parts
+proofs (Proof name ∷ parts) = name ∷ proofs parts
+proofs (Check ∷ parts) = proofs parts
 
 -- how often `--check` stands
 abbrev pub checks : List Part → ℕ
 checks [] = 0
 checks (Operand word ∷ parts) = checks parts
 checks (Nodes value ∷ parts) = checks parts
+checks (Proof name ∷ parts) = checks parts
 checks (Check ∷ parts) = checks parts + 1

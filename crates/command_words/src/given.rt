@@ -1,27 +1,29 @@
-// What clap finds in the words behind a command.
-ghost use Rattle.std.specs.Prelude.{◌≡◌, ◌≢◌, [], IfOk, MatchOption, false, true, map, string_bytes};
-ghost use Rattle.clap.specs.Words.{app_of, fault_of, found_of, is_simple_and_free, matches_of, rows_of, rule_of};
-ghost use Rattle.command_words.specs.Given.{command_with};
+// What clap is told of a command, and what it finds in the words behind it.
+ghost use Rattle.std.specs.Prelude.{◌≡◌, ◌≢◌, [], IfOk, MatchOption, false, option_map, true, map, string_bytes};
+ghost use Rattle.clap.specs.Words.{app_of, fault_of, first_value, found_of, is_simple_and_free, matches_of, rows_of, rule_of};
+ghost use Rattle.command_words.specs.Words.{only_file};
+ghost use Rattle.command_words.specs.Given.{bare_app, flag_rule, limit_with, list_of, operand_rule, option_rule};
 
+use crate::number::read_number;
 use clap::error::ErrorKind;
 use clap::{Arg, ArgAction, ArgMatches};
 use std::alloc::{AllocError, Global};
 
-// What is given to a command that takes one operand and this option. None where its words are refused.
+pub(crate) const USUAL_LIMIT: u32 = 1_000_000;
+
+const GREATEST_LIMIT: u32 = 2_147_483_647;
+
+// What is given to this command. None where its words are refused.
 pub(crate) fn given<'a>(
-    alloc: Global,
-    name: &'a str,
-    option: Arg<'a>,
+    command: clap::Command<'a>,
     words: &'a [String],
 ) -> Result<Option<ArgMatches<'a>>, AllocError>
-    requires local { option.global ≡ false }
-    requires simple { is_simple_and_free (command_with name.now (rule_of option)) ≡ true }
+    requires { is_simple_and_free (app_of command) ≡ true }
     ensures { IfOk result (λ given. MatchOption given
-        (fault_of (command_with name.entry.now (rule_of option.entry)) (map string_bytes words.entry.now) ≢ [])
-        (λ matches. (fault_of (command_with name.entry.now (rule_of option.entry)) (map string_bytes words.entry.now) ≡ [])
-        × (rows_of (found_of matches) ≡ matches_of (command_with name.entry.now (rule_of option.entry)) (map string_bytes words.entry.now)))) }
+        (fault_of (app_of command.entry) (map string_bytes words.entry.now) ≢ [])
+        (λ matches. (fault_of (app_of command.entry) (map string_bytes words.entry.now) ≡ [])
+        × (rows_of (found_of matches) ≡ matches_of (app_of command.entry) (map string_bytes words.entry.now)))) }
 {
-    let command = command_with(alloc, name, option)?;
     match command.try_get_matches_from(words) {
         Ok(matches) => Ok(Some(matches)),
         Err(error) if error.kind() == ErrorKind::OutOfMemory => Err(AllocError),
@@ -29,20 +31,56 @@ pub(crate) fn given<'a>(
     }
 }
 
-fn command_with<'a>(
-    alloc: Global,
-    name: &'a str,
-    option: Arg<'a>,
-) -> Result<clap::Command<'a>, AllocError>
-    requires { option.global ≡ false }
-    ensures { IfOk result (λ command. app_of command ≡ command_with name.entry.now (rule_of option.entry)) }
+// A command that has no help, and no arguments yet.
+pub(crate) fn bare_command<'a>(alloc: Global, name: &'a str) -> clap::Command<'a>
+    ensures { app_of result ≡ bare_app name.now }
 {
-    let operand = Arg::new(alloc, "operand")
-        .required(true)
-        .action(ArgAction::Set);
     clap::Command::new(alloc, name)
         .no_binary_name(true)
         .disable_help_flag(true)
-        .arg(operand)?
-        .arg(option)
+}
+
+// An operand, which is to be given.
+pub(crate) fn operand<'a>(alloc: Global, name: &'a str) -> Arg<'a>
+    ensures rule { rule_of result ≡ operand_rule name.now }
+    ensures local { result.global ≡ false }
+{
+    Arg::new(alloc, name).required(true).action(ArgAction::Set)
+}
+
+// The option of this name, which has a value.
+pub(crate) fn option<'a>(alloc: Global, name: &'a str) -> Arg<'a>
+    ensures rule { rule_of result ≡ option_rule name.now }
+    ensures local { result.global ≡ false }
+{
+    Arg::new(alloc, name).long(name).action(ArgAction::Set)
+}
+
+// The option of this name, which has none.
+pub(crate) fn flag<'a>(alloc: Global, name: &'a str) -> Arg<'a>
+    ensures rule { rule_of result ≡ flag_rule name.now }
+    ensures local { result.global ≡ false }
+{
+    Arg::new(alloc, name).long(name).action(ArgAction::SetTrue)
+}
+
+// The name of a file that this argument gives, which is not empty.
+pub(crate) fn given_file<'a>(matches: &ArgMatches<'a>, argument: &str) -> Option<&'a str>
+    ensures { option_map (λ name. name.now) result ≡ only_file (list_of (first_value (found_of matches.now) argument.now)) }
+{
+    match matches.get_str(argument) {
+        Some(name) if !name.is_empty() => Some(name),
+        _ => None,
+    }
+}
+
+// The limit on nodes that the option `--nodes` asks for, or the usual one. None where its value is
+// no such number.
+pub(crate) fn given_limit(matches: &ArgMatches<'_>) -> Option<u32>
+    ensures { result ≡ limit_with (first_value (found_of matches.now)) }
+{
+    match matches.get_str("nodes") {
+        Some(value) => read_number(value, GREATEST_LIMIT),
+        None => Some(USUAL_LIMIT),
+    }
 }

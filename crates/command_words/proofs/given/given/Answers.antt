@@ -1,11 +1,11 @@
-use Rattle.std.proofs.Common.{◌≡◌, ◌≢◌, ◌∙◌, true, false, sym}
-use Rattle.clap.specs.Words.{kind_of}
+use Rattle.std.proofs.Common.{◌≡◌, ◌≢◌, ◌∙◌, true, false, map, string_bytes, sym}
+use Rattle.clap.specs.Words.{app_of, kind_of}
 use Rattle.clap.specs.declared.error.kind.ErrorKind.TheVariants.{OutOfMemory}
 use Rattle.command_words.proofs.ClapAnswers.{taken, refused}
 use Rattle.command_words.proofs.given.given.Goals as goal
 
 pub returns-in-Ok : goal.returns-in-Ok
-returns-in-Ok c = taken _ _ c.in_ok-command.ensures c.requires.simple _ c.in-Ok.matches c.in-Ok.ensures.kinds c.in-Ok.ensures.matches
+returns-in-Ok c = taken (app_of c.args.command) c.requires (map string_bytes c.args.words.now) c.in-Ok.matches c.in-Ok.ensures.kinds c.in-Ok.ensures.matches
 
 pub returns : goal.returns
 returns c =
@@ -14,4 +14,4 @@ returns c =
     let told = rw memory at c.eq.ensures in
     let bad : true ≡ false = sym told ∙ c.if-eq.false in
     cc in
-    refused _ _ c.in_ok-command.ensures c.requires.simple _ c.in-Err.error c.in-Err.ensures.kinds other
+    refused (app_of c.args.command) c.requires (map string_bytes c.args.words.now) c.in-Err.error c.in-Err.ensures.kinds other
