@@ -16,7 +16,7 @@ use bdd_nodes::Held;
 use diagram_sets::DiagramSets;
 use kripke_model::expressions::Formula;
 use kripke_model::models::Ruled;
-use proof_export::block_text;
+use proof_export::writing::block_text;
 use region_sets::{SetRefusal, StateSets};
 use smv_texts::Outcome;
 use spec_verdicts::{Proved, find, prove};
