@@ -112,13 +112,13 @@ checked_end m limit fs endings.ModelRefused ends = absurd ends
 checked_end m limit fs endings.ProofRefused ends = absurd ends
 checked_end m limit fs endings.Usage ends = absurd ends
 
-answers_end : (m : System) (limit : ℕ) (as : List Answer) (e : Ending) → EndsAnswers m limit as e → IsWorkEnding m limit e
-answers_end m limit as endings.Clear ends = tt
-answers_end m limit as endings.Failed ends = tt
-answers_end m limit as (endings.Undecided held) ends = record { full = ends.0; some = ends.1 }
-answers_end m limit as endings.ModelRefused ends = absurd ends
-answers_end m limit as endings.ProofRefused ends = absurd ends
-answers_end m limit as endings.Usage ends = absurd ends
+answers_end : (m : System) (limit : ℕ) (found : List Answer) (e : Ending) → EndsAnswers m limit found e → IsWorkEnding m limit e
+answers_end m limit found endings.Clear ends = tt
+answers_end m limit found endings.Failed ends = tt
+answers_end m limit found (endings.Undecided held) ends = record { full = ends.0; some = ends.1 }
+answers_end m limit found endings.ModelRefused ends = absurd ends
+answers_end m limit found endings.ProofRefused ends = absurd ends
+answers_end m limit found endings.Usage ends = absurd ends
 
 rechecked_end : (m : System) (limit : ℕ) (bytes : List ℕ) (r : Reply) → Rechecked m limit bytes r → IsWorkEnding m limit r.ending
 rechecked_end m limit bytes r (inl refused) = subst (IsWorkEnding m limit) (sym refused.ends) tt

@@ -1,19 +1,17 @@
 -- What is promised of the jobs over a model.
-use Rattle.std.proofs.Common.{◌≡◌, ◌⊎◌, inl, inr, ℕ, List, [], ◌∷◌, length, replicate, Option, Some, None, IfSome, refl, sym, subst}
-use Rattle.std.specs.Prelude.{All}
+use Rattle.std.proofs.Common.{◌≡◌, inl, inr, ℕ, List, [], ◌∷◌, length, replicate, Option, Some, None, refl, subst}
 use Rattle.command_words.specs.Words.{Job, Work, Decide, Recheck}
 use Rattle.kripke_model.specs.Faults.{IsFaultless}
 use Rattle.kripke_model.specs.System.{System, Condition}
-use Rattle.proof_answers.specs.Rechecked.{LeavesUnanswered, Rechecked}
-use Rattle.smv_outside.specs.Contents.{Contents, bytes_under}
-use Rattle.smv_session.specs.Answers.{IsDone, Takes}
+use Rattle.proof_answers.specs.Rechecked.{LeavesUnanswered}
+use Rattle.smv_outside.specs.Contents.{Contents}
+use Rattle.smv_session.specs.Answers.{Takes}
 use Rattle.smv_session.specs.Commands.{AreFoundIn, ExportsProofs, IsRechecked, RechecksProofs, ReportsVerdicts, ShowsStates, TellsOfProofs}
 use Rattle.smv_session.specs.Jobs.{Does, IsSecond, Undecides}
 use Rattle.smv_session.specs.Session.{Leaves, Puts, Session, Shows, TakesModels}
 use Rattle.smv_texts.specs.Replies.{Reply, text_of}
 use Rattle.smv_texts.specs.Report.{Finding, Unknown, report}
 use Rattle.spec_verdicts.specs.Checked.{Checked, SavesProofs, all_unknown}
-use Rattle.spec_verdicts.specs.Exports.{Exports}
 use Rattle.spec_verdicts.specs.Verdicts.{EachFinding, IsVerdict, ShowsState, ShowStates}
 
 -- ---- check

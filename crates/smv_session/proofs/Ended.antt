@@ -24,7 +24,7 @@ use Rattle.smv_session.proofs.PutText.{told_text, same_line}
 use Rattle.smv_session.proofs.SavedReplies.{IsQuiet, quiet_saves, reply_fails, reply_keeps, same_of}
 use Rattle.smv_texts.proofs.Heads.{no_fault_line}
 use Rattle.smv_texts.specs.Refusals.{Refusal, refusal_line}
-use Rattle.smv_texts.specs.Replies.{Reply, Gives, text_of}
+use Rattle.smv_texts.specs.Replies.{Reply, text_of}
 use Rattle.smv_texts.specs.Statuses.{status_of}
 use Rattle.smv_texts.specs.Texts.{fault_line, usage_text}
 use Rattle.smv_texts.specs.declared.ending.Ending.{Ending}

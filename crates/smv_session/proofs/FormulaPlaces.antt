@@ -1,6 +1,6 @@
 -- Formulas beside specifications.
-use Rattle.std.proofs.Common.{◌≡◌, ◌∙◌, ℕ, zero, suc, ◌+◌, ◌<◌, List, [], ◌∷◌, ◌++◌, length, map, take, get_or, Bool, Option, Some, refl, sym, ap, subst, arith}
-use Rattle.std.specs.Prelude.{All, option_map, slice_get}
+use Rattle.std.proofs.Common.{◌≡◌, ◌∙◌, ℕ, zero, suc, ◌+◌, ◌<◌, List, [], ◌∷◌, ◌++◌, length, map, take, get_or, Bool, Option, Some, None, length-take, refl, sym, ap, subst, arith}
+use Rattle.std.specs.Prelude.{All, is_some, option_map, slice_get}
 use Rattle.std.proofs.Math.Seq.{take-suc}
 use Rattle.std.proofs.lemmas.List.{length-map}
 use Rattle.std.proofs.lemmas.List.Elements.{All-get_or}
@@ -59,6 +59,20 @@ spec_at m fs i j f is same below next =
 pub tried_at : (m : System) (limit : ℕ) (proves : Bool) (j : ℕ) (fs : List Formula) (i : ℕ) (f : Formula) (t : Tried) → f ≡ get_or fs i f → map ctl_of fs ≡ map (λ c. formula_of c.expr) m.specs → i < length fs
     → IsTried m limit proves j (ctl_of f) t → IsTried m limit proves j (formula_of (get_or m.specs i none_yet).expr) t
 tried_at m limit proves j fs i f t is same below tried = subst (λ g. IsTried m limit proves j g t) (ap ctl_of is ∙ formula_at fs m.specs i f none_yet same below) tried
+
+-- the same of the specification that is next, with its number
+pub tried_in : {A : Type 0} (m : System) (limit : ℕ) (fs : List Formula) (i : ℕ) (f : Formula) (t : Tried) (now : A → List ℕ) (proofs : Option A) (proves : Bool) → f ≡ get_or fs i f → map ctl_of fs ≡ map (λ c. formula_of c.expr) m.specs → i < length fs
+    → proves ≡ is_some proofs → IsTried m limit proves (i + 1) (ctl_of f) t → IsTried m limit (is_some (option_map now proofs)) (1 + length (take i m.specs)) (formula_of (get_or m.specs i none_yet).expr) t
+tried_in m limit fs i f t now proofs proves is same below asked tried =
+    let within : i < length m.specs = omega (arith, below, as_many fs m.specs same) in
+    let size = length-take i m.specs in
+    subst (λ (n : ℕ). IsTried m limit (is_some (option_map now proofs)) n (formula_of (get_or m.specs i none_yet).expr) t) (omega (arith, size, within))
+    (subst (λ (b : Bool). IsTried m limit b (i + 1) (formula_of (get_or m.specs i none_yet).expr) t) (asked ∙ some_kept now proofs)
+    (tried_at m limit proves (i + 1) fs i f t is same below tried))
+  where
+    some_kept : {A : Type 0} (now : A → List ℕ) (proofs : Option A) → is_some proofs ≡ is_some (option_map now proofs)
+    some_kept now None = refl
+    some_kept now (Some name) = refl
 
 pub front_more : (m : System) (limit : ℕ) (proofs : Option (List ℕ)) (i : ℕ) (found : Findings) → i < length m.specs → AreFound m limit proofs (take i m.specs ++ get_or m.specs i none_yet ∷ []) found → AreFound m limit proofs (take (i + 1) m.specs) found
 front_more m limit proofs i found below h =

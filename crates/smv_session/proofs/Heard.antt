@@ -12,7 +12,9 @@ use Rattle.smv_outside.specs.declared.faults.LoadFault.{LoadFault}
 use Rattle.smv_outside.specs.declared.faults.LoadFault.TheVariants.{Failed, NotThere, TooLong, Memory}
 use Rattle.smv_session.specs.Answers.{IsModelReply, IsSourceName, Reads}
 use Rattle.smv_rings.specs.Rings.{ring_text}
-use Rattle.smv_session.specs.Foreseen.{Foresees, ForeseesText, IsAnswer, IsForeseenAs}
+use Rattle.kripke_model.specs.System.{System}
+use Rattle.proof_text.specs.Spells.{most_bytes}
+use Rattle.smv_session.specs.Foreseen.{Foresees, ForeseesProofs, ForeseesText, IsAnswer, IsForeseenAs, RefusesLongProofs}
 use Rattle.smv_session.specs.Refuses.{Refuses}
 use Rattle.smv_session.specs.declared.session.Foreseen.{Foreseen}
 use Rattle.smv_session.specs.declared.session.Foreseen.TheVariants as foreseen
@@ -59,23 +61,23 @@ line_reply w contents bytes q (Err e) applies text ends saves = tt
 -- ---- loads
 
 -- what is there under a name, where it is told to be longer than some number
-there_is : (found : Option (List ℕ)) (taken : ℕ) → most_model_bytes < taken → IsSomeAnd found (λ bytes. taken ≤ length bytes)
-    → (bytes : List ℕ) × (most_model_bytes < length bytes) × (found ≡ Some bytes)
-there_is None taken more there = absurd there
-there_is (Some bytes) taken more there = (bytes, omega arith, refl)
+there_is : (most : ℕ) (found : Option (List ℕ)) (taken : ℕ) → most < taken → IsSomeAnd found (λ bytes. taken ≤ length bytes)
+    → (bytes : List ℕ) × (most < length bytes) × (found ≡ Some bytes)
+there_is most None taken more there = absurd there
+there_is most (Some bytes) taken more there = (bytes, omega (arith, more, there), refl)
 
 -- a text that is too long: the one that is told, or any
-too_long : (name : List ℕ) (contents : Option Contents) (taken : ℕ) → most_model_bytes < taken
+too_long : (most : ℕ) (name : List ℕ) (contents : Option Contents) (taken : ℕ) → most < taken
     → IfSome contents (λ files. IsSomeAnd (bytes_under files name) (λ bytes. taken ≤ length bytes))
-    → (bytes : List ℕ) × (most_model_bytes < length bytes) × IfSome contents (λ files. bytes_under files name ≡ Some bytes)
-too_long name None taken more there = (replicate taken 0, omega (arith, length-replicate {A = ℕ} taken 0), tt)
-too_long name (Some files) taken more there = there_is (bytes_under files name) taken more there
+    → (bytes : List ℕ) × (most < length bytes) × IfSome contents (λ files. bytes_under files name ≡ Some bytes)
+too_long most name None taken more there = (replicate taken 0, omega (arith, more, length-replicate {A = ℕ} taken 0), tt)
+too_long most name (Some files) taken more there = there_is most (bytes_under files name) taken more there
 
 -- a text of so many bytes is refused
 long_answer : (w : Work) (name : List ℕ) (contents : Option Contents) (before after : FileFaults) (taken : ℕ) (f : Foreseen) → w.source ≡ File name → after ≡ before → most_model_bytes < taken
     → IfSome contents (λ files. IsSomeAnd (bytes_under files name) (λ bytes. taken ≤ length bytes)) → IsForeseenAs (TellsRefusal (Some refusals.TooLong)) (TooLong taken) f → Foresees (Do w) contents before after f
 long_answer w name contents before after taken (foreseen.Reply reply) from quiet more there told =
-    let found = too_long name contents taken more there in
+    let found = too_long most_model_bytes name contents taken more there in
     let is = refusal_reply w contents found.0 refusals.TooLong reply found.1 told.0 told.1 told.2 in
     record { quiet = quiet; answer = (is.0, is.1, (found.0, subst (λ source. Reads source contents found.0) (sym from) found.2, is.2)) }
 long_answer w name contents before after taken (foreseen.Fault fault) from quiet more there told = absurd told
@@ -94,6 +96,22 @@ told_fault w name contents before after f NotThere from counts more there lacks 
 told_fault w name contents before after f (TooLong taken) from counts more there lacks told = long_answer w name contents before after taken f from counts (more taken refl) (there taken refl) told
 told_fault w name contents before after f Memory from counts more there lacks told = absurd told
 
+-- the same of the load of a proof file
+pub told_proofs : (m : System) (limit : ℕ) (name : List ℕ) (contents : Option Contents) (before after : FileFaults) (f : Foreseen) (fault : LoadFault)
+    → CountsLoad {T = Vec ℕ} before after (Err fault)
+    → ((taken : ℕ) → fault ≡ TooLong taken → most_bytes < taken)
+    → ((taken : ℕ) → fault ≡ TooLong taken → IfSome contents (λ files. IsSomeAnd (bytes_under files name) (λ bytes. taken ≤ length bytes)))
+    → (fault ≡ NotThere → IfSome contents (λ files. bytes_under files name ≡ None))
+    → IsForeseenAs RefusesLongProofs fault f → ForeseesProofs m limit contents name before after f
+told_proofs m limit name contents before after f Failed counts more there lacks told = subst (ForeseesProofs m limit contents name before after) (sym told) counts
+told_proofs m limit name contents before after f NotThere counts more there lacks told =
+    subst (ForeseesProofs m limit contents name before after) (sym told) (counts.0, counts.1, lacks refl, counts.2)
+told_proofs m limit name contents before after (foreseen.Reply reply) (TooLong taken) counts more there lacks told =
+    let found = too_long most_bytes name contents taken (more taken refl) (there taken refl) in
+    record { bytes = found.0; there = found.2; answer = told m limit found.0 found.1; quiet = counts }
+told_proofs m limit name contents before after (foreseen.Fault fault) (TooLong taken) counts more there lacks told = absurd told
+told_proofs m limit name contents before after f Memory counts more there lacks told = absurd told
+
 -- ---- replies
 
 -- what is foreseen for the text of a source is foreseen for the work
@@ -101,7 +119,7 @@ pub read_answer : (w : Work) (contents : Option Contents) (before after : FileFa
     → ForeseesText w contents bytes before after f → Foresees (Do w) contents before after f
 read_answer w contents before after bytes (foreseen.Reply reply) reads is = record { quiet = is.quiet; answer = (is.answer.0, is.answer.1, (bytes, reads, is.answer.2)) }
 read_answer w contents before after bytes (foreseen.Fault fault) reads is =
-    record { name = is.name; loads = inr (is.second, (bytes, is.model, reads, is.accepted)); came = is.came }
+    record { name = is.name; loads = inr (is.second, bytes, is.model, reads, is.accepted); came = is.came }
 
 -- the same of a result
 pub read_result : (w : Work) (contents : Option Contents) (before after : FileFaults) (bytes : List ℕ) (r : Result Foreseen AllocError) → Reads w.source contents bytes

@@ -8,6 +8,7 @@ pub mod Decided
 pub mod Promises
 pub mod BitCounts
 pub mod FormulaPlaces
+pub mod BlockPlaces
 pub mod NotBuilt
 pub mod FaultLemmas
 pub mod OneAnswer

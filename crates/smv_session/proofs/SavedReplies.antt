@@ -1,10 +1,10 @@
 -- What the reply to a command saves.
-use Rattle.std.proofs.Common.{◌≡◌, ◌⊎◌, ◌∙◌, inl, inr, ℕ, List, Option, Some, None, refl, sym, ap, subst}
+use Rattle.std.proofs.Common.{◌≡◌, ◌⊎◌, inl, inr, ℕ, List, Option, Some, None, refl, sym, subst}
 use Rattle.command_words.specs.Words as words
 use Rattle.command_words.specs.Words.{Command, Work, Job, Decide, Recheck, Print, Do}
 use Rattle.kripke_model.specs.System.{System}
 use Rattle.proof_answers.specs.Rechecked.{Rechecked}
-use Rattle.smv_outside.specs.Contents.{AreTold, Contents, IsSaved, LeavesOthers}
+use Rattle.smv_outside.specs.Contents.{AreTold, Contents, IsSaved}
 use Rattle.smv_session.specs.Answers.{Answers, IsModelReply, Reads, Takes}
 use Rattle.smv_session.specs.Foreseen.{FailsToSave}
 use Rattle.smv_session.specs.Jobs.{Does, Keeps, KeepsOthers, Undecides}

@@ -12,10 +12,9 @@ use Rattle.smv_session.specs.Answers.{IsModelReply, Takes}
 use Rattle.smv_session.specs.Foreseen.{ForeseesProofs, ForeseesText}
 use Rattle.smv_session.specs.Jobs.{Does, IsSecond, IsSecondName, NamesLeaves, Undecides}
 use Rattle.smv_session.specs.Relation.{Decides}
-use Rattle.smv_session.specs.Source.{HasModel, HasRuled, most_state_bits}
+use Rattle.smv_session.specs.Source.{HasRuled, most_state_bits}
 use Rattle.smv_session.specs.declared.session.Foreseen.{Foreseen}
 use Rattle.smv_session.specs.declared.session.Foreseen.TheVariants as foreseen
-use Rattle.smv_texts.specs.Replies as replies
 use Rattle.smv_texts.specs.Replies.{IsReply}
 use Rattle.smv_texts.specs.declared.reply.Reply.{Reply}
 use Rattle.spec_verdicts.specs.Checked.{Checked, LeavesUnknown}
@@ -41,12 +40,16 @@ module _ (w : Work) (contents : Option Contents) (bytes : List ℕ) (m : System)
   -- its specifications were decided
   pub decided_reply : (proofs : Option (List ℕ)) → w.job ≡ Decide proofs → IsReply (Decides m w.limit proofs) reply → IsReply (IsModelReply w contents bytes) reply
   decided_reply proofs is (r, gives, inl unknown) = taken_reply (r, gives, inl (subst (λ job. Undecides job m w.limit r) (sym is) unknown))
-  decided_reply proofs is (r, gives, inr done) = taken_reply (r, gives, inr (record {
-    faultless = done.0;
-    second = None;
-    loaded = subst (λ job. IsSecond job contents None) (sym is) refl;
-    does = subst (λ job. Does job m w.limit None r) (sym is) done.1;
-  }))
+  decided_reply proofs is (r, gives, inr done) = taken_reply (
+    r,
+    gives,
+    inr (record {
+      faultless = done.0;
+      second = None;
+      loaded = subst (λ job. IsSecond job contents None) (sym is) refl;
+      does = subst (λ job. Does job m w.limit None r) (sym is) done.1;
+    }),
+  )
 
   -- the limit was met before its proofs were looked at
   pub unanswered_reply : (proofs : List ℕ) → w.job ≡ Recheck proofs → IsReply (LeavesUnanswered m w.limit) reply → IsReply (IsModelReply w contents bytes) reply
@@ -55,12 +58,16 @@ module _ (w : Work) (contents : Option Contents) (bytes : List ℕ) (m : System)
   -- its proofs were tested
   pub rechecked_reply : (proofs file : List ℕ) → w.job ≡ Recheck proofs → IsFaultless m → IfSome contents (λ files. bytes_under files proofs ≡ Some file) → IsReply (Rechecked m w.limit file) reply
       → IsReply (IsModelReply w contents bytes) reply
-  rechecked_reply proofs file is faultless there (r, gives, done) = taken_reply (r, gives, inr (record {
-    faultless = faultless;
-    second = Some file;
-    loaded = subst (λ job. IsSecond job contents (Some file)) (sym is) there;
-    does = subst (λ job. Does job m w.limit (Some file) r) (sym is) done;
-  }))
+  rechecked_reply proofs file is faultless there (r, gives, done) = taken_reply (
+    r,
+    gives,
+    inr (record {
+      faultless = faultless;
+      second = Some file;
+      loaded = subst (λ job. IsSecond job contents (Some file)) (sym is) there;
+      does = subst (λ job. Does job m w.limit (Some file) r) (sym is) done;
+    }),
+  )
 
 -- what is foreseen for its proof file is foreseen for the work
 pub proofs_foreseen : (w : Work) (contents : Option Contents) (bytes : List ℕ) (m : System) (proofs : List ℕ) (before after : FileFaults) (f : Foreseen) → HasRuled bytes m → state_bits m ≤ most_state_bits → IsFaultless m

@@ -91,7 +91,7 @@ fn try_over(
     requires over { model_of parts ≡ model.now }
     requires order { (coding_of parts).order ≡ own_order model.now }
     requires trial { IsTrial model.now trial }
-    ensures { IfOk result (IsTried model.now (limit_of (store_of parts.entry)) trial.entry.proves
+    ensures { IfOk result (IsTried model.now (limit_of (store_of parts)) trial.entry.proves
         trial.entry.spec (ctl_of trial.entry.formula.now)) }
 {
     let mut sets = DiagramSets::new(alloc, parts);
@@ -108,12 +108,7 @@ fn try_over(
 }
 
 /// Tries a specification over a relation that is built anew.
-fn try_anew(
-    alloc: Global,
-    model: &Ruled,
-    limit: u32,
-    trial: Trial<'_>,
-) -> Result<Tried, AllocError>
+fn try_anew(alloc: Global, model: &Ruled, limit: u32, trial: Trial<'_>) -> Result<Tried, AllocError>
     requires limit { limit < 2 ^ 31 }
     requires faultless { IsFaultless model.now }
     requires few { state_bits model.now ≤ most_state_bits }

@@ -198,7 +198,10 @@ fn answer_proof_fault<'a>(alloc: Global, fault: LoadFault) -> Result<Foreseen<'a
     match fault {
         LoadFault::Failed => Ok(Foreseen::Fault(Fault::LoadFailed)),
         LoadFault::NotThere => Ok(Foreseen::Fault(Fault::LoadMissing)),
-        LoadFault::TooLong { .. } => Ok(Foreseen::Reply(refuse_proofs(alloc, TextRefusal::TooLong)?)),
+        LoadFault::TooLong { .. } => Ok(Foreseen::Reply(refuse_proofs(
+            alloc,
+            TextRefusal::TooLong,
+        )?)),
         LoadFault::Memory => Err(AllocError),
     }
 }

@@ -1,32 +1,52 @@
-use Rattle.std.proofs.Common.{◌<◌, take, length, sym, subst, arith}
-use Rattle.std.specs.Prelude.{IfSome}
+use Rattle.std.proofs.Common.{◌<◌, ◌+◌, take, length, refl, sym, subst, arith}
+use Rattle.std.specs.Prelude.{IfSome, option_map}
 use Rattle.std.proofs.lemmas.List.{take_all}
 use Rattle.std.specs.List.{slice_index_or}
 use Rattle.smv_session.specs.Relation.{AreOver}
 use Rattle.spec_verdicts.specs.Found.{AreFound}
-use Rattle.smv_session.proofs.FormulaPlaces.{as_many, leaves_at, tried_at, front_more, none_yet}
+use Rattle.smv_session.proofs.FormulaPlaces.{as_many, leaves_at, tried_in, front_more, none_yet, spec_at}
 use Rattle.smv_session.proofs.decision.try_all.Goals as goal
 
-pub loop-formula-init : goal.loop-formula-init
-loop-formula-init c = record { found = c.new-found.ensures c.args.model.now c.args.limit; built = c.requires.parts }
+pub loop-place-init : goal.loop-place-init
+loop-place-init c = record { found = c.in_ok-found.ensures c.args.limit; built = c.requires.parts }
 
-pub try_next-requires-clause-leaves : goal.try_next-requires-clause-leaves
-try_next-requires-clause-leaves c =
-    leaves_at c.args.model.now c.formulas-formulas.result.now c.loop-formula.formula-index c.formula-item.result c.formula-item.is c.formulas-formulas.ensures c.loop-formula-test.true c.leaves_law.ensures.specs
-
-pub loop-formula-preserved : goal.loop-formula-preserved
-loop-formula-preserved c =
+pub overflow_cast-trial : goal.overflow_cast-trial
+overflow_cast-trial c =
     let many = as_many c.formulas-formulas.result.now c.args.model.now.specs c.formulas-formulas.ensures in
-    let below : c.loop-formula.formula-index < length c.args.model.now.specs = omega (arith, many, c.loop-formula-test.true) in
+    omega (arith, many, c.loop-place-test.true, c.rules_law.ensures.flat.limits.specifications)
+
+pub overflow_add-trial : goal.overflow_add-trial
+overflow_add-trial c =
+    let many = as_many c.formulas-formulas.result.now c.args.model.now.specs c.formulas-formulas.ensures in
+    omega (arith, many, c.loop-place-test.true, c.rules_law.ensures.flat.limits.specifications)
+
+pub try_next-requires-clause-trial : goal.try_next-requires-clause-trial
+try_next-requires-clause-trial c =
+    let m = c.args.model.now in
+    let fs = c.formulas-formulas.result.now in
+    let i = c.loop-place.place in
+    let f = c.index-formulas-place.result in
     record {
-      found = front_more c.args.model.now c.args.limit c.loop-formula.formula-index c.add.new.found below
-          (c.in_ok-add.ensures c.args.model.now (take c.loop-formula.formula-index c.args.model.now.specs) (slice_index_or c.args.model.now.specs c.loop-formula.formula-index none_yet) c.loop-formula.invariant.found
-          (tried_at c.args.model.now c.args.limit c.formulas-formulas.result.now c.loop-formula.formula-index c.formula-item.result c.in_ok-tried.tried c.formula-item.is c.formulas-formulas.ensures c.loop-formula-test.true c.in_ok-tried.ensures));
-      built = subst (λ o. IfSome o (AreOver c.args.model.now c.args.limit)) (sym c.take.ensures.after) tt;
+      leaves = leaves_at m fs i f c.index-formulas-place.is c.formulas-formulas.ensures c.loop-place-test.true c.leaves_law.ensures.specs;
+      spec_is = spec_at m fs i (i + 1) f c.index-formulas-place.is c.formulas-formulas.ensures c.loop-place-test.true refl;
+    }
+
+pub loop-place-preserved : goal.loop-place-preserved
+loop-place-preserved c =
+    let m = c.args.model.now in
+    let fs = c.formulas-formulas.result.now in
+    let i = c.loop-place.place in
+    let many = as_many fs m.specs c.formulas-formulas.ensures in
+    let below : i < length m.specs = omega (arith, many, c.loop-place-test.true) in
+    record {
+      found = front_more m c.args.limit _ i c.add.new.found below
+          (c.in_ok-add.ensures _ (take i m.specs) (slice_index_or m.specs i none_yet) c.loop-place.invariant.found
+          (tried_in m c.args.limit fs i c.index-formulas-place.result c.in_ok-tried.tried (λ name. name.now) c.args.proofs c.is_some.result c.index-formulas-place.is c.formulas-formulas.ensures c.loop-place-test.true c.is_some.ensures c.in_ok-tried.ensures));
+      built = subst (λ o. IfSome o (AreOver m c.args.limit)) (sym c.take.ensures.after) tt;
     }
 
 pub returns : goal.returns
 returns c =
     let many = as_many c.formulas-formulas.result.now c.args.model.now.specs c.formulas-formulas.ensures in
-    subst (λ cs. AreFound c.args.model.now c.args.limit cs c.loop-formula.found)
-    (take_all c.loop-formula.formula-index c.args.model.now.specs (omega (arith, many, c.loop-formula-test.false, c.loop-formula.auto.formula-index-end))) c.loop-formula.invariant.found
+    subst (λ cs. AreFound c.args.model.now c.args.limit (option_map (λ name. name.now) c.args.proofs) cs c.loop-place.found)
+    (take_all c.loop-place.place c.args.model.now.specs (omega (arith, many, c.loop-place-test.false, c.loop-place.auto.place-end))) c.loop-place.invariant.found

@@ -1,3 +1,4 @@
+use Rattle.std.proofs.Common.{None}
 use Rattle.command_words.specs.Words.{Decide}
 use Rattle.smv_session.proofs.OneAnswer.{Laws, one_model, one_refusal, model_or_refusal, accepted_or_refusal}
 use Rattle.smv_session.proofs.laws.one_answer.Goals as goal
@@ -22,7 +23,7 @@ returns c =
       one_static_refusal = c.one_refusal.ensures;
     } in
     record {
-      model = λ bytes m n h k. one_model laws Decide bytes m n h k;
+      model = λ bytes m n h k. one_model laws (Decide None) bytes m n h k;
       refusal = one_refusal laws;
       model_or_refusal = model_or_refusal laws;
       accepted_or_refusal = accepted_or_refusal laws;
