@@ -1,32 +1,42 @@
 -- What the words are, by what clap finds or that it refuses them.
-use Rattle.std.proofs.Common.{◌≡◌, ◌≢◌, ◌∙◌, ℕ, Bool, true, false, List, [], ◌∷◌, map, codes, string_bytes, String, Option, Some, None, unwrap_or, ⊎_elim, refl, sym, ap, subst}
+use Rattle.std.proofs.Common.{◌≡◌, ◌≢◌, ◌∙◌, ℕ, Bool, true, false, List, [], ◌∷◌, map, codes}
+use Rattle.std.proofs.Common.{string_bytes, String, Option, Some, None, unwrap_or, ⊎_elim, refl}
+use Rattle.std.proofs.Common.{sym, ap, subst}
 use Rattle.std.specs.Option.{option_and_then}
 use Rattle.std.specs.Prelude.{MatchOption}
 use Rattle.std.proofs.lemmas.Str.{IsUtf8-string_bytes}
 use Rattle.clap.specs.Values.{bool_text}
-use Rattle.clap.specs.Words.{App, Row, Text, HasKind, IsAmong, Kinds, HasMatchesOf, fault_of, first_value, found_of, is_simple, is_simple_and_free, kind_of, matches_of, one_text, rows_of}
+use Rattle.clap.specs.Words.{App, Row, Text, HasKind, IsAmong, Kinds, HasMatchesOf, fault_of}
+use Rattle.clap.specs.Words.{first_value, found_of, is_simple, is_simple_and_free, kind_of}
+use Rattle.clap.specs.Words.{matches_of, one_text, rows_of}
 use Rattle.clap.specs.declared.error.Error.{Error}
 use Rattle.clap.specs.declared.error.kind.ErrorKind.TheVariants.{OutOfMemory}
 use Rattle.clap.specs.declared.parser.matches.ArgMatches.{ArgMatches}
 use Rattle.clap.proofs.WalkLemmas.{both, first_value-rows, one_text-rows}
-use Rattle.command_words.specs.Given.{Values, check_app, check_with, gen_app, gen_with, recheck_app, recheck_with}
+use Rattle.command_words.specs.Given.{Values, check_app, check_with, gen_app, gen_with, recheck_app}
+use Rattle.command_words.specs.Given.{recheck_with}
 use Rattle.command_words.specs.Parts.{Part, Form, parts_of, check_form, gen_form, recheck_form}
-use Rattle.command_words.specs.Words.{Command, Usage, check_of, command_by, gen_of, recheck_of, two_files}
-use Rattle.command_words.proofs.Kept.{Kept, file_names, keep_parts, model_name, nothing, number_name, wants}
-use Rattle.command_words.proofs.ClapWalk.{Agrees, AllUtf8, HasNone, IsWhole}
+use Rattle.command_words.specs.Words.{Command, Usage, check_of, command_by, gen_of, recheck_of}
+use Rattle.command_words.specs.Words.{two_files}
+use Rattle.command_words.proofs.Kept.{Kept, file_names, keep_parts, model_name, nothing}
+use Rattle.command_words.proofs.Kept.{number_name, wants}
+use Rattle.command_words.proofs.ClapAgrees.{Agrees, AllUtf8, HasNone, IsWhole}
 use Rattle.command_words.proofs.ClapEnds.{ReadsAll, ReadsGen}
 use Rattle.command_words.proofs.ClapCommands.{check_agrees, gen_agrees, recheck_agrees}
 use Rattle.command_words.proofs.Commands.{IsGen, check_words, gen_words, recheck_words}
 
 module _ (app : App) (simple : is_simple_and_free app ≡ true) (words : List Text) where
   -- what is found in the words that are taken
-  pub taken : (m : ArgMatches) → (is_simple_and_free app ≡ true → fault_of app words ≡ []) → HasMatchesOf app words m
+  pub taken : (m : ArgMatches) → (is_simple_and_free app ≡ true → fault_of app words ≡ [])
+      → HasMatchesOf app words m
       → (fault_of app words ≡ []) × (rows_of (found_of m) ≡ matches_of app words)
   taken m passes has = (passes simple, (has (both (is_simple app) _ simple).0).0)
 
   -- an error that is not want of memory has a cause in the words
-  pub refused : (e : Error) → (is_simple_and_free app ≡ true → HasKind (fault_of app words) e) → kind_of e ≢ OutOfMemory → fault_of app words ≢ []
-  refused e fails other none = ⊎_elim other (λ among. subst (IsAmong (kind_of e)) none among) (fails simple)
+  pub refused : (e : Error) → (is_simple_and_free app ≡ true → HasKind (fault_of app words) e)
+      → kind_of e ≢ OutOfMemory → fault_of app words ≢ []
+  refused e fails other none =
+      ⊎_elim other (λ among. subst (IsAmong (kind_of e)) none among) (fails simple)
 
 pub all_utf8 : {Z : Type 0} (words : List (String Z)) → AllUtf8 (map string_bytes words)
 all_utf8 [] = tt
@@ -34,50 +44,69 @@ all_utf8 (word ∷ words) = (IsUtf8-string_bytes word, all_utf8 words)
 
 -- what clap finds of these words, or that it refuses them
 abbrev pub IsGiven : App → List Text → Option ArgMatches → Type 0
-IsGiven app words given = MatchOption given (fault_of app words ≢ []) (λ found. (fault_of app words ≡ []) × (rows_of (found_of found) ≡ matches_of app words))
+IsGiven app words given =
+    MatchOption given (fault_of app words ≢ [])
+    (λ found. (fault_of app words ≡ []) × (rows_of (found_of found) ≡ matches_of app words))
 
-has_none : (names : List Text) (Reads : List Row → Values → Type 0) (fault : Kinds) (rows : List Row) (kept : Option Kept) → fault ≢ [] → Agrees names Reads fault rows kept → HasNone names kept
+has_none : (names : List Text) (Reads : List Row → Values → Type 0) (fault : Kinds)
+    (rows : List Row) (kept : Option Kept) → fault ≢ [] → Agrees names Reads fault rows kept
+    → HasNone names kept
 has_none names Reads [] rows kept some agree = absurd (some refl)
 has_none names Reads (kind ∷ kinds) rows kept some agree = agree
 
 -- the command that clap was given, where it is the one that the definitions speak of
-module _ (app built : App) (words : List Text) (names : List Text) (Reads : List Row → Values → Type 0) (kept : Option Kept)
+module _ (app built : App) (words : List Text) (names : List Text)
+    (Reads : List Row → Values → Type 0) (kept : Option Kept)
     (agree : Agrees names Reads (fault_of app words) (matches_of app words) kept)
     (same : built ≡ app) (given : Option ArgMatches) (told : IsGiven built words given) where
   found_whole : (m : ArgMatches) → given ≡ Some m → IsWhole Reads (rows_of (found_of m)) kept
   found_whole m some =
-      let here : IsGiven app words (Some m) = subst (λ a. IsGiven a words (Some m)) same (subst (IsGiven built words) some told) in
-      subst (λ rows. IsWhole Reads rows kept) (sym here.1) (subst (λ fault. Agrees names Reads fault (matches_of app words) kept) here.0 agree)
+      let here : IsGiven app words (Some m) = subst (λ a. IsGiven a words (Some m)) same
+      (subst (IsGiven built words) some told) in
+      subst (λ rows. IsWhole Reads rows kept) (sym here.1)
+      (subst (λ fault. Agrees names Reads fault (matches_of app words) kept) here.0 agree)
 
   refused_none : given ≡ None → HasNone names kept
   refused_none none =
-      let here : IsGiven app words None = subst (λ a. IsGiven a words None) same (subst (IsGiven built words) none told) in
+      let here : IsGiven app words None = subst (λ a. IsGiven a words None) same
+      (subst (IsGiven built words) none told) in
       has_none names Reads (fault_of app words) (matches_of app words) kept here agree
 
 -- ---- commands that are told by the values of their arguments
 
-by_values : (of : Values → Option Command) (m : ArgMatches) (kept : Option Kept) → IsWhole ReadsAll (rows_of (found_of m)) kept
+by_values : (of : Values → Option Command) (m : ArgMatches) (kept : Option Kept)
+    → IsWhole ReadsAll (rows_of (found_of m)) kept
     → of (first_value (found_of m)) ≡ option_and_then (λ k. of k.values) kept
 by_values of m (Some kept) reads = ap of (λ i id. (first_value-rows (found_of m) id ∙ reads id) i)
 by_values of m None reads = absurd reads
 
-none_kept : (of : Values → Option Command) (names : List Text) → ((values : Values) → wants names values ≡ true → of values ≡ None)
+none_kept : (of : Values → Option Command) (names : List Text)
+    → ((values : Values) → wants names values ≡ true → of values ≡ None)
     → (kept : Option Kept) → HasNone names kept → option_and_then (λ k. of k.values) kept ≡ None
 none_kept of names wanted (Some kept) none = wanted kept.values none
 none_kept of names wanted None none = refl
 
-module _ (app built : App) (words : List Text) (names : List Text) (form : List ℕ → Form) (read : List Part → Option Command) (of : Values → Option Command)
-    (agree : Agrees names ReadsAll (fault_of app words) (matches_of app words) (keep_parts names nothing (parts_of form words)))
-    (kept_is : option_and_then (λ k. of k.values) (keep_parts names nothing (parts_of form words)) ≡ option_and_then read (parts_of form words))
+module _ (app built : App) (words : List Text) (names : List Text) (form : List ℕ → Form)
+    (read : List Part → Option Command) (of : Values → Option Command)
+    (agree : Agrees names ReadsAll (fault_of app words) (matches_of app words)
+    (keep_parts names nothing (parts_of form words)))
+    (kept_is : option_and_then (λ k. of k.values) (keep_parts names nothing (parts_of form words))
+    ≡ option_and_then read (parts_of form words))
     (wanted : (values : Values) → wants names values ≡ true → of values ≡ None)
     (same : built ≡ app) (given : Option ArgMatches) (told : IsGiven built words given) where
-  found : (m : ArgMatches) (command : Command) → given ≡ Some m → command ≡ unwrap_or (of (first_value (found_of m))) Usage → command ≡ command_by form read words
+  found : (m : ArgMatches) (command : Command) → given ≡ Some m
+      → command ≡ unwrap_or (of (first_value (found_of m))) Usage
+      → command ≡ command_by form read words
   found m command some is =
-      is ∙ ap (λ c. unwrap_or c Usage) (by_values of m _ (found_whole app built words names ReadsAll _ agree same given told m some) ∙ kept_is)
+      is ∙ ap (λ c. unwrap_or c Usage)
+      (by_values of m _ (found_whole app built words names ReadsAll _ agree same given told m some)
+      ∙ kept_is)
 
   none_found : given ≡ None → Usage ≡ command_by form read words
   none_found none =
-      ap (λ c. unwrap_or c Usage) (sym (none_kept of names wanted _ (refused_none app built words names ReadsAll _ agree same given told none)) ∙ kept_is)
+      ap (λ c. unwrap_or c Usage) (sym
+      (none_kept of names wanted _ (refused_none app built words names ReadsAll _ agree same given
+      told none)) ∙ kept_is)
 
 no_model : (values : Values) → wants model_name values ≡ true → check_with values ≡ None
 no_model values wanted = go (values (codes "model")) refl
@@ -93,7 +122,8 @@ no_files values wanted = go (values (codes "model")) refl (values (codes "proof"
     one [] = refl
     one (byte ∷ model) = refl
 
-    go : (model : Option Text) → values (codes "model") ≡ model → (proof : Option Text) → values (codes "proof") ≡ proof → recheck_with values ≡ None
+    go : (model : Option Text) → values (codes "model") ≡ model → (proof : Option Text)
+        → values (codes "proof") ≡ proof → recheck_with values ≡ None
     go None e proof f = rw e refl
     go (Some model) e None f = rw (e, f, one model) refl
     go (Some model) e (Some proof) f = let bad : false ≡ true = rw (e, f) at wanted in cc
@@ -106,48 +136,66 @@ module _ {Z : Type 0} (words : List (String Z)) where
 
   module _ (built : App) (given : Option ArgMatches) (told : IsGiven built texts given) where
     pub check_found : built ≡ check_app → (m : ArgMatches) (command : Command) → given ≡ Some m
-        → command ≡ unwrap_or (check_with (first_value (found_of m))) Usage → command ≡ command_by check_form check_of texts
-    check_found same = found check_app built texts model_name check_form check_of check_with (check_agrees texts (all_utf8 words)) (check_words texts) no_model same given told
+        → command ≡ unwrap_or (check_with (first_value (found_of m))) Usage
+        → command ≡ command_by check_form check_of texts
+    check_found same =
+        found check_app built texts model_name check_form check_of check_with
+        (check_agrees texts (all_utf8 words)) (check_words texts) no_model same given told
 
-    pub check_refused : built ≡ check_app → given ≡ None → Usage ≡ command_by check_form check_of texts
-    check_refused same = none_found check_app built texts model_name check_form check_of check_with (check_agrees texts (all_utf8 words)) (check_words texts) no_model same given told
+    pub check_refused : built ≡ check_app → given ≡ None
+        → Usage ≡ command_by check_form check_of texts
+    check_refused same =
+        none_found check_app built texts model_name check_form check_of check_with
+        (check_agrees texts (all_utf8 words)) (check_words texts) no_model same given told
 
     pub recheck_found : built ≡ recheck_app → (m : ArgMatches) (command : Command) → given ≡ Some m
-        → command ≡ unwrap_or (recheck_with (first_value (found_of m))) Usage → command ≡ command_by recheck_form recheck_of texts
+        → command ≡ unwrap_or (recheck_with (first_value (found_of m))) Usage
+        → command ≡ command_by recheck_form recheck_of texts
     recheck_found same =
-        found recheck_app built texts file_names recheck_form recheck_of recheck_with (recheck_agrees texts (all_utf8 words)) (recheck_words texts) no_files same given told
+        found recheck_app built texts file_names recheck_form recheck_of recheck_with
+        (recheck_agrees texts (all_utf8 words)) (recheck_words texts) no_files same given told
 
-    pub recheck_refused : built ≡ recheck_app → given ≡ None → Usage ≡ command_by recheck_form recheck_of texts
+    pub recheck_refused : built ≡ recheck_app → given ≡ None
+        → Usage ≡ command_by recheck_form recheck_of texts
     recheck_refused same =
-        none_found recheck_app built texts file_names recheck_form recheck_of recheck_with (recheck_agrees texts (all_utf8 words)) (recheck_words texts) no_files same given told
+        none_found recheck_app built texts file_names recheck_form recheck_of recheck_with
+        (recheck_agrees texts (all_utf8 words)) (recheck_words texts) no_files same given told
 
     -- the flag of `gen` is read as a text
-    by_flag : (m : ArgMatches) (command : Command) (kept : Option Kept) (wanted : Option Command) → IsWhole ReadsGen (rows_of (found_of m)) kept → IsGen wanted kept
-        → ((check : Bool) → one_text (found_of m) (codes "check") ≡ Some (bool_text check) → command ≡ unwrap_or (gen_with (first_value (found_of m)) check) Usage)
+    by_flag : (m : ArgMatches) (command : Command) (kept : Option Kept) (wanted : Option Command)
+        → IsWhole ReadsGen (rows_of (found_of m)) kept → IsGen wanted kept
+        → ((check : Bool) → one_text (found_of m) (codes "check") ≡ Some (bool_text check)
+        → command ≡ unwrap_or (gen_with (first_value (found_of m)) check) Usage)
         → command ≡ unwrap_or wanted Usage
     by_flag m command (Some kept) wanted reads gives is =
         is gives.0 (one_text-rows (found_of m) (codes "check") ∙ reads.1 gives.0 gives.1)
-        ∙ ap (λ c. unwrap_or c Usage) (ap (λ number. gen_by number gives.0) (first_value-rows (found_of m) (codes "number") ∙ reads.0) ∙ sym gives.2)
+        ∙ ap (λ c. unwrap_or c Usage) (ap (λ number. gen_by number gives.0)
+        (first_value-rows (found_of m) (codes "number") ∙ reads.0) ∙ sym gives.2)
       where
         gen_by : Option Text → Bool → Option Command
         gen_by number = gen_with (λ id. number)
     by_flag m command None wanted reads gives is = absurd reads
 
-    no_gen : (kept : Option Kept) (wanted : Option Command) → HasNone number_name kept → IsGen wanted kept → wanted ≡ None
+    no_gen : (kept : Option Kept) (wanted : Option Command) → HasNone number_name kept
+        → IsGen wanted kept → wanted ≡ None
     no_gen (Some kept) wanted none gives = gives.2 ∙ go (kept.values (codes "number")) refl
       where
-        go : (number : Option Text) → kept.values (codes "number") ≡ number → gen_with kept.values gives.0 ≡ None
+        go : (number : Option Text) → kept.values (codes "number") ≡ number
+            → gen_with kept.values gives.0 ≡ None
         go None e = rw e refl
         go (Some number) e = let bad : false ≡ true = rw e at none in cc
     no_gen None wanted none gives = gives
 
     pub gen_found : built ≡ gen_app → (m : ArgMatches) (command : Command) → given ≡ Some m
-        → ((check : Bool) → one_text (found_of m) (codes "check") ≡ Some (bool_text check) → command ≡ unwrap_or (gen_with (first_value (found_of m)) check) Usage)
+        → ((check : Bool) → one_text (found_of m) (codes "check") ≡ Some (bool_text check)
+        → command ≡ unwrap_or (gen_with (first_value (found_of m)) check) Usage)
         → command ≡ command_by gen_form gen_of texts
     gen_found same m command some is =
-        by_flag m command _ _ (found_whole gen_app built texts number_name ReadsGen _ (gen_agrees texts (all_utf8 words)) same given told m some) (gen_words texts) is
+        by_flag m command _ _ (found_whole gen_app built texts number_name ReadsGen _
+        (gen_agrees texts (all_utf8 words)) same given told m some) (gen_words texts) is
 
     pub gen_refused : built ≡ gen_app → given ≡ None → Usage ≡ command_by gen_form gen_of texts
     gen_refused same none =
         ap (λ c. unwrap_or c Usage)
-        (sym (no_gen _ _ (refused_none gen_app built texts number_name ReadsGen _ (gen_agrees texts (all_utf8 words)) same given told none) (gen_words texts)))
+        (sym (no_gen _ _ (refused_none gen_app built texts number_name ReadsGen _
+        (gen_agrees texts (all_utf8 words)) same given told none) (gen_words texts)))

@@ -1,5 +1,6 @@
 -- What clap finds for each command.
-use Rattle.std.proofs.Common.{◌≡◌, true, false, List, [], ◌∷◌, codes, Option, Some, None, is_some, refl, sym, subst}
+use Rattle.std.proofs.Common.{◌≡◌, true, false, List, [], ◌∷◌, codes, Option, Some, None, is_some}
+use Rattle.std.proofs.Common.{refl, sym, subst}
 use Rattle.clap.specs.Walk.{Text, nothing_held, rows_after, stop_after}
 use Rattle.clap.specs.Simple.{App, Shape, entered, matches_of}
 use Rattle.clap.specs.Faults.{built_fault, entered_fault, fault_of, is_simple_and_free, level_fault}
@@ -7,9 +8,12 @@ use Rattle.command_words.specs.Given.{check_app, gen_app, recheck_app}
 use Rattle.command_words.specs.Parts.{parts_of, check_form, gen_form, recheck_form}
 use Rattle.command_words.proofs.Kept.{file_names, keep_parts, model_name, nothing, number_name}
 use Rattle.command_words.proofs.ClapTurns.{shape_with}
-use Rattle.command_words.proofs.ClapWalk.{Agrees, AllUtf8, agrees}
-use Rattle.command_words.proofs.ClapForms.{check_met, check_rules, check_short, gen_met, gen_rules, gen_short, recheck_met, recheck_rules, recheck_short}
-use Rattle.command_words.proofs.ClapEnds.{ReadsAll, ReadsGen, check_ending, gen_ending, recheck_ending}
+use Rattle.command_words.proofs.ClapAgrees.{Agrees, AllUtf8}
+use Rattle.command_words.proofs.ClapWalk.{agrees}
+use Rattle.command_words.proofs.ClapForms.{check_met, check_rules, check_short, gen_met, gen_rules}
+use Rattle.command_words.proofs.ClapForms.{gen_short, recheck_met, recheck_rules, recheck_short}
+use Rattle.command_words.proofs.ClapEnds.{ReadsAll, ReadsGen, check_ending, gen_ending}
+use Rattle.command_words.proofs.ClapEnds.{recheck_ending}
 
 pub check_simple : is_simple_and_free check_app ≡ true
 check_simple = refl
@@ -25,32 +29,43 @@ module _ (shape : Shape) where
   abbrev leaf : App
   leaf = record { top = shape; subs = [] }
 
-  one_level : (words : List Text) → built_fault leaf nothing_held words ≡ level_fault shape [] nothing_held words false []
+  one_level : (words : List Text)
+      → built_fault leaf nothing_held words ≡ level_fault shape [] nothing_held words false []
   one_level words = go (stop_after shape.rules [] words)
     where
       go : (stop : Option (Text × List Text))
-          → level_fault shape [] nothing_held words (is_some (entered leaf stop)) (entered_fault leaf stop) ≡ level_fault shape [] nothing_held words false []
+          → level_fault shape [] nothing_held words (is_some (entered leaf stop))
+          (entered_fault leaf stop) ≡ level_fault shape [] nothing_held words false []
       go None = refl
       go (Some p) = refl
 
 pub check_agrees : (words : List Text) → AllUtf8 words
-    → Agrees model_name ReadsAll (fault_of check_app words) (matches_of check_app words) (keep_parts model_name nothing (parts_of check_form words))
+    → Agrees model_name ReadsAll (fault_of check_app words) (matches_of check_app words)
+    (keep_parts model_name nothing (parts_of check_form words))
 check_agrees words utf8 =
-    subst (λ fault. Agrees model_name ReadsAll fault (rows_after check_rules [] words) (keep_parts model_name nothing (parts_of check_form words)))
+    subst (λ fault. Agrees model_name ReadsAll fault (rows_after check_rules [] words)
+    (keep_parts model_name nothing (parts_of check_form words)))
     (sym (one_level (shape_with (codes "check") check_rules) words))
-    (agrees (codes "check") model_name check_rules check_form ReadsAll (refl, refl, refl) (λ char. refl) check_short (λ byte bytes. check_met (byte ∷ bytes)) check_ending words utf8)
+    (agrees (codes "check") model_name check_rules check_form ReadsAll (refl, refl, refl)
+    (λ char. refl) check_short (λ byte bytes. check_met (byte ∷ bytes)) check_ending words utf8)
 
 pub recheck_agrees : (words : List Text) → AllUtf8 words
-    → Agrees file_names ReadsAll (fault_of recheck_app words) (matches_of recheck_app words) (keep_parts file_names nothing (parts_of recheck_form words))
+    → Agrees file_names ReadsAll (fault_of recheck_app words) (matches_of recheck_app words)
+    (keep_parts file_names nothing (parts_of recheck_form words))
 recheck_agrees words utf8 =
-    subst (λ fault. Agrees file_names ReadsAll fault (rows_after recheck_rules [] words) (keep_parts file_names nothing (parts_of recheck_form words)))
+    subst (λ fault. Agrees file_names ReadsAll fault (rows_after recheck_rules [] words)
+    (keep_parts file_names nothing (parts_of recheck_form words)))
     (sym (one_level (shape_with (codes "recheck") recheck_rules) words))
-    (agrees (codes "recheck") file_names recheck_rules recheck_form ReadsAll (refl, refl, (refl, refl, refl)) (λ char. refl) recheck_short
+    (agrees (codes "recheck") file_names recheck_rules recheck_form ReadsAll
+    (refl, refl, (refl, refl, refl)) (λ char. refl) recheck_short
     (λ byte bytes. recheck_met (byte ∷ bytes)) recheck_ending words utf8)
 
 pub gen_agrees : (words : List Text) → AllUtf8 words
-    → Agrees number_name ReadsGen (fault_of gen_app words) (matches_of gen_app words) (keep_parts number_name nothing (parts_of gen_form words))
+    → Agrees number_name ReadsGen (fault_of gen_app words) (matches_of gen_app words)
+    (keep_parts number_name nothing (parts_of gen_form words))
 gen_agrees words utf8 =
-    subst (λ fault. Agrees number_name ReadsGen fault (rows_after gen_rules [] words) (keep_parts number_name nothing (parts_of gen_form words)))
+    subst (λ fault. Agrees number_name ReadsGen fault (rows_after gen_rules [] words)
+    (keep_parts number_name nothing (parts_of gen_form words)))
     (sym (one_level (shape_with (codes "gen") gen_rules) words))
-    (agrees (codes "gen") number_name gen_rules gen_form ReadsGen (refl, refl, refl) (λ char. refl) gen_short (λ byte bytes. gen_met (byte ∷ bytes)) gen_ending words utf8)
+    (agrees (codes "gen") number_name gen_rules gen_form ReadsGen (refl, refl, refl) (λ char. refl)
+    gen_short (λ byte bytes. gen_met (byte ∷ bytes)) gen_ending words utf8)

@@ -1,21 +1,28 @@
 -- The option words of each command, to clap and to the definitions.
-use Rattle.std.proofs.Common.{◌≡◌, ◌∙◌, ◌+◌, ℕ, ◌==◌, Bool, true, false, List, [], ◌∷◌, ◌++◌, take, drop, length, nat_eq, codes, bytes_eq, Option, Some, None, if◌then◌else◌, refl, sym, ap, subst, ne_eqb}
+use Rattle.std.proofs.Common.{◌≡◌, ◌∙◌, ◌+◌, ℕ, ◌==◌, Bool, true, false, List, [], ◌∷◌, ◌++◌, take}
+use Rattle.std.proofs.Common.{drop, length, nat_eq, codes, bytes_eq, Option, Some, None}
+use Rattle.std.proofs.Common.{if◌then◌else◌, refl, sym, ap, subst, ne_eqb}
 use Rattle.std.specs.List.{starts_with}
 use Rattle.std.proofs.lemmas.Slice.Eq.{bytes_eq-Decides}
 use Rattle.std.proofs.lemmas.List.{take-append-drop}
 use Rattle.clap.specs.Walk.{Rule, Text, arg_by_id, arg_by_long}
-use Rattle.command_words.specs.Given.{Values}
-use Rattle.command_words.specs.Parts.{Part, Nodes, Proof, Check, Form, Unknown, Whole, Valued, check_form, gen_form, option_or, recheck_form}
-use Rattle.command_words.proofs.ClapTurns.{Meets, MeetsNone, MeetsValued, MeetsJoined, MeetsFlag, MeetsUnneeded}
+use Rattle.command_words.specs.Parts.{Part, Nodes, Proof, Check, Form, Unknown, Whole, Valued}
+use Rattle.command_words.specs.Parts.{check_form, gen_form, option_or, recheck_form}
+use Rattle.command_words.proofs.ClapTurns.{Meets, MeetsNone, MeetsValued, MeetsJoined, MeetsFlag}
+use Rattle.command_words.proofs.ClapTurns.{MeetsUnneeded}
 use Rattle.command_words.proofs.ClapUses.{Takes, operand_built, option_built, flag_built}
-use Rattle.command_words.proofs.Kept.{keep, keep_as}
+use Rattle.command_words.proofs.Kept.{KeepsAs}
 use Rattle.command_words.proofs.WordForms.{IsCut, cut, name_in, value_in}
 
 abbrev pub check_rules : List Rule
-check_rules = operand_built 1 (codes "model") ∷ option_built (codes "nodes") ∷ option_built (codes "proof") ∷ []
+check_rules =
+    operand_built 1 (codes "model") ∷ option_built (codes "nodes") ∷ option_built (codes "proof")
+    ∷ []
 
 abbrev pub recheck_rules : List Rule
-recheck_rules = operand_built 1 (codes "model") ∷ operand_built 2 (codes "proof") ∷ option_built (codes "nodes") ∷ []
+recheck_rules =
+    operand_built 1 (codes "model") ∷ operand_built 2 (codes "proof") ∷ option_built (codes "nodes")
+    ∷ []
 
 abbrev pub gen_rules : List Rule
 gen_rules = operand_built 1 (codes "number") ∷ flag_built (codes "check") ∷ []
@@ -23,15 +30,20 @@ gen_rules = operand_built 1 (codes "number") ∷ flag_built (codes "check") ∷ 
 -- ---- no option has one dash
 
 turned : (byte : ℕ) → (byte == 45) ≡ false → (45 == byte) ≡ false
-turned byte other = ne_eqb 45 byte (λ e. let bad : (45 == 45) ≡ false = subst (λ b. (b == 45) ≡ false) (sym e) other in cc)
+turned byte other = ne_eqb 45 byte (λ e.
+    let bad : (45 == 45) ≡ false = subst (λ b. (b == 45) ≡ false) (sym e) other in
+    cc)
 
-pub check_short : (byte : ℕ) (bytes : List ℕ) → (byte == 45) ≡ false → check_form (45 ∷ byte ∷ bytes) ≡ Unknown
+pub check_short : (byte : ℕ) (bytes : List ℕ) → (byte == 45) ≡ false
+    → check_form (45 ∷ byte ∷ bytes) ≡ Unknown
 check_short byte bytes other = rw (other, turned byte other) refl
 
-pub recheck_short : (byte : ℕ) (bytes : List ℕ) → (byte == 45) ≡ false → recheck_form (45 ∷ byte ∷ bytes) ≡ Unknown
+pub recheck_short : (byte : ℕ) (bytes : List ℕ) → (byte == 45) ≡ false
+    → recheck_form (45 ∷ byte ∷ bytes) ≡ Unknown
 recheck_short byte bytes other = rw (other, turned byte other) refl
 
-pub gen_short : (byte : ℕ) (bytes : List ℕ) → (byte == 45) ≡ false → gen_form (45 ∷ byte ∷ bytes) ≡ Unknown
+pub gen_short : (byte : ℕ) (bytes : List ℕ) → (byte == 45) ≡ false
+    → gen_form (45 ∷ byte ∷ bytes) ≡ Unknown
 gen_short byte bytes other = rw other refl
 
 -- ---- texts whose name is known
@@ -39,13 +51,18 @@ gen_short byte bytes other = rw other refl
 alone : (name text : List ℕ) → bytes_eq name (name_in text) ≡ true → IsCut text None → text ≡ name
 alone name text e is = sym is ∙ sym ((bytes_eq-Decides name (name_in text)).0 e)
 
-joined : (name text value : List ℕ) → bytes_eq name (name_in text) ≡ true → IsCut text (Some value) → text ≡ name ++ 61 ∷ value
-joined name text value e is = is ∙ ap (λ n. n ++ 61 ∷ value) (sym ((bytes_eq-Decides name (name_in text)).0 e))
+joined : (name text value : List ℕ) → bytes_eq name (name_in text) ≡ true → IsCut text (Some value)
+    → text ≡ name ++ 61 ∷ value
+joined name text value e is =
+    is ∙ ap (λ n. n ++ 61 ∷ value) (sym ((bytes_eq-Decides name (name_in text)).0 e))
 
 -- a text with another name is one of the other options
-other_or : (name : Text) → bytes_eq name (name_in name) ≡ true → ((more : Text) → bytes_eq name (name_in ((name ++ codes "=") ++ more)) ≡ true)
-    → (part : Text → Part) (others : Form) (text : Text) → bytes_eq name (name_in text) ≡ false → option_or (45 ∷ 45 ∷ name) part others (45 ∷ 45 ∷ text) ≡ others
-other_or name named named_before part others text other = go (bytes_eq word option) refl (starts_with nat_eq word joined_option) refl
+other_or : (name : Text) → bytes_eq name (name_in name) ≡ true
+    → ((more : Text) → bytes_eq name (name_in ((name ++ codes "=") ++ more)) ≡ true)
+    → (part : Text → Part) (others : Form) (text : Text) → bytes_eq name (name_in text) ≡ false
+    → option_or (45 ∷ 45 ∷ name) part others (45 ∷ 45 ∷ text) ≡ others
+other_or name named named_before part others text other =
+    go (bytes_eq word option) refl (starts_with nat_eq word joined_option) refl
   where
     word : Text
     word = 45 ∷ 45 ∷ text
@@ -57,72 +74,107 @@ other_or name named named_before part others text other = go (bytes_eq word opti
     joined_option = 45 ∷ 45 ∷ (name ++ codes "=")
 
     never : (t : Text) → text ≡ t → bytes_eq name (name_in t) ≡ true → ⊥
-    never t is same = let bad : true ≡ false = sym same ∙ subst (λ t. bytes_eq name (name_in t) ≡ false) is other in cc
+    never t is same =
+        let here = subst (λ t. bytes_eq name (name_in t) ≡ false) is other in
+        let bad : true ≡ false = sym same ∙ here in
+        cc
 
-    go : (is_alone : Bool) → bytes_eq word option ≡ is_alone → (is_joined : Bool) → starts_with nat_eq word joined_option ≡ is_joined
-        → (if is_alone then Valued part else if is_joined then Whole (part (drop (length option + 1) word)) else others) ≡ others
-    go true e is_joined f = absurd (never name (ap (drop 2) ((bytes_eq-Decides word option).0 e)) named)
+    go : (is_alone : Bool) → bytes_eq word option ≡ is_alone → (is_joined : Bool)
+        → starts_with nat_eq word joined_option ≡ is_joined
+        → (if is_alone then Valued part
+        else if is_joined then Whole (part (drop (length option + 1) word))
+        else others) ≡ others
+    go true e is_joined f =
+        absurd (never name (ap (drop 2) ((bytes_eq-Decides word option).0 e)) named)
     go false e true f =
         let n = length joined_option in
-        let begins : joined_option ≡ take n word = (bytes_eq-Decides joined_option (take n word)).0 f in
-        let is : word ≡ joined_option ++ drop n word = sym (take-append-drop n word) ∙ ap (λ t. t ++ drop n word) (sym begins) in
-        absurd (never ((name ++ codes "=") ++ drop n word) (ap (drop 2) is) (named_before (drop n word)))
+        let begins = (bytes_eq-Decides joined_option (take n word)).0 f in
+        let is : word ≡ joined_option ++ drop n word =
+        sym (take-append-drop n word) ∙ ap (λ t. t ++ drop n word) (sym begins) in
+        absurd (never ((name ++ codes "=") ++ drop n word) (ap (drop 2) is)
+        (named_before (drop n word)))
     go false e false f = refl
 
 -- ---- what clap and the definitions make of each text
 
-option_taken : (rules : List Rule) (name : Text) → arg_by_id rules name ≡ Some (option_built name) → Takes rules name
+option_taken : (rules : List Rule) (name : Text) → arg_by_id rules name ≡ Some (option_built name)
+    → Takes rules name
 option_taken rules name is = record { long = Some name; place = None; is_required = false; is = is }
 
 -- the text has the name of this option, which has a value
 module _ (rules : List Rule) (form : List ℕ → Form) (name : Text) (part : Text → Part)
-    (keeps : (free : List Text) (values : Values) (value : Text) → keep free values (part value) ≡ keep_as free values name value)
-    (by_id : arg_by_id rules name ≡ Some (option_built name)) (by_long : arg_by_long rules name ≡ Some (option_built name))
-    (form_alone : form (45 ∷ 45 ∷ name) ≡ Valued part) (form_joined : (value : Text) → form (45 ∷ 45 ∷ (name ++ 61 ∷ value)) ≡ Whole (part value)) where
-  option_meets : (text : Text) → bytes_eq name (name_in text) ≡ true → (value : Option Text) → value_in text ≡ value → IsCut text value → Meets rules form text
-  option_meets text e None f is =
-      MeetsValued name part keeps (option_taken rules name by_id) (subst (λ n. arg_by_long rules n ≡ Some (option_built name)) ((bytes_eq-Decides name (name_in text)).0 e) by_long) f
-      (subst (λ t. form (45 ∷ 45 ∷ t) ≡ Valued part) (sym (alone name text e is)) form_alone)
-  option_meets text e (Some value) f is =
-      MeetsJoined name (part value) value (λ free values. keeps free values value) (subst (λ n. arg_by_long rules n ≡ Some (option_built name)) ((bytes_eq-Decides name (name_in text)).0 e) by_long) f
-      (subst (λ t. form (45 ∷ 45 ∷ t) ≡ Whole (part value)) (sym (joined name text value e is)) (form_joined value))
+    (keeps : (value : Text) → KeepsAs (part value) name value)
+    (by_id : arg_by_id rules name ≡ Some (option_built name))
+    (by_long : arg_by_long rules name ≡ Some (option_built name))
+    (form_alone : form (45 ∷ 45 ∷ name) ≡ Valued part)
+    (form_joined : (value : Text) → form (45 ∷ 45 ∷ (name ++ 61 ∷ value)) ≡ Whole (part value))
+  where
+    option_meets : (text : Text) → bytes_eq name (name_in text) ≡ true → (value : Option Text)
+        → value_in text ≡ value → IsCut text value → Meets rules form text
+    option_meets text e None f is =
+        MeetsValued name part keeps (option_taken rules name by_id)
+        (subst (λ n. arg_by_long rules n ≡ Some (option_built name))
+        ((bytes_eq-Decides name (name_in text)).0 e) by_long) f
+        (subst (λ t. form (45 ∷ 45 ∷ t) ≡ Valued part) (sym (alone name text e is)) form_alone)
+    option_meets text e (Some value) f is =
+        MeetsJoined name (part value) value (keeps value)
+        (subst (λ n. arg_by_long rules n ≡ Some (option_built name))
+        ((bytes_eq-Decides name (name_in text)).0 e) by_long) f
+        (subst (λ t. form (45 ∷ 45 ∷ t) ≡ Whole (part value)) (sym (joined name text value e is))
+        (form_joined value))
 
 pub check_met : (text : Text) → Meets check_rules check_form text
-check_met text = go (bytes_eq (codes "nodes") (name_in text)) refl (bytes_eq (codes "proof") (name_in text)) refl
+check_met text =
+    go (bytes_eq (codes "nodes") (name_in text)) refl (bytes_eq (codes "proof") (name_in text)) refl
   where
-    go : (is_nodes : Bool) → bytes_eq (codes "nodes") (name_in text) ≡ is_nodes → (is_proof : Bool) → bytes_eq (codes "proof") (name_in text) ≡ is_proof → Meets check_rules check_form text
+    go : (is_nodes : Bool) → bytes_eq (codes "nodes") (name_in text) ≡ is_nodes → (is_proof : Bool)
+        → bytes_eq (codes "proof") (name_in text) ≡ is_proof → Meets check_rules check_form text
     go true e is_proof f =
-        option_meets check_rules check_form (codes "nodes") Nodes (λ free values value. refl) refl refl refl (λ value. refl) text e (value_in text) refl (cut text)
+        option_meets check_rules check_form (codes "nodes") Nodes (λ value free values. refl) refl
+        refl refl (λ value. refl) text e (value_in text) refl (cut text)
     go false e true f =
-        option_meets check_rules check_form (codes "proof") Proof (λ free values value. refl) refl refl refl (λ value. refl) text f (value_in text) refl (cut text)
+        option_meets check_rules check_form (codes "proof") Proof (λ value free values. refl) refl
+        refl refl (λ value. refl) text f (value_in text) refl (cut text)
     go false e false f = MeetsNone (rw (e, f) refl)
-        (other_or (codes "nodes") refl (λ more. refl) Nodes _ text e ∙ other_or (codes "proof") refl (λ more. refl) Proof Unknown text f)
+        (other_or (codes "nodes") refl (λ more. refl) Nodes _ text e
+        ∙ other_or (codes "proof") refl (λ more. refl) Proof Unknown text f)
 
 pub recheck_met : (text : Text) → Meets recheck_rules recheck_form text
 recheck_met text = go (bytes_eq (codes "nodes") (name_in text)) refl
   where
-    go : (is_nodes : Bool) → bytes_eq (codes "nodes") (name_in text) ≡ is_nodes → Meets recheck_rules recheck_form text
+    go : (is_nodes : Bool) → bytes_eq (codes "nodes") (name_in text) ≡ is_nodes
+        → Meets recheck_rules recheck_form text
     go true e =
-        option_meets recheck_rules recheck_form (codes "nodes") Nodes (λ free values value. refl) refl refl refl (λ value. refl) text e (value_in text) refl (cut text)
-    go false e = MeetsNone (rw e refl) (other_or (codes "nodes") refl (λ more. refl) Nodes Unknown text e)
+        option_meets recheck_rules recheck_form (codes "nodes") Nodes (λ value free values. refl)
+        refl refl refl (λ value. refl) text e (value_in text) refl (cut text)
+    go false e =
+        MeetsNone (rw e refl) (other_or (codes "nodes") refl (λ more. refl) Nodes Unknown text e)
 
 -- no other text is the flag
-other_check : (text : Text) → bytes_eq (codes "check") (name_in text) ≡ false → gen_form (45 ∷ 45 ∷ text) ≡ Unknown
+other_check : (text : Text) → bytes_eq (codes "check") (name_in text) ≡ false
+    → gen_form (45 ∷ 45 ∷ text) ≡ Unknown
 other_check text other = go (bytes_eq (45 ∷ 45 ∷ text) (codes "--check")) refl
   where
-    go : (alone : Bool) → bytes_eq (45 ∷ 45 ∷ text) (codes "--check") ≡ alone → (if alone then Whole Check else Unknown) ≡ Unknown
+    go : (alone : Bool) → bytes_eq (45 ∷ 45 ∷ text) (codes "--check") ≡ alone
+        → (if alone then Whole Check else Unknown) ≡ Unknown
     go true e =
-        let is : text ≡ codes "check" = ap (drop 2) ((bytes_eq-Decides (45 ∷ 45 ∷ text) (codes "--check")).0 e) in
-        let bad : bytes_eq (codes "check") (name_in (codes "check")) ≡ false = subst (λ t. bytes_eq (codes "check") (name_in t) ≡ false) is other in
+        let is = (bytes_eq-Decides (45 ∷ 45 ∷ text) (codes "--check")).0 e in
+        let named : bytes_eq (codes "check") (name_in (codes "check")) ≡ true = refl in
+        let here = subst (λ t. bytes_eq (codes "check") (name_in (drop 2 t)) ≡ false) is other in
+        let bad : true ≡ false = sym named ∙ here in
         cc
     go false e = refl
 
 pub gen_met : (text : Text) → Meets gen_rules gen_form text
 gen_met text = go (bytes_eq (codes "check") (name_in text)) refl (value_in text) refl (cut text)
   where
-    go : (is_check : Bool) → bytes_eq (codes "check") (name_in text) ≡ is_check → (value : Option Text) → value_in text ≡ value → IsCut text value → Meets gen_rules gen_form text
+    go : (is_check : Bool) → bytes_eq (codes "check") (name_in text) ≡ is_check
+        → (value : Option Text) → value_in text ≡ value → IsCut text value
+        → Meets gen_rules gen_form text
     go false e value f is = MeetsNone (rw e refl) (other_check text e)
     go true e None f is = MeetsFlag (codes "check") Check (λ free values. refl) (rw e refl) f
-        (subst (λ t. gen_form (45 ∷ 45 ∷ t) ≡ Whole Check) (sym (alone (codes "check") text e is)) refl)
+        (subst (λ t. gen_form (45 ∷ 45 ∷ t) ≡ Whole Check) (sym (alone (codes "check") text e is))
+        refl)
     go true e (Some value) f is = MeetsUnneeded (codes "check") value (rw e refl) f
-        (subst (λ t. gen_form (45 ∷ 45 ∷ t) ≡ Unknown) (sym (joined (codes "check") text value e is)) refl)
+        (subst (λ t. gen_form (45 ∷ 45 ∷ t) ≡ Unknown)
+        (sym (joined (codes "check") text value e is)) refl)

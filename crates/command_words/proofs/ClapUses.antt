@@ -1,5 +1,6 @@
 -- The arguments of a command as clap builds them, and one use of each.
-use Rattle.std.proofs.Common.{◌≡◌, ◌+◌, ℕ, Bool, true, false, List, [], ◌∷◌, min, Option, Some, None, refl}
+use Rattle.std.proofs.Common.{◌≡◌, ◌+◌, ℕ, Bool, true, false, List, [], ◌∷◌, min, Option, Some}
+use Rattle.std.proofs.Common.{None, refl}
 use Rattle.clap.specs.Lexer.{usize_max}
 use Rattle.clap.specs.Walk.{Row, Rule, Text, arg_by_id, arg_by_index, has_row}
 use Rattle.clap.specs.Simple.{filled}
@@ -8,8 +9,10 @@ use Rattle.command_words.specs.Given.{flag_rule, option_rule}
 use Rattle.command_words.proofs.ClapFaults.{IsFault}
 
 -- an argument that has a value: an option with its long name, or an operand with its place
-abbrev pub valued : (name : Text) → (long : Option Text) → (place : Option ℕ) → (is_required : Bool) → Rule
-valued name long place is_required = record (filled (option_rule name)) { long = long; index = place; required = is_required }
+abbrev pub valued : (name : Text) → (long : Option Text) → (place : Option ℕ) → (is_required : Bool)
+    → Rule
+valued name long place is_required =
+    record (filled (option_rule name)) { long = long; index = place; required = is_required }
 
 abbrev pub option_built : Text → Rule
 option_built name = valued name (Some name) None false
@@ -31,15 +34,19 @@ pub record Takes (rules : List Rule) (name : Text) : Type 0 where
 abbrev pub IsPlaced : List Rule → ℕ → List Text → Type 0
 IsPlaced rules place [] = arg_by_index rules place ≡ None
 IsPlaced rules place (name ∷ names) =
-    (arg_by_index rules place ≡ Some (operand_built place name)) × (arg_by_id rules name ≡ Some (operand_built place name))
+    (arg_by_index rules place ≡ Some (operand_built place name))
+    × (arg_by_id rules name ≡ Some (operand_built place name))
     × IsPlaced rules (min (place + 1) usize_max) names
 
 -- a first use passes, and no second one
-module _ (name : Text) (long : Option Text) (place : Option ℕ) (is_required : Bool) (rows : List Row) where
-  pub use_first : (word : Text) → has_row name rows ≡ false → use_fault false (valued name long place is_required) (word ∷ []) rows ≡ []
+module _ (name : Text) (long : Option Text) (place : Option ℕ) (is_required : Bool)
+    (rows : List Row) where
+  pub use_first : (word : Text) → has_row name rows ≡ false
+      → use_fault false (valued name long place is_required) (word ∷ []) rows ≡ []
   use_first word new = rw new refl
 
-  pub use_again : (word : Text) → has_row name rows ≡ true → IsFault (use_fault false (valued name long place is_required) (word ∷ []) rows)
+  pub use_again : (word : Text) → has_row name rows ≡ true
+      → IsFault (use_fault false (valued name long place is_required) (word ∷ []) rows)
   use_again word there = rw there tt
 
   -- no use passes without a value

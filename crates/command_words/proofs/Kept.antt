@@ -1,8 +1,9 @@
 -- What is kept of the parts of words: one value of each argument at most.
-use Rattle.std.proofs.Common.{ℕ, Bool, true, false, ◌||◌, not, List, [], ◌∷◌, Option, Some, None, is_some, if◌then◌else◌, codes, bytes_eq}
+use Rattle.std.proofs.Common.{◌≡◌, ℕ, Bool, true, false, ◌||◌, not, List, [], ◌∷◌, Option, Some}
+use Rattle.std.proofs.Common.{None, is_some, refl, if◌then◌else◌, codes, bytes_eq}
 use Rattle.std.specs.Option.{option_and_then}
 use Rattle.command_words.specs.Given.{Values}
-use Rattle.command_words.specs.Parts.{Part, Operand, Nodes, Proof, Check}
+use Rattle.command_words.specs.Parts.{Part, Operand, Nodes, Proof, Check, before}
 
 abbrev pub nothing : Values
 nothing name = None
@@ -50,14 +51,36 @@ keep free values (Nodes value) = keep_as free values (codes "nodes") value
 keep free values (Proof name) = keep_as free values (codes "proof") name
 keep free values Check = keep_as free values (codes "check") (codes "true")
 
+-- the part is kept as this value of this argument
+abbrev pub KeepsAs : Part → (name value : List ℕ) → Type 0
+KeepsAs part name value =
+    (free : List (List ℕ)) (values : Values)
+    → keep free values part ≡ keep_as free values name value
+
 -- with all of these parts
 abbrev pub keep_all : List (List ℕ) → Values → List Part → Option Kept
 keep_all free values [] = Some (record { free = free; values = values })
-keep_all free values (part ∷ others) = option_and_then (λ more. keep_all more.free more.values others) (keep free values part)
+keep_all free values (part ∷ others) =
+    option_and_then (λ more. keep_all more.free more.values others) (keep free values part)
 
 -- with these parts, where they are parts
 abbrev pub keep_parts : List (List ℕ) → Values → Option (List Part) → Option Kept
 keep_parts free values = option_and_then (keep_all free values)
+
+-- with the parts of the words behind
+abbrev pub then_keep : Option (List Part) → Option Kept → Option Kept
+then_keep parts = option_and_then (λ more. keep_parts more.free more.values parts)
+
+pub keep_before : (free : List (List ℕ)) (values : Values) (part : Part)
+    (parts : Option (List Part))
+    → keep_parts free values (before part parts) ≡ then_keep parts (keep free values part)
+keep_before free values part (Some parts) = refl
+keep_before free values part None = go (keep free values part)
+  where
+    go : (more : Option Kept)
+        → ◌≡◌ {A = Option Kept} None (option_and_then {T = Kept} {U = Kept} (λ m. None) more)
+    go None = refl
+    go (Some m) = refl
 
 -- one of these operands has no word
 abbrev pub wants : List (List ℕ) → Values → Bool

@@ -1,3 +1,4 @@
+mod ClapAgrees
 mod ClapAnswers
 mod ClapCommands
 mod ClapEnds

@@ -1,10 +1,13 @@
 -- What clap is told of each command, and what the words are by what it finds. Devices of the proof.
-use Rattle.std.specs.Prelude.{ℕ, Bool, true, List, [], ◌∷◌, Option, Some, None, codes, if◌then◌else◌}
+use Rattle.std.specs.Prelude.{ℕ, Bool, true, List, [], ◌∷◌, Option, Some, None, codes}
+use Rattle.std.specs.Prelude.{if◌then◌else◌}
 use Rattle.std.specs.Option.{option_map, option_and_then}
 use Rattle.clap.specs.Words.{App, Rule, new_app, new_rule, with_rule}
 use Rattle.clap.specs.Simple.{on_top}
 use Rattle.clap.specs.declared.builder.action.ArgAction.TheVariants.{Set, SetTrue}
-use Rattle.command_words.specs.Words.{Command, Print, File, Ring, Decide, Recheck, work_on, usual_limit, only_file, two_files, only_number, only_limit, only_proofs}
+use Rattle.command_words.specs.Words.{Command, Print, File, Ring, Decide, Recheck, work_on}
+use Rattle.command_words.specs.Words.{usual_limit, only_file, two_files, only_number, only_limit}
+use Rattle.command_words.specs.Words.{only_proofs}
 
 -- an operand of this name
 abbrev pub operand_rule : List ℕ → Rule
@@ -20,7 +23,8 @@ flag_rule name = record (new_rule name) { long = Some name; action = Some SetTru
 
 -- a command with no help
 abbrev pub bare_app : (name : List ℕ) → App
-bare_app name = on_top (λ s. record s { no_binary_name = true; disable_help_flag = true }) (new_app name)
+bare_app name =
+    on_top (λ s. record s { no_binary_name = true; disable_help_flag = true }) (new_app name)
 
 abbrev pub check_app : App
 check_app =
@@ -36,7 +40,8 @@ recheck_app =
 
 abbrev pub gen_app : App
 gen_app =
-    with_rule (with_rule (bare_app (codes "gen")) (operand_rule (codes "number"))) (flag_rule (codes "check"))
+    with_rule (with_rule (bare_app (codes "gen")) (operand_rule (codes "number")))
+    (flag_rule (codes "check"))
 
 -- the one word that an argument has, or none
 abbrev pub list_of : Option (List ℕ) → List (List ℕ)
@@ -62,7 +67,8 @@ check_lists models limits names =
 
 abbrev pub check_with : Values → Option Command
 check_with values =
-    check_lists (list_of (values (codes "model"))) (list_of (values (codes "nodes"))) (list_of (values (codes "proof")))
+    check_lists (list_of (values (codes "model"))) (list_of (values (codes "nodes")))
+    (list_of (values (codes "proof")))
 
 -- the command `recheck` with these operands, and values of `--nodes`
 abbrev pub recheck_lists : (files limits : List (List ℕ)) → Option Command
@@ -79,7 +85,8 @@ both_of (Some first) second = first ∷ list_of second
 
 abbrev pub recheck_with : Values → Option Command
 recheck_with values =
-    recheck_lists (both_of (values (codes "model")) (values (codes "proof"))) (list_of (values (codes "nodes")))
+    recheck_lists (both_of (values (codes "model")) (values (codes "proof")))
+    (list_of (values (codes "nodes")))
 
 -- the command `gen` with this operand, where `--check` stands or not
 abbrev pub gen_with : Values → Bool → Option Command

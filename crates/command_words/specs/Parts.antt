@@ -1,5 +1,6 @@
 -- The parts of the words behind a command: operands, and options with their values.
-use Rattle.std.specs.Prelude.{ℕ, ◌+◌, Bool, false, List, [], ◌∷◌, ◌++◌, Option, Some, None, if◌then◌else◌, ◌==◌, bytes_eq, nat_eq, codes, map, drop, length}
+use Rattle.std.specs.Prelude.{ℕ, ◌+◌, Bool, false, List, [], ◌∷◌, ◌++◌, Option, Some, None}
+use Rattle.std.specs.Prelude.{if◌then◌else◌, ◌==◌, bytes_eq, nat_eq, codes, map, drop, length}
 use Rattle.std.specs.List.{starts_with}
 use Rattle.std.specs.Option.{option_map}
 
@@ -22,11 +23,13 @@ pub data Form : Type 0 where
   Valued : (List ℕ → Part) → Form
 
 -- The option word is this option alone, whose value is the next word, or it has the value behind
--- `=`; or it is one of the others.
-abbrev pub option_or : (option : List ℕ) → (List ℕ → Part) → (others : Form) → (word : List ℕ) → Form
+-- `=`; or else it is one of the others.
+abbrev pub option_or : (option : List ℕ) → (List ℕ → Part) → (others : Form) → (word : List ℕ)
+    → Form
 option_or option part others word =
     if bytes_eq word option then Valued part
-    else if starts_with nat_eq word (option ++ codes "=") then Whole (part (drop (length option + 1) word))
+    else if starts_with nat_eq word (option ++ codes "=")
+    then Whole (part (drop (length option + 1) word))
     else others
 
 -- The options of `check`: `--nodes N` and `--nodes=N`, `--proof FILE` and `--proof=FILE`.

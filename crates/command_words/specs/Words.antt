@@ -1,8 +1,10 @@
 -- What the words of a command line ask for.
-use Rattle.std.specs.Prelude.{ℕ, zero, suc, ◌<◌, ◌≤◌, ◌^◌, Bool, true, false, List, [], ◌∷◌, Option, Some, None, if◌then◌else◌, bytes_eq, codes, unwrap_or}
+use Rattle.std.specs.Prelude.{ℕ, zero, suc, ◌<◌, ◌≤◌, ◌^◌, Bool, true, false, List, [], ◌∷◌}
+use Rattle.std.specs.Prelude.{Option, Some, None, if◌then◌else◌, bytes_eq, codes, unwrap_or}
 use Rattle.std.specs.Option.{option_map, option_and_then}
 use Rattle.command_words.specs.Number.{number_of}
-use Rattle.command_words.specs.Parts.{Part, Form, check_form, gen_form, recheck_form, parts_of, operands, limits, proofs, checks}
+use Rattle.command_words.specs.Parts.{Part, Form, check_form, gen_form, recheck_form, parts_of}
+use Rattle.command_words.specs.Parts.{operands, limits, proofs, checks}
 
 -- where a model comes from
 pub data Source : Type 0 where
@@ -60,7 +62,8 @@ only_limit [] = Some usual_limit
 only_limit (value ∷ []) = number_of 2147483647 value
 only_limit values = None
 
--- the one name that proofs are saved under, or that there is none: a file's name, and not the model's
+-- the one name that proofs are saved under, or that there is none; a name is not empty, and not the
+-- model's
 abbrev pub only_proofs : (model : List ℕ) → List (List ℕ) → Option (Option (List ℕ))
 only_proofs model [] = Some None
 only_proofs model ((byte ∷ name) ∷ []) =

@@ -14,7 +14,8 @@ use std::alloc::{AllocError, Global};
 
 // `check`: the operand is the name of the model's file.
 pub(crate) fn read_check(alloc: Global, words: &[String]) -> Result<Command<'_>, AllocError>
-    ensures command { IfOk result (λ command. asked command ≡ command_by check_form check_of (map string_bytes words.now)) }
+    ensures command { IfOk result (λ command.
+        asked command ≡ command_by check_form check_of (map string_bytes words.now)) }
     ensures limits { IfOk result (λ command. HasLimits (asked command)) }
 {
     match given(check_words(alloc)?, words)? {
@@ -33,7 +34,8 @@ fn check_words<'a>(alloc: Global) -> Result<clap::Command<'a>, AllocError>
 }
 
 fn check_command<'a>(matches: &ArgMatches<'a>) -> Command<'a>
-    ensures { asked result ≡ unwrap_or (check_with (first_value (found_of matches.now))) commands.Usage }
+    ensures { asked result
+        ≡ unwrap_or (check_with (first_value (found_of matches.now))) commands.Usage }
 {
     let (Some(model), Some(limit)) = (given_file(matches, "model"), given_limit(matches)) else {
         return Command::Usage;

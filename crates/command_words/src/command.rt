@@ -47,14 +47,14 @@ pub enum Job<'a> {
 
 /// The command that the words after the program's name are.
 ///
-/// - `check MODEL [--nodes N] [--proof FILE]`, with N from 1 to 2,147,483,647, and 1,000,000 where no
-///   limit is asked for. The proofs are saved under a name that is not the model's
-/// - `gen N [--check]`, with N from 1 to 999
+/// - `check MODEL [--nodes N] [--proof FILE]`, with N from 1 to 2,147,483,647, and 1,000,000 where
+///   no limit is asked for; FILE is another name than MODEL
 /// - `recheck MODEL PROOF [--nodes N]`, with N as for `check`
+/// - `gen N [--check]`, with N from 1 to 999
 ///
 /// Options and operands mix freely, `--nodes=N` is the same as `--nodes N`, and behind a word `--`
-/// each word is an operand. No file's name is empty. All other words are `Usage`. An `Err` comes for
-/// want of memory alone.
+/// each word is an operand. No file's name is empty. All other words are `Usage`. An `Err` comes
+/// for want of memory alone.
 pub fn read_words(alloc: Global, words: &[String]) -> Result<Command<'_>, AllocError>
     ensures command { IfOk result (λ command. asked command ≡ command_of (map string_bytes words.now)) }
     ensures limits { IfOk result (λ command. HasLimits (asked command)) }

@@ -1,8 +1,11 @@
 // What clap is told of a command, and what it finds in the words behind it.
-ghost use Rattle.std.specs.Prelude.{◌≡◌, ◌≢◌, [], IfOk, MatchOption, false, option_map, true, map, string_bytes};
-ghost use Rattle.clap.specs.Words.{app_of, fault_of, first_value, found_of, is_simple_and_free, matches_of, rows_of, rule_of};
+ghost use Rattle.std.specs.Prelude.{◌≡◌, ◌≢◌, [], IfOk, MatchOption, false, option_map, true, map};
+ghost use Rattle.std.specs.Prelude.{string_bytes};
+ghost use Rattle.clap.specs.Words.{app_of, fault_of, first_value, found_of, is_simple_and_free};
+ghost use Rattle.clap.specs.Words.{matches_of, rows_of, rule_of};
 ghost use Rattle.command_words.specs.Words.{only_file};
-ghost use Rattle.command_words.specs.Given.{bare_app, flag_rule, limit_with, list_of, operand_rule, option_rule};
+ghost use Rattle.command_words.specs.Given.{bare_app, flag_rule, limit_with, list_of};
+ghost use Rattle.command_words.specs.Given.{operand_rule, option_rule};
 
 use crate::number::read_number;
 use clap::error::ErrorKind;
@@ -22,7 +25,8 @@ pub(crate) fn given<'a>(
     ensures { IfOk result (λ given. MatchOption given
         (fault_of (app_of command.entry) (map string_bytes words.entry.now) ≢ [])
         (λ matches. (fault_of (app_of command.entry) (map string_bytes words.entry.now) ≡ [])
-        × (rows_of (found_of matches) ≡ matches_of (app_of command.entry) (map string_bytes words.entry.now)))) }
+        × (rows_of (found_of matches)
+        ≡ matches_of (app_of command.entry) (map string_bytes words.entry.now)))) }
 {
     match command.try_get_matches_from(words) {
         Ok(matches) => Ok(Some(matches)),
@@ -66,7 +70,8 @@ pub(crate) fn flag<'a>(alloc: Global, name: &'a str) -> Arg<'a>
 
 // The name of a file that this argument gives, which is not empty.
 pub(crate) fn given_file<'a>(matches: &ArgMatches<'a>, argument: &str) -> Option<&'a str>
-    ensures { option_map (λ name. name.now) result ≡ only_file (list_of (first_value (found_of matches.now) argument.now)) }
+    ensures { option_map (λ name. name.now) result
+        ≡ only_file (list_of (first_value (found_of matches.now) argument.now)) }
 {
     match matches.get_str(argument) {
         Some(name) if !name.is_empty() => Some(name),

@@ -14,7 +14,8 @@ use std::alloc::{AllocError, Global};
 
 // `recheck`: the operands are the names of the model's file and of the proof file.
 pub(crate) fn read_recheck(alloc: Global, words: &[String]) -> Result<Command<'_>, AllocError>
-    ensures command { IfOk result (λ command. asked command ≡ command_by recheck_form recheck_of (map string_bytes words.now)) }
+    ensures command { IfOk result (λ command.
+        asked command ≡ command_by recheck_form recheck_of (map string_bytes words.now)) }
     ensures limits { IfOk result (λ command. HasLimits (asked command)) }
 {
     match given(recheck_words(alloc)?, words)? {
@@ -33,7 +34,8 @@ fn recheck_words<'a>(alloc: Global) -> Result<clap::Command<'a>, AllocError>
 }
 
 fn recheck_command<'a>(matches: &ArgMatches<'a>) -> Command<'a>
-    ensures { asked result ≡ unwrap_or (recheck_with (first_value (found_of matches.now))) commands.Usage }
+    ensures { asked result
+        ≡ unwrap_or (recheck_with (first_value (found_of matches.now))) commands.Usage }
 {
     let (Some(model), Some(proofs)) = (given_file(matches, "model"), given_file(matches, "proof"))
     else {

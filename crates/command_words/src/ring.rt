@@ -18,7 +18,8 @@ const LARGEST_RING: u32 = 999;
 
 // `gen`: the operand is the number of processes.
 pub(crate) fn read_gen(alloc: Global, words: &[String]) -> Result<Command<'_>, AllocError>
-    ensures command { IfOk result (λ command. asked command ≡ command_by gen_form gen_of (map string_bytes words.now)) }
+    ensures command { IfOk result (λ command.
+        asked command ≡ command_by gen_form gen_of (map string_bytes words.now)) }
     ensures limits { IfOk result (λ command. HasLimits (asked command)) }
 {
     match given(gen_words(alloc)?, words)? {
@@ -36,8 +37,10 @@ fn gen_words<'a>(alloc: Global) -> Result<clap::Command<'a>, AllocError>
 }
 
 fn gen_command<'a>(matches: &ArgMatches<'a>) -> Command<'a>
-    ensures { (check : Bool) → one_text (found_of matches.now) (codes "check") ≡ Some (bool_text check)
-        → asked result ≡ unwrap_or (gen_with (first_value (found_of matches.now)) check) commands.Usage }
+    ensures { (check : Bool)
+        → one_text (found_of matches.now) (codes "check") ≡ Some (bool_text check)
+        → asked result
+        ≡ unwrap_or (gen_with (first_value (found_of matches.now)) check) commands.Usage }
 {
     let Some(word) = matches.get_str("number") else {
         return Command::Usage;

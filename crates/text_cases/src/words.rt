@@ -21,16 +21,33 @@ fn words_of(alloc: Global, text: &str) -> Result<Vec<String>, AllocError> {
     Ok(words)
 }
 
-/// Adds what work is asked for: its job, where its model comes from, and the limit on nodes.
-fn tell_work(work: &Work<'_>, answer: &mut String) -> Result<(), AllocError> {
-    match work.job {
-        Job::Decide => answer.push_str("check ")?,
-    }
-    match work.source {
+/// Adds where a model comes from.
+fn tell_source(source: &Source<'_>, answer: &mut String) -> Result<(), AllocError> {
+    match source {
         Source::File(name) => answer.push_str(name)?,
         Source::Ring(n) => write!(answer, "ring of {n}")?,
     }
-    write!(answer, " {}", work.limit)?;
+    Ok(())
+}
+
+/// Adds what work is asked for: its job, where its model comes from, the limit on nodes, and the
+/// proof file that is named.
+fn tell_work(work: &Work<'_>, answer: &mut String) -> Result<(), AllocError> {
+    match work.job {
+        Job::Decide { proofs } => {
+            answer.push_str("check ")?;
+            tell_source(&work.source, answer)?;
+            write!(answer, " {}", work.limit)?;
+            if let Some(name) = proofs {
+                write!(answer, " proof {name}")?;
+            }
+        }
+        Job::Recheck { proofs } => {
+            answer.push_str("recheck ")?;
+            tell_source(&work.source, answer)?;
+            write!(answer, " {proofs} {}", work.limit)?;
+        }
+    }
     Ok(())
 }
 

@@ -5,10 +5,16 @@ use Rattle.command_words.proofs.Ranges.{check_limits}
 use Rattle.command_words.proofs.check.read_check.Goals as goal
 
 pub returns-in-Some-clause-command : goal.returns-in-Some-clause-command
-returns-in-Some-clause-command c = check_found c.args.words.now _ _ c.in_ok-matches.ensures c.in_ok-check_words.ensures c.in-Some.matches _ c.in-Some.is c.check_command.ensures
+returns-in-Some-clause-command c =
+    check_found c.args.words.now _ _ c.in_ok-matches.ensures c.in_ok-check_words.ensures
+    c.in-Some.matches _ c.in-Some.is c.check_command.ensures
 
 pub returns-in-Some-clause-limits : goal.returns-in-Some-clause-limits
-returns-in-Some-clause-limits c = subst HasLimits (sym (returns-in-Some-clause-command c)) (check_limits (map string_bytes c.args.words.now))
+returns-in-Some-clause-limits c =
+    subst HasLimits (sym (returns-in-Some-clause-command c))
+    (check_limits (map string_bytes c.args.words.now))
 
 pub returns-in-None-clause-command : goal.returns-in-None-clause-command
-returns-in-None-clause-command c = check_refused c.args.words.now _ _ c.in_ok-matches.ensures c.in_ok-check_words.ensures c.in-None.is
+returns-in-None-clause-command c =
+    check_refused c.args.words.now _ _ c.in_ok-matches.ensures c.in_ok-check_words.ensures
+    c.in-None.is

@@ -5,7 +5,9 @@ use Rattle.command_words.proofs.ClapAnswers.{taken, refused}
 use Rattle.command_words.proofs.given.given.Goals as goal
 
 pub returns-in-Ok : goal.returns-in-Ok
-returns-in-Ok c = taken (app_of c.args.command) c.requires (map string_bytes c.args.words.now) c.in-Ok.matches c.in-Ok.ensures.kinds c.in-Ok.ensures.matches
+returns-in-Ok c =
+    taken (app_of c.args.command) c.requires (map string_bytes c.args.words.now) c.in-Ok.matches
+    c.in-Ok.ensures.kinds c.in-Ok.ensures.matches
 
 pub returns : goal.returns
 returns c =
@@ -14,4 +16,5 @@ returns c =
     let told = rw memory at c.eq.ensures in
     let bad : true ≡ false = sym told ∙ c.if-eq.false in
     cc in
-    refused (app_of c.args.command) c.requires (map string_bytes c.args.words.now) c.in-Err.error c.in-Err.ensures.kinds other
+    refused (app_of c.args.command) c.requires (map string_bytes c.args.words.now) c.in-Err.error
+    c.in-Err.ensures.kinds other

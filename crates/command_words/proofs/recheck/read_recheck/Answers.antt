@@ -5,10 +5,16 @@ use Rattle.command_words.proofs.Ranges.{recheck_limits}
 use Rattle.command_words.proofs.recheck.read_recheck.Goals as goal
 
 pub returns-in-Some-clause-command : goal.returns-in-Some-clause-command
-returns-in-Some-clause-command c = recheck_found c.args.words.now _ _ c.in_ok-matches.ensures c.in_ok-recheck_words.ensures c.in-Some.matches _ c.in-Some.is c.recheck_command.ensures
+returns-in-Some-clause-command c =
+    recheck_found c.args.words.now _ _ c.in_ok-matches.ensures c.in_ok-recheck_words.ensures
+    c.in-Some.matches _ c.in-Some.is c.recheck_command.ensures
 
 pub returns-in-Some-clause-limits : goal.returns-in-Some-clause-limits
-returns-in-Some-clause-limits c = subst HasLimits (sym (returns-in-Some-clause-command c)) (recheck_limits (map string_bytes c.args.words.now))
+returns-in-Some-clause-limits c =
+    subst HasLimits (sym (returns-in-Some-clause-command c))
+    (recheck_limits (map string_bytes c.args.words.now))
 
 pub returns-in-None-clause-command : goal.returns-in-None-clause-command
-returns-in-None-clause-command c = recheck_refused c.args.words.now _ _ c.in_ok-matches.ensures c.in_ok-recheck_words.ensures c.in-None.is
+returns-in-None-clause-command c =
+    recheck_refused c.args.words.now _ _ c.in_ok-matches.ensures c.in_ok-recheck_words.ensures
+    c.in-None.is

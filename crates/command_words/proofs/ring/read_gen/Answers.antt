@@ -5,10 +5,15 @@ use Rattle.command_words.proofs.Ranges.{gen_limits}
 use Rattle.command_words.proofs.ring.read_gen.Goals as goal
 
 pub returns-in-Some-clause-command : goal.returns-in-Some-clause-command
-returns-in-Some-clause-command c = gen_found c.args.words.now _ _ c.in_ok-matches.ensures c.in_ok-gen_words.ensures c.in-Some.matches _ c.in-Some.is c.gen_command.ensures
+returns-in-Some-clause-command c =
+    gen_found c.args.words.now _ _ c.in_ok-matches.ensures c.in_ok-gen_words.ensures
+    c.in-Some.matches _ c.in-Some.is c.gen_command.ensures
 
 pub returns-in-Some-clause-limits : goal.returns-in-Some-clause-limits
-returns-in-Some-clause-limits c = subst HasLimits (sym (returns-in-Some-clause-command c)) (gen_limits (map string_bytes c.args.words.now))
+returns-in-Some-clause-limits c =
+    subst HasLimits (sym (returns-in-Some-clause-command c))
+    (gen_limits (map string_bytes c.args.words.now))
 
 pub returns-in-None-clause-command : goal.returns-in-None-clause-command
-returns-in-None-clause-command c = gen_refused c.args.words.now _ _ c.in_ok-matches.ensures c.in_ok-gen_words.ensures c.in-None.is
+returns-in-None-clause-command c =
+    gen_refused c.args.words.now _ _ c.in_ok-matches.ensures c.in_ok-gen_words.ensures c.in-None.is
