@@ -3,7 +3,6 @@ use Rattle.std.proofs.Common.{◌≡◌, inl, inr, ℕ, List, [], ◌∷◌, len
 use Rattle.command_words.specs.Words.{Job, Work, Decide, Recheck}
 use Rattle.kripke_model.specs.Faults.{IsFaultless}
 use Rattle.kripke_model.specs.System.{System, Condition}
-use Rattle.proof_answers.specs.Rechecked.{LeavesUnanswered}
 use Rattle.smv_outside.specs.Contents.{Contents}
 use Rattle.smv_session.specs.Answers.{Takes}
 use Rattle.smv_session.specs.Commands.{AreFoundIn, ExportsProofs, IsRechecked, RechecksProofs, ReportsVerdicts, ShowsStates, TellsOfProofs}
@@ -11,7 +10,7 @@ use Rattle.smv_session.specs.Jobs.{Does, IsSecond, Undecides}
 use Rattle.smv_session.specs.Session.{Leaves, Puts, Session, Shows, TakesModels}
 use Rattle.smv_texts.specs.Replies.{Reply, text_of}
 use Rattle.smv_texts.specs.Report.{Finding, Unknown, report}
-use Rattle.spec_verdicts.specs.Checked.{Checked, SavesProofs, all_unknown}
+use Rattle.spec_verdicts.specs.Checked.{Checked, LeavesUnknown, SavesProofs, all_unknown}
 use Rattle.spec_verdicts.specs.Verdicts.{EachFinding, IsVerdict, ShowsState, ShowStates}
 
 -- ---- check
@@ -37,11 +36,9 @@ told_of : (m : System) (proofs : Option (List ℕ)) (fs : List Finding) (saves :
 told_of m None fs saves is = is.1
 told_of m (Some name) fs saves is = tt
 
-undecided : (job : Job) (m : System) (limit : ℕ) (proofs : Option (List ℕ)) (r : Reply) → job ≡ Decide proofs → Undecides job m limit r → Finds m limit proofs r
-undecided (Recheck name) m limit proofs r is u = cc
-undecided (Decide other) m limit proofs r is u =
-    let same : other ≡ proofs = cc in
-    let saves = subst (λ (o : Option (List ℕ)). SavesProofs m o (all_unknown m limit) r.saves) same u.saves in
+undecided : (m : System) (limit : ℕ) (proofs : Option (List ℕ)) (r : Reply) → LeavesUnknown m limit proofs r → Finds m limit proofs r
+undecided m limit proofs r u =
+    let saves = u.saves in
     record {
       findings = all_unknown m limit;
       text = u.text;
@@ -52,7 +49,7 @@ undecided (Decide other) m limit proofs r is u =
 
 module _ (w : Work) (contents : Option Contents) (m : System) (r : Reply) (proofs : Option (List ℕ)) (is : w.job ≡ Decide proofs) where
   finds : Takes w contents m r → Finds m w.limit proofs r
-  finds (inl u) = undecided w.job m w.limit proofs r is u
+  finds (inl u) = undecided m w.limit proofs r (subst (λ job. Undecides job m w.limit r) is u)
   finds (inr done) =
       let does : Checked m w.limit proofs r = subst (λ job. Does job m w.limit done.second r) is done.does in
       record { findings = does.findings; text = does.text; found = record { verdicts = does.verdicts; known = inl done.faultless; told = told_of m proofs does.findings r.saves does.saves }; states = does.states; saves = does.saves }
@@ -87,10 +84,6 @@ exported s takes = record {
 
 -- ---- recheck
 
-unanswered : (job : Job) (m : System) (limit : ℕ) (proofs : List ℕ) (r : Reply) → job ≡ Recheck proofs → Undecides job m limit r → LeavesUnanswered m limit r
-unanswered (Decide other) m limit proofs r is u = cc
-unanswered (Recheck name) m limit proofs r is u = u
-
 second_of : (s : Session) (m : System) (limit : ℕ) (proofs : List ℕ) (r : Reply) (second : Option (List ℕ)) → IsFaultless m → Shows s r → IsSecond (Recheck proofs) s.contents second → Does (Recheck proofs) m limit second r
     → IsRechecked s m limit proofs
 second_of s m limit proofs r None faultless shows there does = absurd does
@@ -101,7 +94,7 @@ rechecked s takes = record {
   rechecks = λ quiet w bytes m proofs asks is has other.
       let taken = takes.takes quiet w bytes m asks has other in
       elim taken.1 [
-        | inl u ↦ inl (taken.0, unanswered w.job m w.limit proofs taken.0 is u, taken.2)
+        | inl u ↦ inl (taken.0, subst (λ (job : Job). Undecides job m w.limit taken.0) is u, taken.2)
         | inr done ↦ inr (second_of s m w.limit proofs taken.0 done.second done.faultless taken.2
             (subst (λ (job : Job). IsSecond job s.contents done.second) is done.loaded) (subst (λ (job : Job). Does job m w.limit done.second taken.0) is done.does))
       ];

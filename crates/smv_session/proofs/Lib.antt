@@ -10,6 +10,7 @@ pub mod BitCounts
 pub mod FormulaPlaces
 pub mod BlockPlaces
 pub mod NotBuilt
+pub mod Built
 pub mod FaultLemmas
 pub mod OneAnswer
 pub mod SourceLemmas

@@ -1,17 +1,16 @@
 -- Why a model has no relation with its variables in declared order.
-use Rattle.std.proofs.Common.{◌≡◌, ◌∙◌, ℕ, ◌≤◌, List, length, Result, Ok, Err, IfErr, IfOk, OnOk, sym, subst}
+use Rattle.std.proofs.Common.{◌∙◌, ℕ, ◌≤◌, List, length, Result, Ok, Err, IfErr, OnOk, sym, subst}
 use Rattle.std.specs.Prelude.{All}
 use Rattle.std.proofs.lemmas.List.{length-map}
 use Rattle.kripke_model.specs.System.{System}
 use Rattle.bit_encode.specs.Code.{IsOrder, types_of, state_bits}
 use Rattle.bit_encode.specs.Layouts.{Accepts}
-use Rattle.proof_text.specs.Written.{own_order}
-use Rattle.trans_parts.specs.Building.{IsBuilt, Refuses}
+use Rattle.trans_parts.specs.Building.{Refuses}
 use Rattle.trans_parts.specs.declared.building.BuildRefusal.{BuildRefusal}
 use Rattle.trans_parts.specs.declared.building.BuildRefusal.TheVariants as refusals
 use Rattle.trans_parts.specs.declared.parts.Parts.{Parts}
 use Rattle.smv_session.specs.Source.{most_state_bits}
-use Rattle.smv_session.specs.Relation.{AreOver, IsNotBuilt}
+use Rattle.smv_session.specs.Relation.{IsNotBuilt}
 use Rattle.smv_session.proofs.BitCounts.{few_bits, told_count}
 
 module _ (m : System) (order : List ℕ) (limit : ℕ) (few : length m.vars ≤ 256) (short : All (λ v. length v.values ≤ 1024) m.vars) (ordered : IsOrder (length m.vars) order) where
@@ -29,8 +28,3 @@ module _ (m : System) (order : List ℕ) (limit : ℕ) (few : length m.vars ≤ 
 pub few_bits_of : (m : System) (order : List ℕ) (r : Result Parts BuildRefusal) → OnOk r (Accepts (types_of m) order) → OnOk r (state_bits m ≤ most_state_bits)
 few_bits_of m order (Ok p) h = h.few
 few_bits_of m order (Err e) h = tt
-
--- the parts that are built are over the model
-pub built_over : (m copy : System) (order : List ℕ) (limit : ℕ) (r : Result Parts BuildRefusal) → copy ≡ m → order ≡ own_order m → IfOk r (IsBuilt copy order limit) → IfOk r (AreOver m limit)
-built_over m copy order limit (Ok p) same is built = record { model_is = built.model ∙ same; limit_is = built.limit_is; order_is = built.order_is ∙ is }
-built_over m copy order limit (Err e) same is built = tt
