@@ -13,4 +13,5 @@ pub declared_is : (n : ℕ) → declared n ≡ range_with_len 0 n
 declared_is zero = refl
 declared_is (suc n) =
     let last : 0 + n ≡ n = omega arith in
-    ap (λ ks. ks ++ n ∷ []) (declared_is n) ∙ sym (range_more 0 n ∙ ap (λ k. range_with_len 0 n ++ k ∷ []) last)
+    ap (λ ks. ks ++ n ∷ []) (declared_is n)
+    ∙ sym (range_more 0 n ∙ ap (λ k. range_with_len 0 n ++ k ∷ []) last)

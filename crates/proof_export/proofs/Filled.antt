@@ -8,23 +8,32 @@ use Rattle.proof_form.specs.Form.{Proof, sets_of}
 use Rattle.proof_form.specs.Pinned.{IsFilled}
 use Rattle.proof_export.proofs.Mapped.{sets_mapped}
 
-module _ {A : Type 0} (p : Proof A) (numbers : List ℕ) (q : Proof ℕ) (filled : IsFilled p numbers q) where
+module _ {A : Type 0} (p : Proof A) (numbers : List ℕ) (q : Proof ℕ)
+    (filled : IsFilled p numbers q) where
   pub claim_filled : A → q.claim ≡ p.claim
-  claim_filled d = sym (ap (λ (r : Proof ℕ). r.claim) filled.there) ∙ ap (λ (r : Proof A). r.claim) (filled.here d)
+  claim_filled d =
+      sym (ap (λ (r : Proof ℕ). r.claim) filled.there)
+      ∙ ap (λ (r : Proof A). r.claim) (filled.here d)
 
   pub at_filled : A → q.at ≡ p.at
-  at_filled d = sym (ap (λ (r : Proof ℕ). r.at) filled.there) ∙ ap (λ (r : Proof A). r.at) (filled.here d)
+  at_filled d =
+      sym (ap (λ (r : Proof ℕ). r.at) filled.there) ∙ ap (λ (r : Proof A). r.at) (filled.here d)
 
   -- its sets are the numbers
-  sets_filled : sets_of q ≡ map (λ k. slice_index_or numbers k 0) (range_with_len 0 (length (sets_of p)))
-  sets_filled =
-      ap sets_of (sym filled.there) ∙ sets_mapped (λ k. slice_index_or numbers k 0) filled.places
-      ∙ ap (map (λ k. slice_index_or numbers k 0)) filled.counted
+  abbrev number : ℕ → ℕ
+  number k = slice_index_or numbers k 0
 
-  pub each_filled : (P : ℕ → Type 0) → ((k : ℕ) → k < length (sets_of p) → P (slice_index numbers k)) → All P (sets_of q)
+  sets_filled : sets_of q ≡ map number (range_with_len 0 (length (sets_of p)))
+  sets_filled =
+      ap sets_of (sym filled.there) ∙ sets_mapped number filled.places
+      ∙ ap (map number) filled.counted
+
+  pub each_filled : (P : ℕ → Type 0)
+      → ((k : ℕ) → k < length (sets_of p) → P (slice_index numbers k)) → All P (sets_of q)
   each_filled P h =
       let n : ℕ = length (sets_of p) in
-      subst (All P) (sym sets_filled) (All-map P (λ k. slice_index_or numbers k 0) (range_with_len 0 n)
+      subst (All P) (sym sets_filled) (All-map P number (range_with_len 0 n)
       (λ k d lt. let less : k < n = omega (arith, lt, length-range_with_len 0 n) in
-      let is : k ≡ slice_index_or (range_with_len 0 n) k d = omega (arith, get_or-range_with_len 0 n k d less) in
-      subst (λ i. P (slice_index_or numbers i 0)) is (h k less)))
+      let is : k ≡ slice_index_or (range_with_len 0 n) k d =
+      omega (arith, get_or-range_with_len 0 n k d less) in
+      subst (λ i. P (number i)) is (h k less)))

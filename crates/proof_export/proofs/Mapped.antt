@@ -1,55 +1,71 @@
 -- The sets of a proof over other sets.
-use Rattle.std.proofs.Common.{◌≡◌, List, [], ◌∷◌, ◌++◌, map, Option, Some, None, refl, sym, ◌∙◌, ap, ap₂}
+use Rattle.std.proofs.Common.{◌≡◌, List, [], ◌∷◌, ◌++◌, map, Option, Some, None}
+use Rattle.std.proofs.Common.{refl, sym, ◌∙◌, ap, ap₂}
 use Rattle.std.specs.Prelude.{flat_map, option_map}
 use Rattle.std.proofs.lemmas.List.{map-append}
 use Rattle.proof_form.specs.Form as form
-use Rattle.proof_form.specs.Form.{Layer, FairPart, Entry, FreeEntry, FreePart, Proof, EX, AX, AR, EU, AU, ER, map_layer, map_fair, map_rule, map_entry, map_free_entry, map_free, map_proof, layer_sets, fair_sets, rule_sets, entries_sets, free_sets, free_sets_of, sets_of}
+use Rattle.proof_form.specs.Form.{Layer, FairPart, Entry, FreeEntry, FreePart, Proof}
+use Rattle.proof_form.specs.Form.{EX, AX, AR, EU, AU, ER}
+use Rattle.proof_form.specs.Form.{map_layer, map_fair, map_rule, map_entry, map_free_entry}
+use Rattle.proof_form.specs.Form.{map_free, map_proof, layer_sets, fair_sets, rule_sets}
+use Rattle.proof_form.specs.Form.{entries_sets, free_sets_of, sets_of}
 
 module _ {A B : Type 0} (g : A → B) where
-  both_mapped : (xs ys : List A) (us vs : List B) → us ≡ map g xs → vs ≡ map g ys → us ++ vs ≡ map g (xs ++ ys)
-  both_mapped xs ys us vs a b = ap₂ (λ s t. s ++ t) a b ∙ sym (map-append g xs ys)
+  record IsMapped (xs : List A) (us : List B) : Type 0 where
+    is : us ≡ map g xs
 
-  layers_mapped : (ls : List (Layer A)) → layer_sets (map (map_layer g) ls) ≡ map g (layer_sets ls)
-  layers_mapped [] = refl
-  layers_mapped (l ∷ ls) = ap (λ sets. g l.set ∷ sets) (layers_mapped ls)
+  own : (xs : List A) → IsMapped xs (map g xs)
+  own xs = record { is = refl }
 
-  lists_mapped : (xs : List (List A)) → flat_map (λ sets. sets) (map (map g) xs) ≡ map g (flat_map (λ sets. sets) xs)
-  lists_mapped [] = refl
-  lists_mapped (x ∷ xs) = both_mapped x (flat_map (λ sets. sets) xs) (map g x) (flat_map (λ sets. sets) (map (map g) xs)) refl (lists_mapped xs)
+  first : {xs : List A} {us : List B} (x : A) → IsMapped xs us → IsMapped (x ∷ xs) (g x ∷ us)
+  first x p = record { is = ap (λ us. g x ∷ us) p.is }
 
-  fair_mapped : (p : FairPart A) → fair_sets (map_fair g p) ≡ map g (fair_sets p)
-  fair_mapped p = ap (λ sets. g p.inside ∷ sets) (lists_mapped p.reach)
+  both : {xs ys : List A} {us vs : List B} → IsMapped xs us → IsMapped ys vs
+      → IsMapped (xs ++ ys) (us ++ vs)
+  both {xs} {ys} p q =
+      record { is = ap₂ (λ us vs. us ++ vs) p.is q.is ∙ sym (map-append g xs ys) }
 
-  rule_mapped : (r : form.Rule A) → rule_sets (map_rule g r) ≡ map g (rule_sets r)
-  rule_mapped (EX set) = refl
-  rule_mapped (AX set) = refl
-  rule_mapped (AR set) = refl
-  rule_mapped (EU sets) = refl
-  rule_mapped (AU layers) = layers_mapped layers
-  rule_mapped (ER fair untils) = both_mapped (fair_sets fair) untils (fair_sets (map_fair g fair)) (map g untils) (fair_mapped fair) refl
+  layers : (ls : List (Layer A)) → IsMapped (layer_sets ls) (layer_sets (map (map_layer g) ls))
+  layers [] = own []
+  layers (l ∷ ls) = first l.set (layers ls)
 
-  entries_mapped : (es : List (Entry A)) → entries_sets (map (map_entry g) es) ≡ map g (entries_sets es)
-  entries_mapped [] = refl
-  entries_mapped (e ∷ es) = both_mapped (rule_sets e.rule) (entries_sets es) (rule_sets (map_rule g e.rule)) (entries_sets (map (map_entry g) es)) (rule_mapped e.rule) (entries_mapped es)
+  abbrev all : {X : Type 0} → List (List X) → List X
+  all lists = flat_map (λ sets. sets) lists
 
-  free_entries_mapped : (es : List (FreeEntry A)) → entries_sets (map (λ e. e.entry) (map (map_free_entry g) es)) ≡ map g (entries_sets (map (λ e. e.entry) es))
-  free_entries_mapped [] = refl
-  free_entries_mapped (e ∷ es) =
-      both_mapped (rule_sets e.entry.rule) (entries_sets (map (λ e. e.entry) es)) (rule_sets (map_rule g e.entry.rule)) (entries_sets (map (λ e. e.entry) (map (map_free_entry g) es)))
-      (rule_mapped e.entry.rule) (free_entries_mapped es)
+  lists : (xs : List (List A)) → IsMapped (all xs) (all (map (map g) xs))
+  lists [] = own []
+  lists (x ∷ xs) = both (own x) (lists xs)
 
-  free_mapped : (o : Option (FreePart A)) → free_sets_of (option_map (map_free g) o) ≡ map g (free_sets_of o)
-  free_mapped None = refl
-  free_mapped (Some p) =
-      both_mapped (layer_sets p.nonfair) (fair_sets p.fair ++ entries_sets (map (λ e. e.entry) p.entries)) (layer_sets (map (map_layer g) p.nonfair))
-      (fair_sets (map_fair g p.fair) ++ entries_sets (map (λ e. e.entry) (map (map_free_entry g) p.entries))) (layers_mapped p.nonfair)
-      (both_mapped (fair_sets p.fair) (entries_sets (map (λ e. e.entry) p.entries)) (fair_sets (map_fair g p.fair)) (entries_sets (map (λ e. e.entry) (map (map_free_entry g) p.entries)))
-      (fair_mapped p.fair) (free_entries_mapped p.entries))
+  fair : (part : FairPart A) → IsMapped (fair_sets part) (fair_sets (map_fair g part))
+  fair part = first part.inside (lists part.reach)
+
+  rule : (r : form.Rule A) → IsMapped (rule_sets r) (rule_sets (map_rule g r))
+  rule (EX set) = own (set ∷ [])
+  rule (AX set) = own (set ∷ [])
+  rule (AR set) = own (set ∷ [])
+  rule (EU sets) = own sets
+  rule (AU ls) = layers ls
+  rule (ER part untils) = both (fair part) (own untils)
+
+  entries : (es : List (Entry A)) → IsMapped (entries_sets es) (entries_sets (map (map_entry g) es))
+  entries [] = own []
+  entries (e ∷ es) = both (rule e.rule) (entries es)
+
+  abbrev inner : {X : Type 0} → List (FreeEntry X) → List (Entry X)
+  inner es = map (λ e. e.entry) es
+
+  free_entries : (es : List (FreeEntry A))
+      → IsMapped (entries_sets (inner es)) (entries_sets (inner (map (map_free_entry g) es)))
+  free_entries [] = own []
+  free_entries (e ∷ es) = both (rule e.entry.rule) (free_entries es)
+
+  free : (o : Option (FreePart A))
+      → IsMapped (free_sets_of o) (free_sets_of (option_map (map_free g) o))
+  free None = own []
+  free (Some p) = both (layers p.nonfair) (both (fair p.fair) (free_entries p.entries))
+
+  whole : (p : Proof A) → IsMapped (sets_of p) (sets_of (map_proof g p))
+  whole p = both (free p.free) (both (layers p.nonfair) (both (fair p.fair) (entries p.entries)))
 
   pub sets_mapped : (p : Proof A) → sets_of (map_proof g p) ≡ map g (sets_of p)
-  sets_mapped p =
-      both_mapped (free_sets_of p.free) (layer_sets p.nonfair ++ (fair_sets p.fair ++ entries_sets p.entries)) (free_sets_of (option_map (map_free g) p.free))
-      (layer_sets (map (map_layer g) p.nonfair) ++ (fair_sets (map_fair g p.fair) ++ entries_sets (map (map_entry g) p.entries))) (free_mapped p.free)
-      (both_mapped (layer_sets p.nonfair) (fair_sets p.fair ++ entries_sets p.entries) (layer_sets (map (map_layer g) p.nonfair))
-      (fair_sets (map_fair g p.fair) ++ entries_sets (map (map_entry g) p.entries)) (layers_mapped p.nonfair)
-      (both_mapped (fair_sets p.fair) (entries_sets p.entries) (fair_sets (map_fair g p.fair)) (entries_sets (map (map_entry g) p.entries)) (fair_mapped p.fair) (entries_mapped p.entries)))
+  sets_mapped p = (whole p).is

@@ -8,7 +8,8 @@ use Rattle.proof_text.specs.Written.{IsWritable, own_order}
 
 -- The text is that of a block, with the variables in declared order, that proves this claim of
 -- specification j, counted from 1: false at the state, if there is one.
-pub record IsBlockText (m : System) (j : ℕ) (claim : Bool) (at : Option State) (text : List ℕ) : Type 0 where
+pub record IsBlockText (m : System) (j : ℕ) (claim : Bool) (at : Option State) (text : List ℕ)
+    : Type 0 where
   pub block : Block
   pub spec_is : block.spec ≡ j
   pub claim_is : block.proof.claim ≡ claim

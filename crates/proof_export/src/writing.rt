@@ -35,10 +35,11 @@ fn text_over(
     write_block(alloc, model, spec, &numbered, &list.nodes)
 }
 
-/// The text of the block with a proof of a specification, counted from 1, as `write_block` gives it.
-/// The proof's pins stay where they are.
+/// The text of the block with a proof of a specification, counted from 1, as `write_block` gives
+/// it. The proof's pins stay where they are.
 ///
-/// `Full` comes only from a store that met its limit. No set is live after the call that was not before.
+/// `Full` comes only from a store that met its limit. No set is live after the call that was not
+/// before.
 pub fn block_text(
     alloc: Global,
     sets: &mut DiagramSets,
@@ -47,7 +48,8 @@ pub fn block_text(
     proof: &Proof<Pin>,
 ) -> Result<Vec<u8>, SetRefusal>
     requires over { (⟦<DiagramSets as StateSets>⟧.seen sets.old).over ≡ model.now }
-    requires order { (⟦<DiagramSets as StateSets>⟧.seen sets.old).gauge.order ≡ own_order model.now }
+    requires order { (⟦<DiagramSets as StateSets>⟧.seen sets.old).gauge.order
+        ≡ own_order model.now }
     requires live { AreLive (⟦<DiagramSets as StateSets>⟧.seen sets.old) (proof_slots proof.now) }
     requires proves { ProvesSpec model.now spec
         (over_states (⟦<DiagramSets as StateSets>⟧.seen sets.old) proof.now) }
