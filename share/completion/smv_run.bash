@@ -19,7 +19,7 @@ _smv_options() {
   local option options given=" ${*:2} "
   case $1 in
     check) options="--nodes --proof" ;;
-    recheck) options="--nodes" ;;
+    recheck | explain) options="--nodes" ;;
     gen) options="--check" ;;
   esac
   for option in $options; do
@@ -32,6 +32,7 @@ _smv_run() {
   local words=("${COMP_WORDS[@]:1:COMP_CWORD-1}") at=0 operands=0 behind="" command option
   COMPREPLY=()
   if [ "${1##*/}" = smv ]; then
+    commands+=" explain"
     [ "${words[0]-}" = --proved ] && words=("${words[@]:1}") || commands+=" --proved"
   fi
   if [ "${#words[@]}" -eq 0 ]; then
@@ -59,7 +60,7 @@ _smv_run() {
   done
   if [[ $word == -* && -z $behind ]]; then
     _smv_offer "$word" "$(_smv_options "$command" "${words[@]}")"
-  elif [[ $command == check && ($operands -eq 0 || ${1##*/} == smv) || $command == recheck && $operands -eq 0 ]]; then
+  elif [[ $operands -eq 0 && $command == @(check|recheck|explain) || $command == check && ${1##*/} == smv ]]; then
     _smv_offer_files "$word" "*.smv"
   elif [[ $command == recheck && $operands -eq 1 ]]; then
     _smv_offer_files "$word"
