@@ -1,6 +1,7 @@
 //! The two kinds of sets of states over a model: trees, and diagrams.
 
-ghost use Rattle.std.specs.Prelude.{◌≡◌, ◌<◌, IfOk};
+ghost use Rattle.std.specs.Prelude.{◌≡◌, ◌<◌, IfOk, length};
+ghost use Rattle.bit_encode.specs.Code.{declared};
 ghost use Rattle.region_sets.specs.Sets.{Sets};
 
 use bdd_nodes::Steps;
@@ -29,7 +30,9 @@ fn sets_over<L: Ledger>(
     requires name { blank.name ≡ L.name }
     requires shares { blank.parts ≡ L.parts }
     requires some { 0 < L.parts }
-    ensures { IfOk result (λ sets. (⟦<DiagramSets as StateSets>⟧.seen sets).over ≡ model) }
+    ensures over { IfOk result (λ sets. (⟦<DiagramSets as StateSets>⟧.seen sets).over ≡ model) }
+    ensures order { IfOk result (λ sets.
+        (⟦<DiagramSets as StateSets>⟧.seen sets).gauge.order ≡ order.now) }
 {
     let mut steps = Steps::<L>::new(blank);
     let parts = Parts::build(alloc, model, order, LIMIT, CACHE, &mut steps)?;
@@ -38,7 +41,10 @@ fn sets_over<L: Ledger>(
 
 /// Sets as diagrams, with the variables in declared order.
 pub fn diagrams(alloc: Global, model: &Ruled) -> Result<DiagramSets, BuildRefusal>
-    ensures { IfOk result (λ sets. (⟦<DiagramSets as StateSets>⟧.seen sets).over ≡ model.now) }
+    ensures over { IfOk result (λ sets.
+        (⟦<DiagramSets as StateSets>⟧.seen sets).over ≡ model.now) }
+    ensures order { IfOk result (λ sets.
+        (⟦<DiagramSets as StateSets>⟧.seen sets).gauge.order ≡ declared (length model.now.vars)) }
 {
     model.rules_law();
     let Ok(order) = declared_order(alloc, model.vars().len()) else {

@@ -1,5 +1,5 @@
 -- The formula of a specification, by its number.
-use Rattle.std.proofs.Common.{◌≡◌, ℕ, zero, suc, ◌+◌, ◌<◌, List, [], ◌∷◌, get_or, length, map, Option, Some, All, sym, subst, ap, arith}
+use Rattle.std.proofs.Common.{◌≡◌, ℕ, zero, suc, ◌+◌, ◌<◌, List, [], ◌∷◌, get_or, length, map, Some, All, sym, subst, ap, arith}
 use Rattle.std.specs.Prelude.{option_map, slice_get}
 use Rattle.kripke_model.specs.Ctl.{Ctl, formula_of}
 use Rattle.kripke_model.specs.declared.expressions.Formula.{Formula}

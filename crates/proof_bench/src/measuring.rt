@@ -1,15 +1,16 @@
 //! The run of a formula and the proof from it, with the time of both.
 
-ghost use Rattle.std.specs.Prelude.{◌≡◌, Some, IsSomeAnd};
+ghost use Rattle.std.specs.Prelude.{◌≡◌, [], Some, IsSomeAnd};
 ghost use Rattle.kripke_model.specs.WellFormed.{ctl_of};
+ghost use Rattle.region_sets.specs.Sets.{Adds};
 ghost use Rattle.region_sets.specs.Ranks.{AreLive};
 ghost use Rattle.fair_rules.specs.SetLists.{everything};
 ghost use Rattle.fair_fixpoint.specs.Runs.{run_slots};
 ghost use Rattle.fair_fixpoint.specs.SatSets.{IsDecided, IsWholeRun};
 ghost use Rattle.fair_fixpoint.specs.Walks.{HasModelLeaves};
 ghost use Rattle.proof_form.specs.Shape.{spec_formula};
+ghost use Rattle.proof_text.specs.Written.{own_order};
 ghost use Rattle.rank_extract.specs.Extracts.{IsLiveRun, Shows};
-ghost use Rattle.proof_bench.specs.Kept.{Keeps};
 
 use crate::counting::{Counts, run_pins};
 use crate::times::{Times, cpu_nanos};
@@ -58,11 +59,13 @@ fn make_proof(
     at: Option<State>,
 ) -> Result<Made, SetRefusal>
     requires over { (⟦<DiagramSets as StateSets>⟧.seen sets.old).over ≡ model.now }
+    requires order { (⟦<DiagramSets as StateSets>⟧.seen sets.old).gauge.order
+        ≡ own_order model.now }
     requires run { IsSomeAnd (spec_formula model.now spec) (λ f. IsLiveRun model.now f
         (⟦<DiagramSets as StateSets>⟧.seen sets.old) run.now) }
     requires shown { Shows model.now (⟦<DiagramSets as StateSets>⟧.seen sets.old) run.now at }
-    ensures { Keeps (⟦<DiagramSets as StateSets>⟧.seen sets.old)
-        (⟦<DiagramSets as StateSets>⟧.seen sets.new) }
+    ensures { Adds (⟦<DiagramSets as StateSets>⟧.seen sets.old)
+        (⟦<DiagramSets as StateSets>⟧.seen sets.new) [] }
 {
     let holds = at.is_none();
     let start = cpu_nanos(rt);
@@ -89,14 +92,16 @@ fn make_by(
     spec: u32,
 ) -> Result<Made, SetRefusal>
     requires over { (⟦<DiagramSets as StateSets>⟧.seen sets.old).over ≡ model.now }
+    requires order { (⟦<DiagramSets as StateSets>⟧.seen sets.old).gauge.order
+        ≡ own_order model.now }
     requires spec { spec_formula model.now spec ≡ Some (ctl_of formula.now) }
     requires run { IsWholeRun model.now (ctl_of formula.now)
         (⟦<DiagramSets as StateSets>⟧.seen sets.old) run.now }
     requires decided { IsDecided model.now everything (ctl_of formula.now)
         (⟦<DiagramSets as StateSets>⟧.seen sets.old) run.now }
     requires live { AreLive (⟦<DiagramSets as StateSets>⟧.seen sets.old) (run_slots run.now) }
-    ensures { Keeps (⟦<DiagramSets as StateSets>⟧.seen sets.old)
-        (⟦<DiagramSets as StateSets>⟧.seen sets.new) }
+    ensures { Adds (⟦<DiagramSets as StateSets>⟧.seen sets.old)
+        (⟦<DiagramSets as StateSets>⟧.seen sets.new) [] }
 {
     let failing = least_initial(sets, run.minus(1))?;
     make_proof(rt, sets, model, run, spec, failing)
@@ -111,6 +116,8 @@ pub fn measure(
     spec: u32,
 ) -> Result<Measured, SetRefusal>
     requires over { (⟦<DiagramSets as StateSets>⟧.seen sets.old).over ≡ model.now }
+    requires order { (⟦<DiagramSets as StateSets>⟧.seen sets.old).gauge.order
+        ≡ own_order model.now }
     requires spec { spec_formula model.now spec ≡ Some (ctl_of formula.now) }
     requires leaves { HasModelLeaves model.now (ctl_of formula.now) }
 {
