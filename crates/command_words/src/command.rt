@@ -59,10 +59,13 @@ pub fn read_words(alloc: Global, words: &[String]) -> Result<Command<'_>, AllocE
     ensures command { IfOk result (λ command. asked command ≡ command_of (map string_bytes words.now)) }
     ensures limits { IfOk result (λ command. HasLimits (asked command)) }
 {
-    match words {
-        [word, rest @ ..] if word.as_str() == "check" => read_check(alloc, rest),
-        [word, rest @ ..] if word.as_str() == "gen" => read_gen(alloc, rest),
-        [word, rest @ ..] if word.as_str() == "recheck" => read_recheck(alloc, rest),
+    let [word, rest @ ..] = words else {
+        return Ok(Command::Usage);
+    };
+    match word.as_str() {
+        "check" => read_check(alloc, rest),
+        "gen" => read_gen(alloc, rest),
+        "recheck" => read_recheck(alloc, rest),
         _ => Ok(Command::Usage),
     }
 }
