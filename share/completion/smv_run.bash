@@ -20,6 +20,7 @@ _smv_options() {
   case $1 in
     check) options="--nodes --proof" ;;
     recheck | explain) options="--nodes" ;;
+    trace) options="--nodes --csv --vcd --svg" ;;
     gen) options="--check" ;;
   esac
   for option in $options; do
@@ -32,7 +33,7 @@ _smv_run() {
   local words=("${COMP_WORDS[@]:1:COMP_CWORD-1}") at=0 operands=0 behind="" command option
   COMPREPLY=()
   if [ "${1##*/}" = smv ]; then
-    commands+=" explain"
+    commands+=" explain trace"
     [ "${words[0]-}" = --proved ] && words=("${words[@]:1}") || commands+=" --proved"
   fi
   if [ "${#words[@]}" -eq 0 ]; then
@@ -44,7 +45,7 @@ _smv_run() {
   [ "$word" = "=" ] && word="" && words+=("=")
   while [ $((at += 1)) -lt "${#words[@]}" ]; do
     case $behind${words[at]} in
-      --nodes | --proof)
+      --nodes | --proof | --csv | --vcd | --svg)
         option=${words[at]}
         [ "${words[at + 1]-}" = "=" ] && at=$((at + 1))
         at=$((at + 1))
@@ -60,7 +61,7 @@ _smv_run() {
   done
   if [[ $word == -* && -z $behind ]]; then
     _smv_offer "$word" "$(_smv_options "$command" "${words[@]}")"
-  elif [[ $operands -eq 0 && $command == @(check|recheck|explain) || $command == check && ${1##*/} == smv ]]; then
+  elif [[ $operands -eq 0 && $command == @(check|recheck|explain|trace) || $command == check && ${1##*/} == smv ]]; then
     _smv_offer_files "$word" "*.smv"
   elif [[ $command == recheck && $operands -eq 1 ]]; then
     _smv_offer_files "$word"
