@@ -16,7 +16,7 @@ use Rattle.bdd_nodes.specs.Size.{reaches_in, reached, size_of}
 use Rattle.bdd_ops.specs.Cost as cost
 use Rattle.bdd_ops.proofs.Parts.{part_of-at, part_of-off}
 use Rattle.bdd_ops.proofs.Memo.{same_key, same_key-true}
-use Rattle.bdd_ops.proofs.Costs.{among, cases, or-cases, or-right, IsFront-length}
+use Rattle.bdd_ops.proofs.Costs.{among, cases, or-cases, or-right}
 
 -- a number is one of these
 abbrev pub holds : List ℕ → ℕ → Bool
@@ -225,24 +225,11 @@ module _ (levels : ℕ) (table : List Triple) (good : IsGood levels table) where
           (reached-part f p.left (top_of levels table k) bit p.left_in some.0) (reached-part g p.right (top_of levels table k) bit p.right_in some.1))
 
   -- a conjunction takes at most two steps for each pair, and one
-  pub steps-and : (f g cap : ℕ) → Has table f → Has table g → (old new : List (Key × ℕ)) (before after : ℕ) → size_of table f * size_of table g ≤ cap → cost.IsCheap same_key levels table (operation.And f g) cap old before after new
+  pub steps-and : (f g cap : ℕ) → Has table f → Has table g → (before after : ℕ) → size_of table f * size_of table g ≤ cap → cost.IsBounded same_key levels table (operation.And f g) cap before after
       → after ≤ before + 2 * (size_of table f * size_of table g) + 1
-  steps-and f g cap hf hg old new before after room cheap =
+  steps-and f g cap hf hg before after room bounded =
       let keys : List Key = pairs (reached table f) (reached table g) in
       let len : length keys ≡ size_of table f * size_of table g = pairs-length (reached table f) (reached table g) in
-      let paid = cheap.paid keys [] old (IsClosed-pairs f g)
-      (λ some. pairs-among (reached table f) (reached table g) f g (reached-self f hf some.0) (reached-self g hg some.1))
-      (omega arith) refl (record { among = λ q h. absurd (true≢false (sym h)); once = tt }) in
-      let most : length paid.front ≤ length keys = IsFront-length paid.front keys paid.is_front.once paid.is_front.among in
-      omega (arith, paid.cost, most, len)
-
-  pub steps-and_refused : (f g cap : ℕ) → Has table f → Has table g → (old : List (Key × ℕ)) (before after : ℕ) → size_of table f * size_of table g ≤ cap → cost.IsFrugal same_key levels table (operation.And f g) cap old before after
-      → after ≤ before + 2 * (size_of table f * size_of table g) + 1
-  steps-and_refused f g cap hf hg old before after room frugal =
-      let keys : List Key = pairs (reached table f) (reached table g) in
-      let len : length keys ≡ size_of table f * size_of table g = pairs-length (reached table f) (reached table g) in
-      let spent = frugal.spent keys [] old (IsClosed-pairs f g)
-      (λ some. pairs-among (reached table f) (reached table g) f g (reached-self f hf some.0) (reached-self g hg some.1))
-      (omega arith) refl (record { among = λ q h. absurd (true≢false (sym h)); once = tt }) in
-      let most : length spent.done ≤ length keys = IsFront-length spent.done keys spent.is_front.once spent.is_front.among in
-      omega (arith, spent.cost, most, len)
+      let bound = bounded.bound keys (IsClosed-pairs f g)
+      (λ some. pairs-among (reached table f) (reached table g) f g (reached-self f hf some.0) (reached-self g hg some.1)) (omega arith) in
+      omega (arith, bound, len)

@@ -1,5 +1,5 @@
--- What an operation costs, by the entries that it leaves at the front of the cache.
-use Rattle.std.specs.Prelude.{◌≡◌, ℕ, ◌+◌, ◌*◌, ◌≤◌, ◌⊎◌, Bool, true, false, List, [], ◌∷◌, ◌++◌, length}
+-- What an operation costs, by the entries that it puts: the fresh ones.
+use Rattle.std.specs.Prelude.{◌≡◌, ℕ, ◌+◌, ◌*◌, ◌≤◌, ◌⊎◌, Bool, true, false, List, [], ◌∷◌, length}
 use Rattle.std.specs.List.{list_any}
 use Rattle.bdd_nodes.specs.declared.triple.Triple.{Triple}
 use Rattle.bdd_ops.specs.declared.key.Key.{Key}
@@ -32,18 +32,15 @@ module _ (same : Key → Key → Bool) where
     pub among : (q : Key) → has_entry front q ≡ true → is_among keys q ≡ true
     pub once : IsOnce front
 
-  -- the cache begins with entries of the keys, and each one that came there paid for two steps
-  pub record IsPaid (keys : List Key) (earlier before after : ℕ) (cache : List (Key × ℕ)) : Type 0 where
-    pub front : List (Key × ℕ)
-    pub rest : List (Key × ℕ)
-    pub split : cache ≡ front ++ rest
-    pub is_front : IsFront keys front
-    pub cost : after + 2 * earlier ≤ before + 1 + 2 * length front
+  -- the fresh entries are of the keys, and each one that came there paid for two steps
+  pub record IsPaid (keys : List Key) (earlier before after : ℕ) (fresh : List (Key × ℕ)) : Type 0 where
+    pub is_front : IsFront keys fresh
+    pub cost : after + 2 * earlier ≤ before + 1 + 2 * length fresh
 
-  -- over any closed list of keys that has the operation's, that the cache has room for and entries of which stand at its front, the steps from before to after are paid
+  -- over any closed list of keys that has the operation's, that the cache has room for and of which the fresh entries are, the steps from before to after are paid
   pub record IsCheap (levels : ℕ) (table : List Triple) (key : Operation) (cap : ℕ) (old : List (Key × ℕ)) (before after : ℕ) (new : List (Key × ℕ)) : Type 0 where
-    pub paid : (keys : List Key) (front rest : List (Key × ℕ)) → IsClosed levels table keys → (IsOpen key → is_among keys (key_of key) ≡ true) → length keys ≤ cap → old ≡ front ++ rest → IsFront keys front
-        → IsPaid keys (length front) before after new
+    pub paid : (keys : List Key) → IsClosed levels table keys → (IsOpen key → is_among keys (key_of key) ≡ true) → length keys ≤ cap → IsFront keys old
+        → IsPaid keys (length old) before after new
 
   -- the steps from before to after are paid by different keys of the list, each of an old entry or no heavier than this weight
   pub record IsSpent (keys : List Key) (earlier : ℕ) (old : List (Key × ℕ)) (weight before after : ℕ) : Type 0 where
@@ -52,7 +49,11 @@ module _ (same : Key → Key → Bool) where
     pub bounded : (q : Key) → has_entry done q ≡ true → (has_entry old q ≡ true) ⊎ (key_weight q ≤ weight)
     pub cost : after + 2 * earlier ≤ before + 1 + 2 * length done
 
-  -- the same as `IsCheap` for a call that was refused, which leaves some keys without an entry
-  pub record IsFrugal (levels : ℕ) (table : List Triple) (key : Operation) (cap : ℕ) (old : List (Key × ℕ)) (before after : ℕ) : Type 0 where
-    pub spent : (keys : List Key) (front rest : List (Key × ℕ)) → IsClosed levels table keys → (IsOpen key → is_among keys (key_of key) ≡ true) → length keys ≤ cap → old ≡ front ++ rest → IsFront keys front
-        → IsSpent keys (length front) old (weight_of key) before after
+  -- the same as `IsCheap` for a call that was refused, which leaves some keys without an entry: the fresh entries before it, and all
+  pub record IsFrugal (levels : ℕ) (table : List Triple) (key : Operation) (cap : ℕ) (fresh all : List (Key × ℕ)) (before after : ℕ) : Type 0 where
+    pub spent : (keys : List Key) → IsClosed levels table keys → (IsOpen key → is_among keys (key_of key) ≡ true) → length keys ≤ cap → IsFront keys fresh
+        → IsSpent keys (length fresh) all (weight_of key) before after
+
+  -- a call that finds no fresh entry takes two steps at most for each of the keys, and one more
+  pub record IsBounded (levels : ℕ) (table : List Triple) (key : Operation) (cap before after : ℕ) : Type 0 where
+    pub bound : (keys : List Key) → IsClosed levels table keys → (IsOpen key → is_among keys (key_of key) ≡ true) → length keys ≤ cap → after ≤ before + 2 * length keys + 1
