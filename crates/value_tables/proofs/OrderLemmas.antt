@@ -1,5 +1,5 @@
 -- Marks in order, and the pass over them.
-use Rattle.std.proofs.Common.{◌≡◌, ◌⊎◌, ℕ, ◌+◌, ◌<◌, ◌≤◌, Bool, true, false, not, ◌&&◌, ◌||◌, cond, ltb, leb, ℤ, pos, negsuc, int_lt, int_le, List, [], ◌∷◌, ◌++◌, length, get_or, take, Ok, Err, inl, inr, refl, sym, ap, subst, ◌∙◌, arith}
+use Rattle.std.proofs.Common.{◌≡◌, ◌⊎◌, ℕ, ◌+◌, ◌<◌, ◌≤◌, Bool, true, false, not, ◌&&◌, ◌||◌, cond, ltb, leb, ℤ, pos, negsuc, int_lt, int_le, List, [], ◌∷◌, ◌++◌, length, get_or, take, drop, Ok, Err, inl, inr, refl, sym, ap, subst, ◌∙◌, arith}
 use Rattle.std.specs.Prelude.{All}
 use Rattle.std.specs.List.{list_any}
 use Rattle.std.specs.List.Sorted.{IsPermutation, IsSortedBy}
@@ -9,9 +9,9 @@ use Rattle.std.specs.Ordering.{is_lt, int_cmp, bool_cmp, ordering_then, ordering
 use Rattle.std.specs.Cmp.{IsStrictWeakOrder, bool_cmp_total}
 use Rattle.std.proofs.lemmas.Bool.{false≢true, not-true, cases_lt, lt-ltb, le-ltb, le-leb, lt-leb, and_right}
 use Rattle.std.proofs.lemmas.Cmp.{int_cmp_total, on_total, then_total}
-use Rattle.std.proofs.lemmas.List.{take_more, take_all, append_assoc, length-append, length-take-le, get_or-take}
-use Rattle.std.proofs.lemmas.List.Elements.{All-nil, All-cons, All-head, All-tail, All-append, All-get_or, All-from_get_or, All-weaker}
-use Rattle.std.proofs.lemmas.List.Folds.{list_any-append, list_any_none, list_any_more}
+use Rattle.std.proofs.lemmas.List.{take_more, take_all, append_assoc, length-append, length-take-le, get_or-take, get_or-drop, take-append-drop, length-drop}
+use Rattle.std.proofs.lemmas.List.Elements.{All-nil, All-cons, All-head, All-tail, All-append, All-take, All-drop, All-from_get_or, All-weaker}
+use Rattle.std.proofs.lemmas.List.Folds.{list_any-append, list_any_none}
 use Rattle.std.proofs.lemmas.List.Sorted.{All-permutation, list_any-IsPermutation, length_permutation, sorted_far, ranks_by}
 use Rattle.kripke_model.specs.declared.expressions.Value.{Value}
 use Rattle.kripke_model.specs.declared.expressions.Value.TheVariants.{Number, Symbol}
@@ -22,11 +22,12 @@ use Rattle.bdd_nodes.specs.Store.{Has, value_of, Grows}
 use Rattle.bdd_nodes.proofs.Tables.{value_of-false}
 use Rattle.value_tables.specs.declared.cells.Cell.{Cell}
 use Rattle.value_tables.specs.declared.orders.Mark.{Mark}
+use Rattle.value_tables.specs.declared.orders.Passed.{Passed}
 use Rattle.value_tables.specs.Work.{IsRegion}
 use Rattle.value_tables.specs.Cells.{same_reading, any_of, any_cell, Reads}
 use Rattle.value_tables.specs.Pick.{truth_of}
 use Rattle.value_tables.specs.Tables.{is_failure, is_fault_of, both, truths}
-use Rattle.value_tables.specs.Orders.{numbers, compares, comparison, in_order, is_below, any_below, mark_of, marks_in, is_before, is_lesser, any_lesser, is_pair, any_pair, AreMarks}
+use Rattle.value_tables.specs.Orders.{numbers, compares, comparison, in_order, is_below, any_below, mark_of, marks_in, is_before, is_lesser, any_lesser, any_greater, is_pair, any_pair, AreMarks, AreHeld, ArePassed, AreJoined}
 use Rattle.value_tables.proofs.ReadingLists.{reads-any}
 use Rattle.value_tables.proofs.RegionLemmas.{any_cell-grows}
 use Rattle.value_tables.proofs.ResultLemmas.{decided_shows}
@@ -57,6 +58,11 @@ any_and p b (x ∷ xs) = ap (λ c. (p x && b) || c) (any_and p b xs) ∙ by (p x
     by true false true = refl
     by true false false = refl
     by false c b = refl
+
+and_any : {X : Type 0} (b : Bool) (p : X → Bool) (xs : List X) → list_any (λ x. b && p x) xs
+    ≡ (b && list_any p xs)
+and_any true p xs = refl
+and_any false p xs = any_none xs
 
 any_same : {X : Type 0} (p q : X → Bool) (xs : List X) → All (λ x. p x ≡ q x) xs → list_any p xs ≡ list_any q xs
 any_same p q [] h = refl
@@ -183,26 +189,9 @@ stands_before strict m n e f h = turned (int_cmp n.number m.number) (int_cmp m.n
 before_is_order : IsStrictWeakOrder is_before
 before_is_order = ranks_by (then_total (on_total (λ (m : Mark). m.number) int_cmp_total) (on_total (λ (m : Mark). m.late) bool_cmp_total)) (λ (m : Mark). m)
 
--- no mark stands before those that come first in a sorted list
-none_before : (marks : List Mark) (i : ℕ) (mark : Mark) → i < length marks → mark ≡ get_or marks i mark → IsSortedBy is_before marks → All (λ (m : Mark). is_before mark m ≡ false) (take i marks)
-none_before marks i mark lt is sorted =
-    All-from_get_or (λ (m : Mark). is_before mark m ≡ false) (take i marks) mark
-    (λ j less. let within : j < i = omega (arith, less, length-take-le i marks (omega (arith, lt))) in
-    (λ k. is_before (is k) (get_or-take i marks j mark within k)) ∙ sorted_far is_before before_is_order marks sorted j i mark (omega (arith, within)) lt)
-
--- ---- one more mark
+-- ---- marks in two halves
 
 module _ (v : ℕ → Bool) (strict : Bool) where
-  tests_up : (xs : List Mark) (y m : Mark) → list_any (is_pair v strict m) (xs ++ y ∷ []) ≡ (list_any (is_pair v strict m) xs || is_pair v strict m y)
-  tests_up xs y m = list_any-append (is_pair v strict m) xs (y ∷ []) ∙ ap (λ b. list_any (is_pair v strict m) xs || b) (or_none (is_pair v strict m y))
-
-  pairs_up : (xs : List Mark) (y : Mark)
-      → any_pair v strict (xs ++ y ∷ []) ≡ ((any_pair v strict xs || list_any (λ (m : Mark). is_pair v strict m y) xs) || (list_any (is_pair v strict y) xs || is_pair v strict y y))
-  pairs_up xs y =
-      (λ i. list_any (λ (m : Mark). tests_up xs y m i) (xs ++ y ∷ []))
-      ∙ list_any-append (λ (m : Mark). list_any (is_pair v strict m) xs || is_pair v strict m y) xs (y ∷ [])
-      ∙ (λ i. any_or (λ (m : Mark). list_any (is_pair v strict m) xs) (λ (m : Mark). is_pair v strict m y) xs i || or_none (list_any (is_pair v strict y) xs || is_pair v strict y y) i)
-
   -- a mark of the lesser side stands before none of those so far, and behind it no pair is made yet
   lesser_last : (m y : Mark) → is_lesser strict y ≡ true → is_pair v strict m y ≡ false
   lesser_last m y e = (λ i. (is_lesser strict m && v m.region) && ((not (e i) && v y.region) && is_before m y)) ∙ and_right (is_lesser strict m && v m.region) false refl
@@ -221,42 +210,87 @@ module _ (v : ℕ → Bool) (strict : Bool) where
           (λ i. (is_lesser strict m && v m.region) && ((not (e i) && v y.region) && stands_before strict m y d e h i)) ∙ ap (λ b. (is_lesser strict m && v m.region) && b) (and_all (v y.region))
       by false d = (λ i. (d i && v m.region) && ((not (is_lesser strict y) && v y.region) && is_before m y)) ∙ sym (λ i. (d i && v m.region) && v y.region)
 
-  pair_step : (xs : List Mark) (y : Mark) → All (λ (m : Mark). is_before y m ≡ false) xs → any_pair v strict (xs ++ y ∷ []) ≡ (any_pair v strict xs || (not (is_lesser strict y) && (any_lesser v strict xs && v y.region)))
-  pair_step xs y h = pairs_up xs y ∙ by (is_lesser strict y) refl
+  abbrev of_greater : Mark → Bool
+  of_greater m = not (is_lesser strict m) && v m.region
+
+  abbrev of_lesser : Mark → Bool
+  of_lesser m = is_lesser strict m && v m.region
+
+  across : (m y : Mark) → is_before y m ≡ false → is_pair v strict m y
+      ≡ (of_greater y && of_lesser m)
+  across m y h = by (is_lesser strict y) refl
     where
-      none : (a : Bool) → ((a || false) || (false || false)) ≡ (a || false)
-      none true = refl
-      none false = refl
+      turn : (a b : Bool) → (a && b) ≡ (b && a)
+      turn true true = refl
+      turn true false = refl
+      turn false true = refl
+      turn false false = refl
 
-      some : (a b : Bool) → ((a || b) || (false || false)) ≡ (a || b)
-      some true b = refl
-      some false true = refl
-      some false false = refl
+      by : (b : Bool) → is_lesser strict y ≡ b → is_pair v strict m y
+          ≡ (of_greater y && of_lesser m)
+      by true e = lesser_last m y e ∙ sym (λ i. (not (e i) && v y.region) && of_lesser m)
+      by false e = greater_last m y e h ∙ turn (of_lesser m) (v y.region)
+          ∙ sym (λ i. (not (e i) && v y.region) && of_lesser m)
 
-      by : (b : Bool) → is_lesser strict y ≡ b
-          → ((any_pair v strict xs || list_any (λ (m : Mark). is_pair v strict m y) xs) || (list_any (is_pair v strict y) xs || is_pair v strict y y)) ≡ (any_pair v strict xs || (not (is_lesser strict y) && (any_lesser v strict xs && v y.region)))
-      by true e =
-          (λ i. (any_pair v strict xs || (((λ j. list_any (λ (m : Mark). lesser_last m y e j) xs) ∙ any_none xs) i))
-          || (list_any_none (is_pair v strict y) xs (All-weaker (λ (m : Mark). is_before y m ≡ false) (λ (m : Mark). is_pair v strict y m ≡ false) (λ m. lesser_first y m) xs h) i || lesser_last y y e i))
-          ∙ none (any_pair v strict xs)
-          ∙ sym (λ i. any_pair v strict xs || (not (e i) && (any_lesser v strict xs && v y.region)))
-      by false e =
-          (λ i. (any_pair v strict xs || (any_same (λ (m : Mark). is_pair v strict m y) (λ (m : Mark). (is_lesser strict m && v m.region) && v y.region) xs
-          (All-weaker (λ (m : Mark). is_before y m ≡ false) (λ (m : Mark). is_pair v strict m y ≡ ((is_lesser strict m && v m.region) && v y.region)) (λ m. greater_last m y e) xs h)
-          ∙ any_and (λ (m : Mark). is_lesser strict m && v m.region) (v y.region) xs) i)
-          || (((λ j. list_any (λ (n : Mark). greater_first y n e j) xs) ∙ any_none xs) i || greater_first y y e i))
-          ∙ some (any_pair v strict xs) (any_lesser v strict xs && v y.region)
-          ∙ sym (λ i. any_pair v strict xs || (not (e i) && (any_lesser v strict xs && v y.region)))
+  -- no mark of ys stands before one of xs
+  module _ (xs ys : List Mark) (up : All
+      (λ (x : Mark). All (λ (y : Mark). is_before y x ≡ false) ys) xs)
+      (down : All (λ (y : Mark). All (λ (x : Mark). is_before y x ≡ false) xs) ys) where
+    across_one : (m : Mark) → All (λ (y : Mark). is_before y m ≡ false) ys
+        → list_any (is_pair v strict m) ys ≡ (any_greater v strict ys && of_lesser m)
+    across_one m h =
+        any_same (is_pair v strict m) (λ (y : Mark). of_greater y && of_lesser m) ys
+        (All-weaker (λ (y : Mark). is_before y m ≡ false)
+        (λ (y : Mark). is_pair v strict m y ≡ (of_greater y && of_lesser m)) (λ y. across m y) ys h)
+        ∙ any_and of_greater (of_lesser m) ys
 
-  pair_more : (marks : List Mark) (i : ℕ) (mark : Mark) → i < length marks → mark ≡ get_or marks i mark → IsSortedBy is_before marks
-      → any_pair v strict (take (i + 1) marks) ≡ (any_pair v strict (take i marks) || (not (is_lesser strict mark) && (any_lesser v strict (take i marks) && v mark.region)))
-  pair_more marks i mark lt is sorted =
-      ap (any_pair v strict) (take_more marks i mark lt ∙ (λ j. take i marks ++ sym is j ∷ [])) ∙ pair_step (take i marks) mark (none_before marks i mark lt is sorted)
+    none_back : (n : Mark) → All (λ (x : Mark). is_before n x ≡ false) xs
+        → list_any (is_pair v strict n) xs ≡ false
+    none_back n h = list_any_none (is_pair v strict n) xs
+        (All-weaker (λ (x : Mark). is_before n x ≡ false)
+        (λ (x : Mark). is_pair v strict n x ≡ false) (λ x. lesser_first n x) xs h)
 
-  lesser_more : (marks : List Mark) (i : ℕ) (mark : Mark) → i < length marks → mark ≡ get_or marks i mark
-      → any_lesser v strict (take (i + 1) marks) ≡ (any_lesser v strict (take i marks) || (is_lesser strict mark && v mark.region))
-  lesser_more marks i mark lt is =
-      list_any_more (λ (m : Mark). is_lesser strict m && v m.region) marks i mark lt ∙ (λ j. any_lesser v strict (take i marks) || (is_lesser strict (sym is j) && v (sym is j).region))
+    all_across : list_any (λ (m : Mark). list_any (is_pair v strict m) ys) xs
+        ≡ (any_greater v strict ys && any_lesser v strict xs)
+    all_across =
+        any_same (λ (m : Mark). list_any (is_pair v strict m) ys)
+        (λ (m : Mark). any_greater v strict ys && of_lesser m) xs
+        (All-weaker (λ (x : Mark). All (λ (y : Mark). is_before y x ≡ false) ys)
+        (λ (m : Mark). list_any (is_pair v strict m) ys
+        ≡ (any_greater v strict ys && of_lesser m)) across_one xs up)
+        ∙ and_any (any_greater v strict ys) of_lesser xs
+
+    all_back : list_any (λ (m : Mark). list_any (is_pair v strict m) xs) ys ≡ false
+    all_back =
+        list_any_none (λ (m : Mark). list_any (is_pair v strict m) xs) ys
+        (All-weaker (λ (y : Mark). All (λ (x : Mark). is_before y x ≡ false) xs)
+        (λ (n : Mark). list_any (is_pair v strict n) xs ≡ false) none_back ys down)
+
+    pub pairs_of_halves : any_pair v strict (xs ++ ys)
+        ≡ ((any_pair v strict xs || any_pair v strict ys)
+        || (any_lesser v strict xs && any_greater v strict ys))
+    pairs_of_halves =
+        (λ i. list_any (λ (m : Mark). list_any-append (is_pair v strict m) xs ys i) (xs ++ ys))
+        ∙ list_any-append (λ (m : Mark). list_any (is_pair v strict m) xs
+        || list_any (is_pair v strict m) ys) xs ys
+        ∙ (λ i. any_or (λ (m : Mark). list_any (is_pair v strict m) xs)
+        (λ (m : Mark). list_any (is_pair v strict m) ys) xs i
+        || any_or (λ (m : Mark). list_any (is_pair v strict m) xs)
+        (λ (m : Mark). list_any (is_pair v strict m) ys) ys i)
+        ∙ (λ i. (any_pair v strict xs || all_across i) || (all_back i || any_pair v strict ys))
+        ∙ by (any_pair v strict xs) (any_greater v strict ys) (any_lesser v strict xs)
+        (any_pair v strict ys)
+      where
+        by : (a g l b : Bool) → ((a || (g && l)) || (false || b)) ≡ ((a || b) || (l && g))
+        by true g l b = refl
+        by false true true true = refl
+        by false true true false = refl
+        by false true false true = refl
+        by false true false false = refl
+        by false false true true = refl
+        by false false true false = refl
+        by false false false true = refl
+        by false false false false = refl
 
   pairs-permutation : (xs ys : List Mark) → IsPermutation xs ys → any_pair v strict xs ≡ any_pair v strict ys
   pairs-permutation xs ys h =
@@ -330,34 +364,257 @@ module _ (v : ℕ → Bool) (strict : Bool) where
     pub sorted_pairs : (marks : List Mark) → IsPermutation both_sides marks → any_pair v strict marks ≡ any_below v strict lesser greater
     sorted_pairs marks h = sym (pairs-permutation both_sides marks h) ∙ pairs_are
 
--- ---- the regions of a pass
+-- ---- the regions of halves
 
-module _ (s a : Store) (g : Grows s a) (marks : List Mark) (i : ℕ) (mark : Mark) (lt : i < length marks) (is : mark ≡ get_or marks i mark) (has : All (λ (m : Mark). Has s m.region) marks) where
-  mark_at_first : Has s mark.region
-  mark_at_first = subst (λ (m : Mark). Has s m.region) (sym is) (All-get_or (λ (m : Mark). Has s m.region) marks i mark lt has)
+-- a list of marks in two
+module _ (marks xs ys : List Mark) (k : ℕ) (le : k ≤ length marks) (ex : xs ≡ take k marks)
+    (ey : ys ≡ drop k marks) where
+  whole : xs ++ ys ≡ marks
+  whole = (λ i. ex i ++ ey i) ∙ take-append-drop k marks
 
-  pub has_mark_now : Has a mark.region
-  has_mark_now = g.has mark.region mark_at_first
+  module _ (s : Store) (has : All (λ (m : Mark). Has s m.region) marks) where
+    pub has_first : All (λ (m : Mark). Has s m.region) xs
+    has_first = subst (All (λ (m : Mark). Has s m.region)) (sym ex)
+        (All-take (λ (m : Mark). Has s m.region) k marks has)
 
-  module _ (b : Store) (strict : Bool) (l h : ℕ) (so_far : IsRegion a l (λ bits. any_lesser (λ q. value_of s q bits) strict (take i marks))) (found : IsRegion a h (λ bits. any_pair (λ q. value_of s q bits) strict (take i marks))) where
-    pub lesser_passed : (r : ℕ) → IsRegion b r (λ bits. value_of a l bits || (is_lesser strict mark && value_of a mark.region bits)) → IsRegion b r (λ bits. any_lesser (λ q. value_of s q bits) strict (take (i + 1) marks))
-    lesser_passed r k = record {
-      has = k.has;
-      value = λ bits. k.value bits ∙ (λ j. so_far.value bits j || (is_lesser strict mark && g.value mark.region mark_at_first bits j)) ∙ sym (lesser_more (λ q. value_of s q bits) strict marks i mark lt is);
+    pub has_behind : All (λ (m : Mark). Has s m.region) ys
+    has_behind = subst (All (λ (m : Mark). Has s m.region)) (sym ey)
+        (All-drop (λ (m : Mark). Has s m.region) k marks has)
+
+  module _ (sorted : IsSortedBy is_before marks) where
+    pub sorted_first : IsSortedBy is_before xs
+    sorted_first = subst (IsSortedBy is_before) (sym ex) (λ n d low lt.
+        let within : n + 1 < k = omega (arith, lt, length-take-le k marks le) in
+        let less : n < k = omega (arith, within) in
+        (λ i. is_before (get_or-take k marks (n + 1) d within i) (get_or-take k marks n d less i))
+        ∙ sorted n d low (omega (arith, within, le)))
+
+    pub sorted_behind : IsSortedBy is_before ys
+    sorted_behind = subst (IsSortedBy is_before) (sym ey) (λ n d low lt.
+        (λ i. is_before ((get_or-drop k marks (n + 1) d ∙ ap (λ m. get_or marks m d) (next n)) i)
+        (get_or-drop k marks n d i))
+        ∙ sorted (k + n) d (omega arith) (omega (arith, lt, length-drop k marks)))
+      where
+        next : (n : ℕ) → k + (n + 1) ≡ k + n + 1
+        next n = omega arith
+
+    far : (i j : ℕ) (d : Mark) → i < k → j < length (drop k marks)
+        → is_before (get_or (drop k marks) j d) (get_or (take k marks) i d) ≡ false
+    far i j d lt less =
+        (λ n. is_before (get_or-drop k marks j d n) (get_or-take k marks i d lt n))
+        ∙ sorted_far is_before before_is_order marks sorted i (k + j) d (omega (arith, lt))
+        (omega (arith, less, length-drop k marks))
+
+    any_mark : Mark
+    any_mark = record { number = pos 0; late = false; region = 0 }
+
+    up : All (λ (x : Mark). All (λ (y : Mark). is_before y x ≡ false) (drop k marks)) (take k marks)
+    up = All-from_get_or (λ (x : Mark). All (λ (y : Mark). is_before y x ≡ false) (drop k marks))
+        (take k marks) any_mark (λ i lt.
+        All-from_get_or (λ (y : Mark). is_before y (get_or (take k marks) i any_mark) ≡ false)
+        (drop k marks) any_mark (λ j less. far i j any_mark
+        (omega (arith, lt, length-take-le k marks le)) less))
+
+    down : All (λ (y : Mark). All (λ (x : Mark). is_before y x ≡ false) (take k marks))
+        (drop k marks)
+    down = All-from_get_or (λ (y : Mark). All (λ (x : Mark). is_before y x ≡ false)
+        (take k marks)) (drop k marks) any_mark (λ j less.
+        All-from_get_or (λ (x : Mark). is_before (get_or (drop k marks) j any_mark) x ≡ false)
+        (take k marks) any_mark (λ i lt. far i j any_mark
+        (omega (arith, lt, length-take-le k marks le)) less))
+
+    pairs_whole : (v : ℕ → Bool) (strict : Bool) → any_pair v strict marks
+        ≡ ((any_pair v strict xs || any_pair v strict ys)
+        || (any_lesser v strict xs && any_greater v strict ys))
+    pairs_whole v strict =
+        ap (any_pair v strict) (sym whole)
+        ∙ pairs_of_halves v strict xs ys
+        (subst (λ (l : List Mark). All (λ (x : Mark). All (λ (y : Mark). is_before y x ≡ false) l)
+        xs) (sym ey) (subst (All (λ (x : Mark). All (λ (y : Mark). is_before y x ≡ false)
+        (drop k marks))) (sym ex) up))
+        (subst (λ (l : List Mark). All (λ (y : Mark). All (λ (x : Mark). is_before y x ≡ false) l)
+        ys) (sym ex) (subst (All (λ (y : Mark). All (λ (x : Mark). is_before y x ≡ false)
+        (take k marks))) (sym ey) down))
+
+    -- both halves, one behind the other, and what they are together
+    module _ (s p q z : Store) (h : Grows p q) (strict : Bool) (first behind r : Passed)
+        (x : ArePassed s p strict xs first) (y : ArePassed s q strict ys behind)
+        (j : AreJoined q z first behind r) where
+      pub halves_passed : ArePassed s z strict marks r
+      halves_passed = record {
+        lesser = record {
+          has = j.lesser.has;
+          value = λ bits. j.lesser.value bits
+              ∙ (λ i. (h.value first.lesser x.lesser.has bits ∙ x.lesser.value bits) i
+              || y.lesser.value bits i)
+              ∙ sym (ap (any_lesser (λ n. value_of s n bits) strict) (sym whole)
+              ∙ list_any-append (λ (m : Mark). is_lesser strict m && value_of s m.region bits) xs
+              ys);
+        };
+        greater = record {
+          has = j.greater.has;
+          value = λ bits. j.greater.value bits
+              ∙ (λ i. (h.value first.greater x.greater.has bits ∙ x.greater.value bits) i
+              || y.greater.value bits i)
+              ∙ sym (ap (any_greater (λ n. value_of s n bits) strict) (sym whole)
+              ∙ list_any-append (λ (m : Mark). not (is_lesser strict m)
+              && value_of s m.region bits) xs ys);
+        };
+        hit = record {
+          has = j.hit.has;
+          value = λ bits. j.hit.value bits
+              ∙ (λ i. ((h.value first.hit x.hit.has bits ∙ x.hit.value bits) i
+              || y.hit.value bits i)
+              || ((h.value first.lesser x.lesser.has bits ∙ x.lesser.value bits) i
+              && y.greater.value bits i))
+              ∙ sym (pairs_whole (λ n. value_of s n bits) strict);
+        };
+      }
+
+-- what marks are together in a store that has grown, by their values before it grew
+module _ (s p : Store) (g : Grows s p) (strict : Bool) (marks : List Mark)
+    (has : All (λ (m : Mark). Has s m.region) marks) (bits : List Bool) where
+  any_lesser-grows : any_lesser (λ n. value_of p n bits) strict marks
+      ≡ any_lesser (λ n. value_of s n bits) strict marks
+  any_lesser-grows =
+      any_same (λ (m : Mark). is_lesser strict m && value_of p m.region bits)
+      (λ (m : Mark). is_lesser strict m && value_of s m.region bits) marks
+      (All-weaker (λ (m : Mark). Has s m.region)
+      (λ (m : Mark). (is_lesser strict m && value_of p m.region bits)
+      ≡ (is_lesser strict m && value_of s m.region bits))
+      (λ m h. λ i. is_lesser strict m && g.value m.region h bits i) marks has)
+
+  any_greater-grows : any_greater (λ n. value_of p n bits) strict marks
+      ≡ any_greater (λ n. value_of s n bits) strict marks
+  any_greater-grows =
+      any_same (λ (m : Mark). not (is_lesser strict m) && value_of p m.region bits)
+      (λ (m : Mark). not (is_lesser strict m) && value_of s m.region bits) marks
+      (All-weaker (λ (m : Mark). Has s m.region)
+      (λ (m : Mark). (not (is_lesser strict m) && value_of p m.region bits)
+      ≡ (not (is_lesser strict m) && value_of s m.region bits))
+      (λ m h. λ i. not (is_lesser strict m) && g.value m.region h bits i) marks has)
+
+  pairs_from : (m : Mark) → Has s m.region
+      → list_any (is_pair (λ n. value_of p n bits) strict m) marks
+      ≡ list_any (is_pair (λ n. value_of s n bits) strict m) marks
+  pairs_from m here =
+      any_same (is_pair (λ n. value_of p n bits) strict m)
+      (is_pair (λ n. value_of s n bits) strict m) marks
+      (All-weaker (λ (y : Mark). Has s y.region)
+      (λ (y : Mark). is_pair (λ n. value_of p n bits) strict m y
+      ≡ is_pair (λ n. value_of s n bits) strict m y)
+      (λ y h. λ i. (is_lesser strict m && g.value m.region here bits i)
+      && ((not (is_lesser strict y) && g.value y.region h bits i) && is_before m y)) marks has)
+
+  any_pair-grows : any_pair (λ n. value_of p n bits) strict marks
+      ≡ any_pair (λ n. value_of s n bits) strict marks
+  any_pair-grows =
+      any_same (λ (m : Mark). list_any (is_pair (λ n. value_of p n bits) strict m) marks)
+      (λ (m : Mark). list_any (is_pair (λ n. value_of s n bits) strict m) marks) marks
+      (All-weaker (λ (m : Mark). Has s m.region)
+      (λ (m : Mark). list_any (is_pair (λ n. value_of p n bits) strict m) marks
+      ≡ list_any (is_pair (λ n. value_of s n bits) strict m) marks) pairs_from marks has)
+
+pub passed_before : (s p q : Store) → Grows s p → (strict : Bool) (marks : List Mark)
+    → All (λ (m : Mark). Has s m.region) marks → (r : Passed) → ArePassed p q strict marks r
+    → ArePassed s q strict marks r
+passed_before s p q g strict marks has r h = record {
+  lesser = record {
+    has = h.lesser.has;
+    value = λ bits. h.lesser.value bits
+        ∙ any_lesser-grows s p g strict marks has bits;
+  };
+  greater = record {
+    has = h.greater.has;
+    value = λ bits. h.greater.value bits
+        ∙ any_greater-grows s p g strict marks has bits;
+  };
+  hit = record {
+    has = h.hit.has;
+    value = λ bits. h.hit.value bits
+        ∙ any_pair-grows s p g strict marks has bits;
+  };
+}
+
+pub held_passed : {s z : Store} {strict : Bool} {marks : List Mark} {p : Passed}
+    → ArePassed s z strict marks p → AreHeld z p
+held_passed h = record { lesser = h.lesser.has; greater = h.greater.has; hit = h.hit.has }
+
+pub held-grows : {s z : Store} {p : Passed} → Grows s z → AreHeld s p → AreHeld z p
+held-grows {s} {z} {p} g h = record {
+  lesser = g.has p.lesser h.lesser;
+  greater =
+      g.has p.greater h.greater;
+  hit = g.has p.hit h.hit;
+}
+
+-- one mark makes no pair
+pub alone_passed : (s : Store) (strict : Bool) (m : Mark) → Has s m.region → (l g : ℕ) → l
+    ≡ cond (is_lesser strict m) m.region 0 → g ≡ cond (not (is_lesser strict m)) m.region 0
+    → ArePassed s s strict (m ∷ []) record { lesser = l; greater = g; hit = 0 }
+alone_passed s strict m has l g el eg =
+    subst (λ n. ArePassed s s strict (m ∷ []) record { lesser = n; greater = g; hit = 0 }) (sym el)
+    (subst (λ n. ArePassed s s strict (m ∷ []) record
+    { lesser = cond (is_lesser strict m) m.region 0; greater = n; hit = 0 }) (sym eg) here)
+  where
+    nowhere : Has s 0
+    nowhere = omega arith
+
+    side : (b : Bool) → Has s (cond b m.region 0)
+    side true = has
+    side false = nowhere
+
+    lesser_value : (b : Bool) (bits : List Bool) → value_of s (cond b m.region 0) bits
+        ≡ ((b && value_of s m.region bits) || false)
+    lesser_value true bits = sym (or_none (value_of s m.region bits))
+    lesser_value false bits = value_of-false s.nodes.keys bits
+
+    greater_value : (b : Bool) (bits : List Bool) → value_of s (cond (not b) m.region 0) bits
+        ≡ ((not b && value_of s m.region bits) || false)
+    greater_value true bits = value_of-false s.nodes.keys bits
+    greater_value false bits = sym (or_none (value_of s m.region bits))
+
+    no_pair_alone : (v : ℕ → Bool) → is_pair v strict m m ≡ false
+    no_pair_alone v = by (is_lesser strict m) (v m.region) (is_before m m)
+      where
+        by : (l a b : Bool) → ((l && a) && ((not l && a) && b)) ≡ false
+        by true true b = refl
+        by true false b = refl
+        by false a b = refl
+
+    here : ArePassed s s strict (m ∷ []) record {
+      lesser = cond (is_lesser strict m) m.region 0;
+      greater =
+          cond (not (is_lesser strict m)) m.region 0;
+      hit = 0;
+    }
+    here = record {
+      lesser = record {
+        has = side (is_lesser strict m);
+        value =
+            lesser_value (is_lesser strict m);
+      };
+      greater = record {
+        has = side (not (is_lesser strict m));
+        value =
+            greater_value (is_lesser strict m);
+      };
+      hit = record {
+        has = nowhere;
+        value = λ bits. value_of-false s.nodes.keys bits
+            ∙ sym (or_none (is_pair (λ n. value_of s n bits) strict m m || false)
+            ∙ or_none (is_pair (λ n. value_of s n bits) strict m m)
+            ∙ no_pair_alone (λ n. value_of s n bits));
+      };
     }
 
-    pub pair_passed : IsSortedBy is_before marks → (r : ℕ) → IsRegion b r (λ bits. value_of a h bits || (not (is_lesser strict mark) && (value_of a l bits && value_of a mark.region bits)))
-        → IsRegion b r (λ bits. any_pair (λ q. value_of s q bits) strict (take (i + 1) marks))
-    pair_passed sorted r k = record {
-      has = k.has;
-      value = λ bits. k.value bits ∙ (λ j. found.value bits j || (not (is_lesser strict mark) && (so_far.value bits j && g.value mark.region mark_at_first bits j))) ∙ sym (pair_more (λ q. value_of s q bits) strict marks i mark lt is sorted);
-    }
-
-pub nothing_passed : (s : Store) → IsRegion s 0 (λ bits. false)
+nothing_passed : (s : Store) → IsRegion s 0 (λ bits. false)
 nothing_passed s = record { has = omega arith; value = λ bits. value_of-false s.nodes.keys bits }
 
-pub all_passed : (s a : Store) (strict : Bool) (marks : List Mark) (i r : ℕ) → length marks ≤ i → IsRegion a r (λ bits. any_pair (λ q. value_of s q bits) strict (take i marks)) → IsRegion a r (λ bits. any_pair (λ q. value_of s q bits) strict marks)
-all_passed s a strict marks i r le h = record { has = h.has; value = λ bits. h.value bits ∙ ap (any_pair (λ q. value_of s q bits) strict) (take_all i marks le) }
+pub no_pairs : (s : Store) (strict : Bool) (marks : List Mark) → length marks ≡ 0
+    → IsRegion s 0 (λ bits. any_pair (λ q. value_of s q bits) strict marks)
+no_pairs s strict [] e = nothing_passed s
+no_pairs s strict (m ∷ marks) e = absurd (omega (arith, e))
 
 -- ---- both sides
 

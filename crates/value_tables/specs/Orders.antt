@@ -1,5 +1,5 @@
 -- Order comparisons: the numbers of two operands as marks on one line.
-use Rattle.std.specs.Prelude.{ℕ, Bool, true, false, not, ◌&&◌, if◌then◌else◌, ℤ, int_lt, int_le, List, [], ◌∷◌, ◌++◌, Ok, Err}
+use Rattle.std.specs.Prelude.{ℕ, Bool, true, false, not, ◌&&◌, ◌||◌, if◌then◌else◌, ℤ, int_lt, int_le, List, [], ◌∷◌, ◌++◌, Ok, Err}
 use Rattle.std.specs.List.{list_any}
 use Rattle.std.specs.List.Sorted.{IsPermutation, IsSortedBy}
 use Rattle.std.specs.Ordering.{is_lt, int_cmp, bool_cmp, ordering_then}
@@ -9,6 +9,10 @@ use Rattle.kripke_model.specs.declared.expressions.BinOp.{BinOp}
 use Rattle.kripke_model.specs.Evaluation.{Checked, ◌>>=◌, truth}
 use Rattle.value_tables.specs.declared.cells.Cell.{Cell}
 use Rattle.value_tables.specs.declared.orders.Mark.{Mark}
+use Rattle.value_tables.specs.declared.orders.Passed.{Passed}
+use Rattle.bdd_nodes.specs.declared.store.Store.{Store}
+use Rattle.bdd_nodes.specs.Store.{Has, value_of}
+use Rattle.value_tables.specs.Work.{IsRegion}
 use Rattle.value_tables.specs.Cells.{any_cell}
 
 -- the one number, or the fault
@@ -60,6 +64,9 @@ is_lesser strict m = if strict then m.late else not m.late
 abbrev pub any_lesser : (ℕ → Bool) → Bool → List Mark → Bool
 any_lesser v strict marks = list_any (λ (m : Mark). is_lesser strict m && v m.region) marks
 
+abbrev pub any_greater : (ℕ → Bool) → Bool → List Mark → Bool
+any_greater v strict marks = list_any (λ (m : Mark). not (is_lesser strict m) && v m.region) marks
+
 -- a mark of the lesser side before one of the greater side, both with value 1
 abbrev pub is_pair : (ℕ → Bool) → Bool → Mark → Mark → Bool
 is_pair v strict m n = (is_lesser strict m && v m.region) && ((not (is_lesser strict n) && v n.region) && is_before m n)
@@ -71,3 +78,27 @@ any_pair v strict marks = list_any (λ (m : Mark). list_any (is_pair v strict m)
 pub record AreMarks (strict : Bool) (lesser greater : List Cell) (marks : List Mark) : Type 0 where
   pub moved : IsPermutation (marks_in strict lesser ++ marks_in (not strict) greater) marks
   pub sorted : IsSortedBy is_before marks
+
+-- the regions are diagrams of the store
+pub record AreHeld (s : Store) (p : Passed) : Type 0 where
+  pub lesser : Has s p.lesser
+  pub greater : Has s p.greater
+  pub hit : Has s p.hit
+
+-- what marks are together, by the regions' values in an earlier store
+pub record ArePassed (s z : Store) (strict : Bool) (marks : List Mark) (p : Passed) : Type 0 where
+  pub lesser : IsRegion z p.lesser (λ bits. any_lesser (λ q. value_of s q bits) strict marks)
+  pub greater : IsRegion z p.greater (λ bits. any_greater (λ q. value_of s q bits) strict marks)
+  pub hit : IsRegion z p.hit (λ bits. any_pair (λ q. value_of s q bits) strict marks)
+
+-- a pair among the first, or among those behind, or across both
+abbrev pub hits : Store → Passed → Passed → List Bool → Bool
+hits s first behind bits = (value_of s first.hit bits || value_of s behind.hit bits)
+    || (value_of s first.lesser bits && value_of s behind.greater bits)
+
+pub record AreJoined (s z : Store) (first behind p : Passed) : Type 0 where
+  pub lesser : IsRegion z p.lesser (λ bits. value_of s first.lesser bits
+      || value_of s behind.lesser bits)
+  pub greater : IsRegion z p.greater (λ bits. value_of s first.greater bits
+      || value_of s behind.greater bits)
+  pub hit : IsRegion z p.hit (hits s first behind)

@@ -27,7 +27,7 @@ list_allowance n u = 16 * (n * (n + 4)) * u
 
 -- the same for an operator on tables of l and r cells
 abbrev pub operator_allowance : ℕ → ℕ → ℕ → ℕ
-operator_allowance l r u = 10 * (l + r) + 20 + 2 * u
+operator_allowance l r u = 13 * (l + r) + 26 + 2 * u
 
 -- a diagram of the store with this value at each list of bits
 pub record IsRegion (s : Store) (r : ℕ) (f : List Bool → Bool) : Type 0 where

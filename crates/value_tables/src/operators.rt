@@ -195,7 +195,8 @@ fn related<L: Ledger>(
     ensures region { IfOk result (λ r. IsRegion (store_of engine.new) r (λ bits. in_order (λ q. value_of (store_of engine.old) q bits) op left.now right.now)) }
     ensures held { IfErr result (IsRefusalOf (store_of engine.new)) }
     ensures keeps { Keeps engine.old engine.new steps.old steps.new }
-    ensures spends { Spends (2 * length left.now + 2 * length right.now) (store_of engine.old) (store_of engine.new) }
+    ensures spends { Spends (5 * length left.now + 5 * length right.now) (store_of engine.old)
+        (store_of engine.new) }
 {
     match op {
         BinOp::Lt => below(alloc, engine, true, left, right, steps),
@@ -222,7 +223,8 @@ pub(crate) fn ordered<L: Ledger>(
         → Reads (λ r. value_of (store_of engine.new) r bits) t.cells.items (comparison op a b)) }
     ensures held { IfErr result (IsRefusalOf (store_of engine.new)) }
     ensures keeps { Keeps engine.old engine.new steps.old steps.new }
-    ensures spends { Spends (5 * length left.now + 5 * length right.now + 8) (store_of engine.old) (store_of engine.new) }
+    ensures spends { Spends (8 * length left.now + 8 * length right.now + 8) (store_of engine.old)
+        (store_of engine.new) }
 {
     let faults = faults_of(alloc, engine, left, right, steps)?;
     let hit = related(alloc, engine, op, left, right, steps)?;

@@ -1,14 +1,15 @@
-//! Order comparisons: one pass over the numbers of both operands, in order.
+//! Order comparisons: the numbers of both operands in order, joined in halves.
 
-ghost use Rattle.std.specs.Prelude.{◌≡◌, ◌≤◌, ◌+◌, ◌*◌, ◌++◌, ◌||◌, ◌&&◌, not, if◌then◌else◌, IfOk, IfErr, OnOk, All, length};
+ghost use Rattle.std.specs.Prelude.{◌≡◌, ◌≤◌, ◌+◌, ◌*◌, ◌++◌, ◌∷◌, [], ◌-◌, ◌<◌, ◌||◌, if◌then◌else◌, IfOk, IfErr, OnOk, All, length};
 ghost use Rattle.std.specs.List.Sorted.{IsSortedBy};
+ghost use Rattle.bdd_nodes.specs.declared.store.Store.{Store as Stores};
 ghost use Rattle.bdd_nodes.specs.Store.{Has, value_of};
 ghost use Rattle.bdd_nodes.specs.Refusal.{IsRefusalOf};
 ghost use Rattle.bdd_ops.specs.Engine.{store_of};
 ghost use Rattle.value_tables.specs.declared.cells.Cell.{Cell as Cells};
 ghost use Rattle.value_tables.specs.declared.orders.Mark.{Mark as Marks};
 ghost use Rattle.value_tables.specs.Work.{Keeps, Spends, IsRegion};
-ghost use Rattle.value_tables.specs.Orders.{any_below, mark_of, marks_in, is_before, is_lesser, any_pair, AreMarks};
+ghost use Rattle.value_tables.specs.Orders.{any_below, mark_of, marks_in, is_before, is_lesser, any_pair, hits, AreMarks, AreHeld, AreJoined, ArePassed};
 
 use crate::cells::Cell;
 use crate::regions::{join, join_both};
@@ -69,40 +70,141 @@ fn marks_of(
     Ok(marks)
 }
 
-/// Where some mark so far is of the lesser side, and where one of the greater side stands behind such a one.
+/// Where some of the marks is of the lesser side, where some is of the greater side, and where
+/// one of the greater side stands behind one of the lesser side.
 #[derive(Clone, Copy)]
 struct Passed {
     lesser: Ref,
+    greater: Ref,
     hit: Ref,
 }
 
-/// One more mark.
-fn pass_mark<L: Ledger>(
+/// Whether the mark is of the lesser side.
+fn is_of_lesser(strict: bool, mark: &Mark) -> bool
+    ensures { result ≡ is_lesser strict mark.now }
+{
+    mark.late == strict
+}
+
+/// The region, or the empty one.
+fn region_if(there: bool, region: Ref) -> Ref
+    ensures { result ≡ (if there then region else 0) }
+{
+    if there { region } else { Ref::FALSE }
+}
+
+/// One mark.
+fn one_mark(strict: bool, mark: &Mark) -> Passed
+    ensures { (s : Stores) → Has s mark.now.region → ArePassed s s strict (mark.now ∷ []) result }
+{
+    let of_lesser = is_of_lesser(strict, mark);
+    let lesser = region_if(of_lesser, mark.region);
+    let greater = region_if(!of_lesser, mark.region);
+    Passed {
+        lesser,
+        greater,
+        hit: Ref::FALSE,
+    }
+}
+
+/// Where a pair is among the first marks, or among those behind them, or across both.
+fn join_hits<L: Ledger>(
     engine: &mut Engine,
-    strict: bool,
-    so_far: Passed,
-    mark: Mark,
+    first: &Passed,
+    behind: &Passed,
+    steps: &mut Steps<L>,
+) -> Result<Ref, StoreRefusal>
+    requires first { AreHeld (store_of engine.old) first.now }
+    requires behind { AreHeld (store_of engine.old) behind.now }
+    ensures region { IfOk result (λ r. IsRegion (store_of engine.new) r
+        (hits (store_of engine.old) first.now behind.now)) }
+    ensures held { IfErr result (IsRefusalOf (store_of engine.new)) }
+    ensures keeps { Keeps engine.old engine.new steps.old steps.new }
+    ensures spends { Spends 3 (store_of engine.old) (store_of engine.new) }
+{
+    let either = join(engine, first.hit, behind.hit, steps)?;
+    join_both(engine, either, first.lesser, behind.greater, steps)
+}
+
+/// Where some of the marks of two lists is of each side.
+fn join_sides<L: Ledger>(
+    engine: &mut Engine,
+    first: &Passed,
+    behind: &Passed,
+    hit: Ref,
     steps: &mut Steps<L>,
 ) -> Result<Passed, StoreRefusal>
-    requires lesser { Has (store_of engine.old) so_far.lesser }
-    requires hit { Has (store_of engine.old) so_far.hit }
-    requires mark { Has (store_of engine.old) mark.region }
-    ensures lesser { IfOk result (λ p. IsRegion (store_of engine.new) p.lesser (λ bits. value_of (store_of engine.old) so_far.lesser bits || (is_lesser strict mark && value_of (store_of engine.old) mark.region bits))) }
-    ensures hit { IfOk result (λ p. IsRegion (store_of engine.new) p.hit (λ bits. value_of (store_of engine.old) so_far.hit bits || (not (is_lesser strict mark) && (value_of (store_of engine.old) so_far.lesser bits && value_of (store_of engine.old) mark.region bits)))) }
+    requires first { AreHeld (store_of engine.old) first.now }
+    requires behind { AreHeld (store_of engine.old) behind.now }
+    ensures lesser { IfOk result (λ p. IsRegion (store_of engine.new) p.lesser
+        (λ bits. value_of (store_of engine.old) first.now.lesser bits
+        || value_of (store_of engine.old) behind.now.lesser bits)) }
+    ensures greater { IfOk result (λ p. IsRegion (store_of engine.new) p.greater
+        (λ bits. value_of (store_of engine.old) first.now.greater bits
+        || value_of (store_of engine.old) behind.now.greater bits)) }
+    ensures hit { IfOk result (λ p. p.hit ≡ hit) }
     ensures held { IfErr result (IsRefusalOf (store_of engine.new)) }
     ensures keeps { Keeps engine.old engine.new steps.old steps.new }
     ensures spends { Spends 2 (store_of engine.old) (store_of engine.new) }
 {
-    if mark.late == strict {
-        let lesser = join(engine, so_far.lesser, mark.region, steps)?;
-        return Ok(Passed { lesser, ..so_far });
+    let lesser = join(engine, first.lesser, behind.lesser, steps)?;
+    let greater = join(engine, first.greater, behind.greater, steps)?;
+    Ok(Passed {
+        lesser,
+        greater,
+        hit,
+    })
+}
+
+/// What the first marks and those behind them are together.
+fn join_halves<L: Ledger>(
+    engine: &mut Engine,
+    first: &Passed,
+    behind: &Passed,
+    steps: &mut Steps<L>,
+) -> Result<Passed, StoreRefusal>
+    requires first { AreHeld (store_of engine.old) first.now }
+    requires behind { AreHeld (store_of engine.old) behind.now }
+    ensures joined { IfOk result (AreJoined (store_of engine.old)
+        (store_of engine.new) first.now behind.now) }
+    ensures held { IfErr result (IsRefusalOf (store_of engine.new)) }
+    ensures keeps { Keeps engine.old engine.new steps.old steps.new }
+    ensures spends { Spends 5 (store_of engine.old) (store_of engine.new) }
+{
+    let hit = join_hits(engine, first, behind, steps)?;
+    join_sides(engine, first, behind, hit, steps)
+}
+
+// Where marks are joined one after another, each step makes much of the diagram so far anew. In
+// halves a mark is joined once for each halving.
+/// What marks are together.
+fn pass_marks<L: Ledger>(
+    engine: &mut Engine,
+    strict: bool,
+    marks: &[Mark],
+    steps: &mut Steps<L>,
+) -> Result<Passed, StoreRefusal>
+    requires some { 0 < length marks.now }
+    requires marks { All (λ (m : Marks). Has (store_of engine.old) m.region) marks.now }
+    requires sorted { IsSortedBy is_before marks.now }
+    ensures passed { IfOk result (ArePassed (store_of engine.old)
+        (store_of engine.new) strict marks.now) }
+    ensures held { IfErr result (IsRefusalOf (store_of engine.new)) }
+    ensures keeps { Keeps engine.old engine.new steps.old steps.new }
+    ensures spends { Spends (5 * (length marks.now - 1)) (store_of engine.old)
+        (store_of engine.new) }
+{
+    if marks.len() == 1 {
+        return Ok(one_mark(strict, &marks[0]));
     }
-    let hit = join_both(engine, so_far.hit, so_far.lesser, mark.region, steps)?;
-    Ok(Passed { hit, ..so_far })
+    let (first, behind) = marks.split_at(marks.len() / 2);
+    let before = pass_marks(engine, strict, first, steps)?;
+    let after = pass_marks(engine, strict, behind, steps)?;
+    join_halves(engine, &before, &after, steps)
 }
 
 /// The region where a mark of the lesser side and a later one of the greater side both are.
-fn pass_marks<L: Ledger>(
+fn pairs_of<L: Ledger>(
     engine: &mut Engine,
     strict: bool,
     marks: &[Mark],
@@ -113,20 +215,17 @@ fn pass_marks<L: Ledger>(
     ensures region { IfOk result (λ r. IsRegion (store_of engine.new) r (λ bits. any_pair (λ q. value_of (store_of engine.old) q bits) strict marks.now)) }
     ensures held { IfErr result (IsRefusalOf (store_of engine.new)) }
     ensures keeps { Keeps engine.old engine.new steps.old steps.new }
-    ensures spends { Spends (2 * length marks.now) (store_of engine.old) (store_of engine.new) }
+    ensures spends { Spends (5 * length marks.now) (store_of engine.old) (store_of engine.new) }
 {
-    let mut so_far = Passed {
-        lesser: Ref::FALSE,
-        hit: Ref::FALSE,
-    };
-    for mark in marks {
-        so_far = pass_mark(engine, strict, so_far, *mark, steps)?;
+    if marks.is_empty() {
+        return Ok(Ref::FALSE);
     }
-    Ok(so_far.hit)
+    let passed = pass_marks(engine, strict, marks, steps)?;
+    Ok(passed.hit)
 }
 
 /// The region where some number of the lesser side is less than some number of the greater side, or, where the
-/// comparison isn't strict, not greater. It takes two operations on regions at most for each cell.
+/// comparison isn't strict, not greater. It takes five operations on regions at most for each cell.
 pub(crate) fn below<L: Ledger>(
     alloc: Global,
     engine: &mut Engine,
@@ -140,10 +239,11 @@ pub(crate) fn below<L: Ledger>(
     ensures region { IfOk result (λ r. IsRegion (store_of engine.new) r (λ bits. any_below (λ q. value_of (store_of engine.old) q bits) strict lesser.now greater.now)) }
     ensures held { IfErr result (IsRefusalOf (store_of engine.new)) }
     ensures keeps { Keeps engine.old engine.new steps.old steps.new }
-    ensures spends { Spends (2 * length lesser.now + 2 * length greater.now) (store_of engine.old) (store_of engine.new) }
+    ensures spends { Spends (5 * length lesser.now + 5 * length greater.now) (store_of engine.old)
+        (store_of engine.new) }
 {
     let Ok(marks) = marks_of(alloc, strict, lesser, greater) else {
         return Err(StoreRefusal::Memory);
     };
-    pass_marks(engine, strict, &marks, steps)
+    pairs_of(engine, strict, &marks, steps)
 }

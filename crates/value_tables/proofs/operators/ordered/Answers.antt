@@ -41,8 +41,10 @@ returns-clause-spends g c =
     let l = length c.args.left.now in
     let r = length c.args.right.now in
     let first = c.faults_of.ensures.keeps.grows.levels in
-    Spends-then s m c.decided.new.engine.store (5 * l + 5 * r + 2) 6 _ (c.related.ensures.keeps.grows.levels ∙ first) (omega arith)
-    (Spends-then s c.faults_of.new.engine.store m (3 * l + 3 * r + 2) (2 * l + 2 * r) _ first (omega arith) c.faults_of.ensures.spends c.related.ensures.spends) c.decided.ensures.spends
+    Spends-then s m c.decided.new.engine.store (8 * l + 8 * r + 2) 6 _
+    (c.related.ensures.keeps.grows.levels ∙ first) (omega arith)
+    (Spends-then s c.faults_of.new.engine.store m (3 * l + 3 * r + 2) (5 * l + 5 * r) _ first
+    (omega arith) c.faults_of.ensures.spends c.related.ensures.spends) c.decided.ensures.spends
 
 pub decided-requires-clause-region : goal.decided-requires-clause-region
 decided-requires-clause-region g c = c.related.ensures.keeps.grows.has _ c.in_ok-faults.ensures.region
@@ -54,10 +56,13 @@ pub returns-in_err-faults-clause-spends : goal.returns-in_err-faults-clause-spen
 returns-in_err-faults-clause-spends g c =
     let l = length c.args.left.now in
     let r = length c.args.right.now in
-    Spends-more c.args.engine.now.store c.faults_of.new.engine.store (3 * l + 3 * r + 2) (5 * l + 5 * r + 8) (omega arith) c.faults_of.ensures.spends
+    Spends-more c.args.engine.now.store c.faults_of.new.engine.store (3 * l + 3 * r + 2)
+    (8 * l + 8 * r + 8) (omega arith) c.faults_of.ensures.spends
 
 pub returns-in_err-hit-clause-spends : goal.returns-in_err-hit-clause-spends
 returns-in_err-hit-clause-spends g c =
     let l = length c.args.left.now in
     let r = length c.args.right.now in
-    Spends-then c.args.engine.now.store c.faults_of.new.engine.store c.related.new.engine.store (3 * l + 3 * r + 2) (2 * l + 2 * r) (5 * l + 5 * r + 8) c.faults_of.ensures.keeps.grows.levels (omega arith) c.faults_of.ensures.spends c.related.ensures.spends
+    Spends-then c.args.engine.now.store c.faults_of.new.engine.store c.related.new.engine.store
+    (3 * l + 3 * r + 2) (5 * l + 5 * r) (8 * l + 8 * r + 8) c.faults_of.ensures.keeps.grows.levels
+    (omega arith) c.faults_of.ensures.spends c.related.ensures.spends
