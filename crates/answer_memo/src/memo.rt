@@ -1,10 +1,12 @@
-ghost use Rattle.std.specs.Prelude.{◌≡◌, ◌<◌, ◌≤◌, ◌⊎◌, if◌then◌else◌, [], ◌∷◌, length, map};
-ghost use Rattle.std.specs.Prelude.{replicate, slice_get, is_some, None, Contains, IfOk, IfSome, OnOk, OnErr};
+ghost use Rattle.std.specs.Prelude.{◌≡◌, ℕ, ◌+◌, ◌<◌, ◌≤◌, ◌^◌, ◌⊎◌, if◌then◌else◌};
+ghost use Rattle.std.specs.Prelude.{List, [], ◌∷◌, length, map, Option};
+ghost use Rattle.std.specs.Prelude.{replicate, slice_get, is_some, None, Some, Contains, IfOk, IfSome, OnOk, OnErr};
 ghost use Rattle.std.specs.Map.{lookup as found};
 ghost use Rattle.std.specs.List.Sorted.{IsPermutation};
 ghost use Rattle.std.specs.NonZero.{non_zero_usize_get};
 ghost use Rattle.answer_memo.specs.Memo.{memo, entries_in};
-ghost use Rattle.answer_memo.specs.Slots.{swept, slot_value, settled};
+ghost use Rattle.answer_memo.specs.declared.memo.Held.{Held as Entry};
+ghost use Rattle.answer_memo.specs.Slots.{swept, slot_value, settled, IsSpread};
 ghost use Rattle.lru.specs.LruCache.{lru_cache};
 
 use crate::place::place_of;
@@ -16,6 +18,9 @@ use std::num::NonZeroUsize;
 
 /// The most slots that a memo has.
 const SLOTS: usize = 0x10_0000;
+
+/// The most slots that a memo begins with.
+const FIRST_SLOTS: usize = 1024;
 
 /// An entry in a slot, with the round in which it came.
 #[derive(Clone, Copy)]
@@ -40,6 +45,7 @@ pub struct Memo<K: Copy + Eq + Hash, V: Copy> {
     // how many entries are of this round
     fresh: usize,
     capacity: usize,
+    alloc: Global,
 }
 
 impl<K: Copy + Eq + Hash, V: Copy> Model for Memo<K, V> {
@@ -67,12 +73,13 @@ impl<K: Copy + Eq + Hash, V: Copy> Memo<K, V> {
     {
         let most = capacity.get();
         Ok(Memo {
-            slots: empty_slots(alloc, (most - most / 8).min(SLOTS)),
+            slots: empty_slots(alloc, most_slots(most).min(FIRST_SLOTS)),
             filled: 0,
             rest: LruCache::sparse(alloc, capacity)?,
             round: 0,
             fresh: 0,
             capacity: most,
+            alloc,
         })
     }
 
@@ -174,6 +181,33 @@ impl<K: Copy + Eq + Hash, V: Copy> Memo<K, V> {
         forget(&mut self.rest);
         self.round += 1;
         self.fresh = 0;
+        self.widen();
+    }
+
+    /// Doubles the slots where more than half of them are filled, as far as there may be more and
+    /// memory allows. Of two entries that now want one slot the first is forgotten.
+    fn widen(&mut self)
+        requires { self.old.fresh ≡ [] }
+        ensures fresh { self.new.fresh ≡ [] }
+        ensures within { (k : K) (v : V) → Contains (entries_in self.new) (k, v)
+            → Contains (entries_in self.old) (k, v) }
+        ensures few { length (entries_in self.new) ≤ self.new.cap }
+        ensures capacity { self.new.cap ≡ self.old.cap }
+    {
+        let held = self.slots.len();
+        if self.filled <= held / 2 {
+            return;
+        }
+        let wanted = most_slots(self.capacity).min(2 * held);
+        if wanted <= held {
+            return;
+        }
+        let mut slots = empty_slots(self.alloc, wanted);
+        if slots.is_empty() {
+            return;
+        }
+        self.filled = spread(self.slots.as_slice(), &mut slots);
+        self.slots = slots;
     }
 
     /// Forgets every entry.
@@ -197,6 +231,15 @@ fn value_at<K: Copy + Eq, V: Copy>(slots: &[Option<Held<K, V>>], at: usize, key:
         Some(Some(held)) if held.key == key => Some(held.value),
         _ => None,
     }
+}
+
+/// How many slots a memo of this capacity has at most: fewer than entries, so that it is full only
+/// where many entries are in the cache.
+fn most_slots(capacity: usize) -> usize
+    ensures few { result ≤ capacity }
+    ensures most { result ≤ 2 ^ 20 }
+{
+    (capacity - capacity / 8).min(SLOTS)
 }
 
 /// The slots, all empty, or none where they find no memory.
@@ -239,6 +282,57 @@ fn settle<K: Copy + Eq + Hash, V: Copy>(
         rest.put(held.key, held.value)?;
     }
     Ok(0)
+}
+
+/// Moves the entries of the slots into others, which are empty. Gives how many are filled.
+fn spread<K: Copy + Eq + Hash, V: Copy>(
+    from: &[Option<Held<K, V>>],
+    to: &mut Vec<Option<Held<K, V>>>,
+) -> usize
+    requires empty { to.old.items ≡ replicate (length to.old.items) None }
+    requires few { length to.old.items ≤ 2 ^ 20 }
+    ensures spread { IsSpread K.hash_input from.now to.new.items result }
+    ensures length { length to.new.items ≡ length to.old.items }
+{
+    let mut filled = 0;
+    let mut i = 0;
+    while i < from.len() {
+        filled += move_in(from[i], to);
+        i += 1;
+    }
+    filled
+}
+
+/// Moves the entry of a slot into its place. Gives 1 where that was empty.
+fn move_in<K: Copy + Eq + Hash, V: Copy>(
+    slot: Option<Held<K, V>>,
+    to: &mut Vec<Option<Held<K, V>>>,
+) -> usize
+    requires { length to.old.items ≤ 2 ^ 20 }
+    ensures spread { (from : List (Option (Entry K V))) (i n : ℕ) → slice_get from i ≡ Some slot
+        → IsSpread K.hash_input from to.old.items n
+        → IsSpread K.hash_input from to.new.items (n + result) }
+    ensures length { length to.new.items ≡ length to.old.items }
+    ensures one { result ≤ 1 }
+{
+    let Some(held) = slot else {
+        return 0;
+    };
+    let at = place_of(&held.key, to.len());
+    if at >= to.len() {
+        return 0;
+    }
+    let newly = one_if_empty(&to[at]);
+    to[at] = Some(held);
+    newly
+}
+
+/// 1 for an empty slot, and else 0.
+#[inline(always)]
+fn one_if_empty<K: Copy, V: Copy>(slot: &Option<Held<K, V>>) -> usize
+    ensures { result ≡ (if is_some slot.now then 0 else 1) }
+{
+    if slot.is_none() { 1 } else { 0 }
 }
 
 /// Empties the slots but for those with an entry of this round.
