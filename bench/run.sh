@@ -69,7 +69,7 @@ echo "of ours, after them: $(of "$work/a.inclusive" 'LruCache::drop')"
 echo "instructions of each function of ours, its own:"
 grep -E '^ *[0-9,]+ \( *[0-9.]+%\)' "$work/a.own" | sed 's/\[[^]]*\]$//' | head -18
 echo "the same with all that it calls:"
-grep -E 'Engine::(note|make)|Nodes::(find|insert)|HashMap::grow|IndexMap::grow|LruCache::drop|KeyHash|rattle_(de)?alloc' \
+grep -E 'Engine::(note|add|make)|Memo::(find|begin|insert|widen)|Nodes::(find|insert)|HashMap::grow|IndexMap::grow|LruCache::drop|KeyHash|rattle_(de)?alloc' \
     "$work/a.inclusive" | sed 's/\[[^]]*\]$//'
 echo "instructions of each function of BuDDy, its own:"
 grep -E '^ *[0-9,]+ \( *[0-9.]+%\)' "$work/b.own" | sed 's/\[[^]]*\]$//' | head -8
