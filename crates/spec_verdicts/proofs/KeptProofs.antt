@@ -1,5 +1,5 @@
 -- Proofs over pins that stand for what they stood for.
-use Rattle.std.proofs.Common.{◌≡◌, ℕ, ◌+◌, true, List, Some, Result, Ok, Err, IfOk, refl, sym, subst}
+use Rattle.std.proofs.Common.{◌≡◌, ℕ, ◌+◌, ◌≤◌, true, List, Some, Result, Ok, Err, IfOk, refl, sym, subst}
 use Rattle.kripke_model.specs.Ctl.{Ctl}
 use Rattle.kripke_model.specs.Signs.{node_count}
 use Rattle.kripke_model.specs.System.{System}
@@ -27,3 +27,9 @@ nodes_are m j f is = rw is refl
 pub held_for : {T : Type 0} {a b : Sets} {xs : List ℕ} {r : Result T SetRefusal} (m : System) (f : Ctl) (j : ℕ) → spec_formula m j ≡ Some f
     → IsCall (pin_bound m (spec_nodes m j + constraint_nodes m) (state_count m)) a b xs r → IsCall (pin_bound m (node_count f + constraint_nodes m) (state_count m)) a b xs r
 held_for {T} {a} {b} {xs} {r} m f j is call = subst (λ (n : ℕ). IsCall (pin_bound m (n + constraint_nodes m) (state_count m)) a b xs r) (nodes_are m j f is) call
+
+pub few_for : (m : System) (f : Ctl) (j k : ℕ) → spec_formula m j ≡ Some f
+    → k ≤ pin_bound m (spec_nodes m j + constraint_nodes m) (state_count m)
+    → k ≤ pin_bound m (node_count f + constraint_nodes m) (state_count m)
+few_for m f j k is few =
+    subst (λ (n : ℕ). k ≤ pin_bound m (n + constraint_nodes m) (state_count m)) (nodes_are m j f is) few

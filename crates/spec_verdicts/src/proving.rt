@@ -1,5 +1,5 @@
 // What is found of a specification with a proof of it, over any sets of states.
-ghost use Rattle.std.specs.Prelude.{◌≡◌, ◌+◌, ◌*◌, IfOk, IsSomeAnd, Some, is_none};
+ghost use Rattle.std.specs.Prelude.{◌≡◌, ◌≤◌, ◌+◌, ◌*◌, IfOk, IsSomeAnd, Some, is_none, length};
 ghost use Rattle.kripke_model.specs.Signs.{node_count};
 ghost use Rattle.kripke_model.specs.WellFormed.{ctl_of};
 ghost use Rattle.fair_rules.specs.FreePart.{constraint_nodes};
@@ -62,6 +62,8 @@ fn proof_by<S: StateSets>(
     ensures call { IsCall
         (pin_bound model.now (spec_nodes model.now spec + constraint_nodes model.now) (state_count model.now))
         (S.seen sets.old) (S.seen sets.new) (proof_result_slots result) result }
+    ensures few { length (proof_result_slots result) ≤ pin_bound model.now
+        (spec_nodes model.now spec + constraint_nodes model.now) (state_count model.now) }
     ensures claim { IfOk result (λ proof. proof.claim ≡ is_none (fails_at (outcome_of outcome.now))) }
     ensures state { IfOk result (λ proof. proof.at ≡ fails_at (outcome_of outcome.now)) }
     ensures proof { IfOk result (λ proof.
@@ -90,6 +92,8 @@ fn proved_by<S: StateSets>(
     ensures call { IsCall (pin_bound model.now
         (node_count (ctl_of formula.now) + constraint_nodes model.now) (state_count model.now))
         (S.seen sets.old) (S.seen sets.new) (proved_slots result) result }
+    ensures few { length (proved_slots result) ≤ pin_bound model.now
+        (node_count (ctl_of formula.now) + constraint_nodes model.now) (state_count model.now) }
     ensures found { IfOk result (λ found.
         IsDecided model.now (ctl_of formula.now) (outcome_of found.outcome)) }
     ensures proof { IfOk result (HasProof model.now spec (S.seen sets.new)) }
@@ -103,7 +107,7 @@ fn proved_by<S: StateSets>(
 /// this formula, counted from 1.
 ///
 /// `Full` comes only from a store that met its limit. The pins of the proof alone are live after the
-/// call and were not before.
+/// call and were not before; they are at most those of `pin_bound`.
 pub fn prove<S: StateSets>(
     alloc: Global,
     sets: &mut S,
@@ -117,6 +121,8 @@ pub fn prove<S: StateSets>(
     ensures call { IsCall (2 * pin_bound model.now
         (node_count (ctl_of formula.now) + constraint_nodes model.now) (state_count model.now))
         (S.seen sets.old) (S.seen sets.new) (proved_slots result) result }
+    ensures few { length (proved_slots result) ≤ pin_bound model.now
+        (node_count (ctl_of formula.now) + constraint_nodes model.now) (state_count model.now) }
     ensures found { IfOk result (λ found.
         IsDecided model.now (ctl_of formula.now) (outcome_of found.outcome)) }
     ensures proof { IfOk result (HasProof model.now spec (S.seen sets.new)) }

@@ -1,4 +1,4 @@
-use Rattle.std.proofs.Common.{◌+◌, refl, arith}
+use Rattle.std.proofs.Common.{◌+◌, length, refl, arith}
 use Rattle.std.proofs.lemmas.Result.{err_from_is_err_and}
 use Rattle.kripke_model.specs.Signs.{node_count}
 use Rattle.kripke_model.specs.WellFormed.{ctl_of}
@@ -13,7 +13,8 @@ use Rattle.proof_form.specs.Shape.{spec_formula}
 use Rattle.rank_extract.specs.Extracts.{IsLiveRun}
 use Rattle.smv_texts.specs.Outcomes.{outcome_of}
 use Rattle.spec_verdicts.proofs.Shown.{all_live, live_run, on_some, shown}
-use Rattle.spec_verdicts.proofs.KeptProofs.{held_for}
+use Rattle.proof_form.specs.Pinned.{proof_slots}
+use Rattle.spec_verdicts.proofs.KeptProofs.{few_for, held_for}
 use Rattle.spec_verdicts.proofs.proving.proved_by.Goals as goal
 
 pub proof_by-requires-clause-run : goal.proof_by-requires-clause-run
@@ -50,3 +51,8 @@ returns-clause-call g c =
     let f = ctl_of c.args.formula.now in
     let b = pin_bound m (node_count f + constraint_nodes m) (state_count m) in
     to_ok _ (then_call b c.in_ok-outcome.ensures.call (held_for m f c.args.spec c.requires.spec c.in_ok-proof.ensures.call) (omega arith) (omega arith))
+
+pub returns-clause-few : goal.returns-clause-few
+returns-clause-few g c =
+    few_for c.args.model.now (ctl_of c.args.formula.now) c.args.spec (length (proof_slots c.in_ok-proof.proof))
+    c.requires.spec c.in_ok-proof.ensures.few
