@@ -1,17 +1,18 @@
 -- The transition relation of the code, and why there is none.
-use Rattle.std.specs.Prelude.{◌≡◌, ◌⊎◌, ◌<◌, ◌≤◌, ℕ, Bool, true, false, List, Option, Some}
-use Rattle.bdd_nodes.specs.Refusal.{levels_shown, number_shown}
+use Rattle.std.specs.Prelude.{◌≡◌, ◌⊎◌, ◌<◌, ◌≤◌, ◌+◌, ◌*◌, ℕ, Bool, true, false, List, Option, Some}
 use Rattle.bdd_nodes.specs.Store.{limit_of}
 use Rattle.bit_encode.specs.Code.{state_bits}
 use Rattle.kripke_model.specs.Ctl.{Ctl}
 use Rattle.kripke_model.specs.Faults.{IsFaultless}
 use Rattle.kripke_model.specs.System.{System}
 use Rattle.kripke_model.specs.WellFormed.{ctl_of}
+use Rattle.kripke_model.specs.Signs.{node_count}
+use Rattle.fair_rules.specs.FreePart.{constraint_nodes}
+use Rattle.fair_fixpoint.specs.SatSets.{pin_bound}
 use Rattle.fair_fixpoint.specs.Walks.{HasModelLeaves}
 use Rattle.proof_form.specs.Shape.{spec_formula}
-use Rattle.region_sets.specs.Sets.{Gauge}
-use Rattle.region_sets.specs.declared.pins.SetRefusal.{SetRefusal}
-use Rattle.region_sets.specs.declared.pins.SetRefusal.TheVariants.{Full, Memory}
+use Rattle.region_sets.specs.Sets.{Sets}
+use Rattle.region_sets.specs.States.{state_count}
 use Rattle.trans_parts.specs.FirstFault.{IsFirstFault}
 use Rattle.trans_parts.specs.Parts.{coding_of, model_of, store_of}
 use Rattle.trans_parts.specs.declared.building.BuildRefusal.{BuildRefusal}
@@ -54,10 +55,17 @@ Stops m (stops.TooManyBits bits) = (most_state_bits < state_bits m) × (bits ≡
 Stops m (stops.Fault f) = (state_bits m ≤ most_state_bits) × IsFirstFault m f.kind f.line f.here f.after
 Stops m stops.Memory = Unit {0}
 
--- a store of these sets was full, or there was no memory
-abbrev pub IsOfGauge : Gauge → SetRefusal → Type 0
-IsOfGauge gauge (Full held) = (levels_shown held ≡ gauge.levels) × (number_shown held ≡ gauge.limit)
-IsOfGauge gauge Memory = Unit {0}
+-- the sets are over this model, in a store of this limit, with the variables in declared order, and
+-- none is live
+pub record IsReady (m : System) (limit : ℕ) (sets : Sets) : Type 0 where
+  pub over : sets.over ≡ m
+  pub gauge : sets.gauge
+      ≡ record { levels = 2 * state_bits m; limit = limit; order = own_order m }
+  pub live : sets.live ≡ 0
+
+-- so many sets are held at a time while a specification with this formula is tried
+abbrev pub trial_pins : System → Ctl → ℕ
+trial_pins m f = 2 * pin_bound m (node_count f + constraint_nodes m) (state_count m)
 
 -- the specification of this number, counted from 1, has this formula
 pub record IsTrial (m : System) (trial : Trial) : Type 0 where

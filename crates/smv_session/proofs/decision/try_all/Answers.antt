@@ -1,14 +1,28 @@
-use Rattle.std.proofs.Common.{◌<◌, ◌+◌, take, length, refl, sym, subst, arith}
-use Rattle.std.specs.Prelude.{IfSome, option_map}
+use Rattle.std.proofs.Common.{◌<◌, ◌+◌, take, length, refl, ap, subst, arith}
+use Rattle.std.specs.Prelude.{option_map}
 use Rattle.std.proofs.lemmas.List.{take_all}
 use Rattle.std.specs.List.{slice_index_or}
-use Rattle.smv_session.specs.Relation.{AreOver}
+use Rattle.diagram_sets.specs.Kept.{diagram_sets}
+use Rattle.region_sets.specs.Sets.{Gauge}
+use Rattle.smv_session.proofs.Ready.{ready_new}
 use Rattle.spec_verdicts.specs.Found.{AreFound}
 use Rattle.smv_session.proofs.FormulaPlaces.{as_many, leaves_at, tried_in, front_more, none_yet, spec_at}
 use Rattle.smv_session.proofs.decision.try_all.Goals as goal
 
 pub loop-place-init : goal.loop-place-init
-loop-place-init c = record { found = c.in_ok-found.ensures c.args.limit; built = c.requires.parts }
+loop-place-init c =
+    let x = c.new-sets.result in
+    record {
+      found = c.in_ok-found.ensures c.args.limit;
+      ready = ready_new c.args.model.now c.args.limit c.args.parts (diagram_sets x.parts x.pins x.fulls) c.requires
+          c.new-sets.ensures.over c.new-sets.ensures.gauge c.new-sets.ensures.live;
+    }
+
+pub try_next-requires-clause-over : goal.try_next-requires-clause-over
+try_next-requires-clause-over c = c.loop-place.invariant.ready.over
+
+pub try_next-requires-clause-order : goal.try_next-requires-clause-order
+try_next-requires-clause-order c = ap (λ (g : Gauge). g.order) c.loop-place.invariant.ready.gauge
 
 pub overflow_cast-trial : goal.overflow_cast-trial
 overflow_cast-trial c =
@@ -41,8 +55,8 @@ loop-place-preserved c =
     record {
       found = front_more m c.args.limit _ i c.add.new.found below
           (c.in_ok-add.ensures _ (take i m.specs) (slice_index_or m.specs i none_yet) c.loop-place.invariant.found
-          (tried_in m c.args.limit fs i c.index-formulas-place.result c.in_ok-tried.tried (λ name. name.now) c.args.proofs c.is_some.result c.index-formulas-place.is c.formulas-formulas.ensures c.loop-place-test.true c.is_some.ensures c.in_ok-tried.ensures));
-      built = subst (λ o. IfSome o (AreOver m c.args.limit)) (sym c.take.ensures.after) tt;
+          (tried_in m c.args.limit fs i c.index-formulas-place.result c.in_ok-tried.tried (λ name. name.now) c.args.proofs c.is_some.result c.index-formulas-place.is c.formulas-formulas.ensures c.loop-place-test.true c.is_some.ensures (c.in_ok-tried.ensures.tried c.args.limit c.loop-place.invariant.ready)));
+      ready = c.in_ok-tried.ensures.ready c.args.limit c.loop-place.invariant.ready;
     }
 
 pub returns : goal.returns
