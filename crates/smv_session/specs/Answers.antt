@@ -52,7 +52,8 @@ pub record IsDone (w : Work) (contents : Option Contents) (m : System) (r : Repl
 abbrev pub Takes : Work → Option Contents → System → Reply → Type 0
 Takes w contents m r = Undecides w.job m w.limit r ⊎ IsDone w contents m r
 
-pub record IsTaken (w : Work) (contents : Option Contents) (bytes : List ℕ) (r : Reply) : Type 0 where
+pub record IsTaken (w : Work) (contents : Option Contents) (bytes : List ℕ)
+    (r : Reply) : Type 0 where
   pub model : System
   pub has : HasModel bytes model
   pub names : NamesLeaves w.job model
@@ -71,11 +72,14 @@ pub record Says (text : List ℕ) (r : Reply) : Type 0 where
 abbrev pub Answers : Command → Option Contents → Reply → Type 0
 Answers words.Usage contents r = Says usage_text r × (r.ending ≡ Usage)
 Answers (Print n) contents r = Says (ring_text n) r × (r.ending ≡ Clear)
-Answers (Do w) contents r = (bytes : List ℕ) × Reads w.source contents bytes × IsModelReply w contents bytes r
+Answers (Do w) contents r =
+    (bytes : List ℕ) × Reads w.source contents bytes × IsModelReply w contents bytes r
 
--- The command loads a file of this name: its source, and a second one only where the model's text is accepted.
+-- The command loads a file of this name: its source, and a second one only where the model's text
+-- is accepted.
 abbrev pub Loads : Command → Option Contents → List ℕ → Type 0
 Loads words.Usage contents name = ⊥
 Loads (Print n) contents name = ⊥
 Loads (Do w) contents name = IsSourceName w.source name
-    ⊎ (IsSecondName w.job name × (bytes : List ℕ) × (m : System) × Reads w.source contents bytes × IsAccepted bytes m)
+    ⊎ (IsSecondName w.job name × (bytes : List ℕ) × (m : System) × Reads w.source contents bytes
+    × IsAccepted bytes m)

@@ -1,4 +1,5 @@
--- What is promised of each command, in its own words: a record for each, which the promises of every call give.
+-- What is promised of each command, in its own words: a record for each, which the promises of
+-- every call give.
 use Rattle.std.specs.Prelude.{◌≡◌, ◌≢◌, ◌⊎◌, ℕ, List, Option, Some, None, IfSome}
 use Rattle.command_words.specs.Words.{Work, Decide, Recheck, Print, command_of}
 use Rattle.kripke_model.specs.Faults.{IsFaultless}
@@ -17,36 +18,48 @@ use Rattle.smv_session.specs.Source.{HasModel}
 
 -- `gen N`: the ring's text is put.
 pub record GeneratesText (s : Session) : Type 0 where
-  pub generates : IsUndisturbed s → (n : ℕ) → command_of s.words ≡ Print n → (s.status ≡ Clear) × Puts s (ring_text n)
+  pub generates : IsUndisturbed s → (n : ℕ) → command_of s.words ≡ Print n
+      → (s.status ≡ Clear) × Puts s (ring_text n)
 
 -- where no proofs are asked for none is left out
 abbrev pub TellsOfProofs : Option (List ℕ) → List Finding → Type 0
 TellsOfProofs None findings = LeavesNoneOut findings
 TellsOfProofs (Some name) findings = Unit {0}
 
--- what is found of the specifications of a model without faults; or nothing, where the limit was met before that was known
-pub record AreFoundIn (m : System) (limit : ℕ) (proofs : Option (List ℕ)) (findings : List Finding) : Type 0 where
+-- what is found of the specifications of a model without faults; or nothing, where the limit was
+-- met before that was known
+pub record AreFoundIn (m : System) (limit : ℕ) (proofs : Option (List ℕ))
+    (findings : List Finding) : Type 0 where
   pub verdicts : AreVerdicts m limit findings
   pub known : IsFaultless m ⊎ (findings ≡ all_unknown m limit)
   pub told : TellsOfProofs proofs findings
 
--- `check`, and `gen N --check`: a model of which no fault is told is answered by the report of one outcome for each
--- specification. True and false come only where the model is accepted and are the truth.
+-- `check`, and `gen N --check`: a model of which no fault is told is answered by the report of one
+-- outcome for each specification. True and false come only where the model is accepted and are the
+-- truth.
 pub record ReportsVerdicts (s : Session) : Type 0 where
-  pub reports : IsUndisturbed s → (w : Work) (bytes : List ℕ) (m : System) (proofs : Option (List ℕ)) → Asks s w bytes → w.job ≡ Decide proofs → HasModel bytes m → s.status ≢ ModelRefused
-      → (findings : List Finding) × Puts s (report m findings) × AreFoundIn m w.limit proofs findings
+  pub reports : IsUndisturbed s
+      → (w : Work) (bytes : List ℕ) (m : System) (proofs : Option (List ℕ)) → Asks s w bytes
+      → w.job ≡ Decide proofs → HasModel bytes m → s.status ≢ ModelRefused
+      → (findings : List Finding) × Puts s (report m findings)
+      × AreFoundIn m w.limit proofs findings
 
 -- With a false verdict state 0 is the least initial state at which the specification is false.
 pub record ShowsStates (s : Session) : Type 0 where
-  pub shows : IsUndisturbed s → (w : Work) (bytes : List ℕ) (m : System) (proofs : Option (List ℕ)) → Asks s w bytes → w.job ≡ Decide proofs → HasModel bytes m → s.status ≢ ModelRefused
-      → (findings : List Finding) × Puts s (report m findings) × AreFoundIn m w.limit proofs findings × ShowStates m findings
+  pub shows : IsUndisturbed s → (w : Work) (bytes : List ℕ) (m : System) (proofs : Option (List ℕ))
+      → Asks s w bytes → w.job ≡ Decide proofs → HasModel bytes m → s.status ≢ ModelRefused
+      → (findings : List Finding) × Puts s (report m findings)
+      × AreFoundIn m w.limit proofs findings × ShowStates m findings
 
--- `check --proof`: where a report is put, the file of the proofs of what it tells stands under the name, and all other
--- names keep their bytes.
+-- `check --proof`: where a report is put, the file of the proofs of what it tells stands under the
+-- name, and all other names keep their bytes.
 pub record ExportsProofs (s : Session) : Type 0 where
-  pub exports : IsUndisturbed s → (w : Work) (bytes : List ℕ) (m : System) (name : List ℕ) → Asks s w bytes → w.job ≡ Decide (Some name) → HasModel bytes m → s.status ≢ ModelRefused
-      → (findings : List Finding) × Puts s (report m findings) × AreFoundIn m w.limit (Some name) findings
-      × ((file : List ℕ) × Exports m findings file × Leaves (Some (name, file)) s.contents s.contents_after)
+  pub exports : IsUndisturbed s → (w : Work) (bytes : List ℕ) (m : System) (name : List ℕ)
+      → Asks s w bytes → w.job ≡ Decide (Some name) → HasModel bytes m → s.status ≢ ModelRefused
+      → (findings : List Finding) × Puts s (report m findings)
+      × AreFoundIn m w.limit (Some name) findings
+      × ((file : List ℕ) × Exports m findings file
+      × Leaves (Some (name, file)) s.contents s.contents_after)
 
 -- what is put and answered for a proof file of a model without faults
 pub record IsRechecked (s : Session) (m : System) (limit : ℕ) (proofs : List ℕ) : Type 0 where
@@ -57,9 +70,11 @@ pub record IsRechecked (s : Session) (m : System) (limit : ℕ) (proofs : List �
   pub rechecked : Rechecked m limit bytes reply
   pub shows : Shows s reply
 
--- `recheck`: the proof file is refused, or each of its blocks is answered. It is accepted only where the model is accepted,
--- each of its lines shows what it has to and its claim is true; it is rejected only at the first line that doesn't. Where
--- the limit was met before the model was decided, that alone is told.
+-- `recheck`: the proof file is refused, or each of its blocks is answered. It is accepted only
+-- where the model is accepted, each of its lines shows what it has to and its claim is true; it is
+-- rejected only at the first line that doesn't. Where the limit was met before the model was
+-- decided, that alone is told.
 pub record RechecksProofs (s : Session) : Type 0 where
-  pub rechecks : IsUndisturbed s → (w : Work) (bytes : List ℕ) (m : System) (proofs : List ℕ) → Asks s w bytes → w.job ≡ Recheck proofs → HasModel bytes m → s.status ≢ ModelRefused
+  pub rechecks : IsUndisturbed s → (w : Work) (bytes : List ℕ) (m : System) (proofs : List ℕ)
+      → Asks s w bytes → w.job ≡ Recheck proofs → HasModel bytes m → s.status ≢ ModelRefused
       → ((r : Reply) × LeavesUnanswered m w.limit r × Shows s r) ⊎ IsRechecked s m w.limit proofs

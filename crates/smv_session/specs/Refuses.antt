@@ -10,18 +10,29 @@ use Rattle.kripke_model.specs.System.{System}
 use Rattle.command_words.specs.Words.{Job}
 use Rattle.bit_encode.specs.Code.{state_bits}
 use Rattle.trans_parts.specs.FirstFault.{IsFirstFault}
-use Rattle.smv_texts.specs.Refusals.{Refusal, TooLong, BadByte, NumberTooLarge, NoProgram, TooDeep, NotFlat, BreaksRule, TooManyBits, Faults}
+use Rattle.smv_texts.specs.Refusals.{Refusal, TooLong, BadByte, NumberTooLarge, NoProgram, TooDeep}
+use Rattle.smv_texts.specs.Refusals.{NotFlat, BreaksRule, TooManyBits, Faults}
 use Rattle.smv_session.specs.Jobs.{NamesLeaves}
-use Rattle.smv_session.specs.Source.{line_at, token_line, HasTokens, HasProgram, HasFlat, HasRuled, HasModel, most_state_bits}
+use Rattle.smv_session.specs.Source.{line_at, token_line, HasTokens, HasProgram, HasFlat, HasRuled}
+use Rattle.smv_session.specs.Source.{HasModel, most_state_bits}
 
 -- The refusal applies to the text, where it is to be taken for the job.
 abbrev pub Refuses : Job → List ℕ → Refusal → Type 0
 Refuses job bytes TooLong = most_bytes < length bytes
-Refuses job bytes (BadByte l) = (length bytes ≤ most_bytes) × (at : ℕ) × IsBadByteAt bytes at × (l ≡ line_at bytes at)
-Refuses job bytes (NumberTooLarge l) = (length bytes ≤ most_bytes) × (at : ℕ) × IsTooLargeAt bytes at × (l ≡ line_at bytes at)
-Refuses job bytes (NoProgram l) = (ts : List Placed) × (at : ℕ) × HasTokens bytes ts × IsSyntaxPlace ts at × (l ≡ token_line bytes ts at)
-Refuses job bytes (TooDeep l) = (ts : List Placed) × (at : ℕ) × HasTokens bytes ts × IsTooDeepPlace ts at × (l ≡ token_line bytes ts at)
-Refuses job bytes (NotFlat r) = (p : Program) × HasProgram bytes p × flattening.Refuses (plain.program p) r
+Refuses job bytes (BadByte l) =
+    (length bytes ≤ most_bytes) × (at : ℕ) × IsBadByteAt bytes at × (l ≡ line_at bytes at)
+Refuses job bytes (NumberTooLarge l) =
+    (length bytes ≤ most_bytes) × (at : ℕ) × IsTooLargeAt bytes at × (l ≡ line_at bytes at)
+Refuses job bytes (NoProgram l) =
+    (ts : List Placed) × (at : ℕ) × HasTokens bytes ts × IsSyntaxPlace ts at
+    × (l ≡ token_line bytes ts at)
+Refuses job bytes (TooDeep l) =
+    (ts : List Placed) × (at : ℕ) × HasTokens bytes ts × IsTooDeepPlace ts at
+    × (l ≡ token_line bytes ts at)
+Refuses job bytes (NotFlat r) =
+    (p : Program) × HasProgram bytes p × flattening.Refuses (plain.program p) r
 Refuses job bytes (BreaksRule r) = (m : System) × HasFlat bytes m × Breaks m r
-Refuses job bytes (TooManyBits bits) = (m : System) × HasRuled bytes m × (most_state_bits < state_bits m) × (bits ≡ state_bits m)
-Refuses job bytes (Faults m kind l here after) = HasModel bytes m × NamesLeaves job m × IsFirstFault m kind l here after
+Refuses job bytes (TooManyBits bits) =
+    (m : System) × HasRuled bytes m × (most_state_bits < state_bits m) × (bits ≡ state_bits m)
+Refuses job bytes (Faults m kind l here after) =
+    HasModel bytes m × NamesLeaves job m × IsFirstFault m kind l here after

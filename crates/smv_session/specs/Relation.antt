@@ -1,5 +1,6 @@
 -- The transition relation of the code, and why there is none.
-use Rattle.std.specs.Prelude.{◌≡◌, ◌⊎◌, ◌<◌, ◌≤◌, ◌+◌, ◌*◌, ℕ, Bool, true, false, List, Option, Some}
+use Rattle.std.specs.Prelude.{◌≡◌, ◌⊎◌, ◌<◌, ◌≤◌, ◌+◌, ◌*◌, ℕ, Bool, true, false, List, Option}
+use Rattle.std.specs.Prelude.{Some}
 use Rattle.bdd_nodes.specs.Store.{limit_of}
 use Rattle.bit_encode.specs.Code.{state_bits}
 use Rattle.kripke_model.specs.Ctl.{Ctl}
@@ -43,16 +44,19 @@ pub record AreOver (m : System) (limit : ℕ) (p : Parts) : Type 0 where
 
 -- why there are none with the variables in declared order
 abbrev pub IsNotBuilt : System → ℕ → BuildRefusal → Type 0
-IsNotBuilt m limit (refusals.TooManyBits bits) = (most_state_bits < state_bits m) × (bits ≡ state_bits m)
+IsNotBuilt m limit (refusals.TooManyBits bits) =
+    (most_state_bits < state_bits m) × (bits ≡ state_bits m)
 IsNotBuilt m limit refusals.BadOrder = ⊥
-IsNotBuilt m limit (refusals.Fault kind line here after) = (state_bits m ≤ most_state_bits) × IsFirstFault m kind line here after
+IsNotBuilt m limit (refusals.Fault kind line here after) =
+    (state_bits m ≤ most_state_bits) × IsFirstFault m kind line here after
 IsNotBuilt m limit (refusals.Full held) = (state_bits m ≤ most_state_bits) × IsOfLimit m limit held
 IsNotBuilt m limit refusals.Memory = Unit {0}
 
 -- why a model is not taken
 abbrev pub Stops : System → Stop → Type 0
 Stops m (stops.TooManyBits bits) = (most_state_bits < state_bits m) × (bits ≡ state_bits m)
-Stops m (stops.Fault f) = (state_bits m ≤ most_state_bits) × IsFirstFault m f.kind f.line f.here f.after
+Stops m (stops.Fault f) =
+    (state_bits m ≤ most_state_bits) × IsFirstFault m f.kind f.line f.here f.after
 Stops m stops.Memory = Unit {0}
 
 -- the sets are over this model, in a store of this limit, with the variables in declared order, and
@@ -78,13 +82,17 @@ pub record IsProofText (m : System) (j : ℕ) (outcome : Outcome) (text : List �
   pub proves : ProvesOutcome m j (outcome_of outcome) block
   pub text_is : text ≡ text_of (block_lines m block)
 
--- what trying specification j, counted from 1, with this formula gave; with its proof where that is asked for
+-- what trying specification j, counted from 1, with this formula gave; with its proof where that is
+-- asked for
 abbrev pub IsTried : System → ℕ → Bool → ℕ → Ctl → Tried → Type 0
-IsTried m limit proves j f (tried.Decided outcome) = (proves ≡ false) × IsDecided m f (outcome_of outcome)
+IsTried m limit proves j f (tried.Decided outcome) =
+    (proves ≡ false) × IsDecided m f (outcome_of outcome)
 IsTried m limit proves j f (tried.Proved outcome block) =
     (proves ≡ true) × IsDecided m f (outcome_of outcome) × IsProofText m j outcome block.items
 IsTried m limit proves j f (tried.Full held) = IsOfLimit m limit held
 
--- the reply to a model whose specifications are to be decided: nothing is known, or it has no fault and they were tried
+-- the reply to a model whose specifications are to be decided: nothing is known, or it has no fault
+-- and they were tried
 abbrev pub Decides : System → ℕ → Option (List ℕ) → Reply → Type 0
-Decides m limit proofs r = LeavesUnknown m limit proofs r ⊎ (IsFaultless m × Checked m limit proofs r)
+Decides m limit proofs r =
+    LeavesUnknown m limit proofs r ⊎ (IsFaultless m × Checked m limit proofs r)

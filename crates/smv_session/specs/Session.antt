@@ -1,5 +1,7 @@
--- One call of the program: what it was given, what it left, and what is promised of these, whatever the command.
-use Rattle.std.specs.Prelude.{◌≡◌, ◌≢◌, ◌⊎◌, ◌<◌, ℕ, false, List, [], ◌++◌, length, map, All, Option, Some, None, IfSome, string_bytes, String}
+-- One call of the program: what it was given, what it left, and what is promised of these, whatever
+-- the command.
+use Rattle.std.specs.Prelude.{◌≡◌, ◌≢◌, ◌⊎◌, ◌<◌, ℕ, false, List, [], ◌++◌, length, map, All}
+use Rattle.std.specs.Prelude.{Option, Some, None, IfSome, string_bytes, String}
 use Rattle.std.specs.Global.{Vec}
 use Rattle.std.specs.declared.alloc.Global.{Global}
 use Rattle.std.specs.Io.KnownBytes.{Appends}
@@ -19,7 +21,9 @@ use Rattle.smv_texts.specs.Texts.{usage_text, fault_line}
 use Rattle.smv_texts.specs.declared.fault.Fault.{Fault}
 use Rattle.smv_texts.specs.declared.fault.Fault.TheVariants.{LoadFailed, LoadMissing, SaveFailed}
 use Rattle.smv_texts.specs.declared.status.Status.{Status}
-use Rattle.smv_texts.specs.declared.status.Status.TheVariants.{Clear, Failed, Undecided, ModelRefused, OutsideFault, Usage, Memory, ProofRefused}
+use Rattle.smv_texts.specs.declared.status.Status.TheVariants.{Clear, Failed, Undecided}
+use Rattle.smv_texts.specs.declared.status.Status.TheVariants.{ModelRefused, OutsideFault, Usage}
+use Rattle.smv_texts.specs.declared.status.Status.TheVariants.{Memory, ProofRefused}
 use Rattle.smv_session.specs.Answers.{Answers, Loads, Reads, Takes, Tells}
 use Rattle.smv_session.specs.Jobs.{Keeps, NamesLeaves, Undecides}
 use Rattle.smv_session.specs.Refuses.{Refuses}
@@ -38,19 +42,21 @@ pub record Session : Type 0 where
   pub status : Status
 
 -- the call over these words, with the files and the sink before and after it
-abbrev pub session : {F S : Type 0} → (F → Option Contents) → (F → FileFaults) → (S → Option (List ℕ)) → (S → ℕ) → List (String Global) → F → F → S → S → Status → Session
-session contents file_faults written sink_faults words files files_after out out_after status = record {
-  words = map string_bytes words;
-  contents = contents files;
-  contents_after = contents files_after;
-  written = written out;
-  written_after = written out_after;
-  file_faults = file_faults files;
-  file_faults_after = file_faults files_after;
-  sink_faults = sink_faults out;
-  sink_faults_after = sink_faults out_after;
-  status = status;
-}
+abbrev pub session : {F S : Type 0} → (F → Option Contents) → (F → FileFaults)
+    → (S → Option (List ℕ)) → (S → ℕ) → List (String Global) → F → F → S → S → Status → Session
+session contents file_faults written sink_faults words files files_after out out_after status =
+    record {
+      words = map string_bytes words;
+      contents = contents files;
+      contents_after = contents files_after;
+      written = written out;
+      written_after = written out_after;
+      file_faults = file_faults files;
+      file_faults_after = file_faults files_after;
+      sink_faults = sink_faults out;
+      sink_faults_after = sink_faults out_after;
+      status = status;
+    }
 
 -- ---- counts
 
@@ -109,8 +115,8 @@ TellsText None after text = ⊥
 abbrev pub IsToldToPut : Session → List ℕ → Type 0
 IsToldToPut s text = TellsText s.written s.written_after text
 
--- what a reply leaves in the files: as far as they are told, the bytes that it saves stand under their
--- name, and all else stays
+-- what a reply leaves in the files: as far as they are told, the bytes that it saves stand under
+-- their name, and all else stays
 abbrev pub Leaves : Option (List ℕ × List ℕ) → Option Contents → Option Contents → Type 0
 Leaves None before after = after ≡ before
 Leaves (Some saved) before after =
@@ -145,22 +151,31 @@ pub record AnswersUsage (s : Session) : Type 0 where
   pub only : s.status ≡ Usage → (command_of s.words ≡ words.Usage) × Puts s usage_text
   pub always : IsUndisturbed s → command_of s.words ≡ words.Usage → s.status ≡ Usage
 
--- A refusal is told only where it applies. One that is read off the text is told wherever it applies. A fault of an item is
--- told too, unless the node limit leaves the model undecided. An accepted model is not refused.
+-- A refusal is told only where it applies. One that is read off the text is told wherever it
+-- applies. A fault of an item is told too, unless the node limit leaves the model undecided. An
+-- accepted model is not refused.
 pub record RefusesModels (s : Session) : Type 0 where
-  pub only : s.status ≡ ModelRefused → (w : Work) × (bytes : List ℕ) × (refusal : Refusal) × MayAsk s w bytes × Refuses w.job bytes refusal × Puts s (refusal_line refusal)
-  pub always : IsUndisturbed s → (w : Work) (bytes : List ℕ) (refusal : Refusal) → Asks s w bytes → Refuses w.job bytes refusal → is_fault refusal ≡ false
+  pub only : s.status ≡ ModelRefused
+      → (w : Work) × (bytes : List ℕ) × (refusal : Refusal) × MayAsk s w bytes
+      × Refuses w.job bytes refusal × Puts s (refusal_line refusal)
+  pub always : IsUndisturbed s → (w : Work) (bytes : List ℕ) (refusal : Refusal) → Asks s w bytes
+      → Refuses w.job bytes refusal → is_fault refusal ≡ false
       → (s.status ≡ ModelRefused) × Puts s (refusal_line refusal)
-  pub faulty : IsUndisturbed s → (w : Work) (bytes : List ℕ) (m : System) (refusal : Refusal) → Asks s w bytes → HasModel bytes m → Refuses w.job bytes refusal
-      → ((s.status ≡ ModelRefused) × Puts s (refusal_line refusal)) ⊎ ((r : Reply) × Undecides w.job m w.limit r × Shows s r)
-  pub never : IsUndisturbed s → (w : Work) (bytes : List ℕ) (m : System) → Asks s w bytes → IsAccepted bytes m → NamesLeaves w.job m → s.status ≢ ModelRefused
+  pub faulty : IsUndisturbed s → (w : Work) (bytes : List ℕ) (m : System) (refusal : Refusal)
+      → Asks s w bytes → HasModel bytes m → Refuses w.job bytes refusal
+      → ((s.status ≡ ModelRefused) × Puts s (refusal_line refusal))
+      ⊎ ((r : Reply) × Undecides w.job m w.limit r × Shows s r)
+  pub never : IsUndisturbed s → (w : Work) (bytes : List ℕ) (m : System) → Asks s w bytes
+      → IsAccepted bytes m → NamesLeaves w.job m → s.status ≢ ModelRefused
 
 -- A model that isn't refused is left undecided by the limit, or has no fault and the job is done.
 pub record TakesModels (s : Session) : Type 0 where
-  pub takes : IsUndisturbed s → (w : Work) (bytes : List ℕ) (m : System) → Asks s w bytes → HasModel bytes m → s.status ≢ ModelRefused → (r : Reply) × Takes w s.contents m r × Shows s r
+  pub takes : IsUndisturbed s → (w : Work) (bytes : List ℕ) (m : System) → Asks s w bytes
+      → HasModel bytes m → s.status ≢ ModelRefused
+      → (r : Reply) × Takes w s.contents m r × Shows s r
 
--- Something is unknown only in the reply to a model, and with the full stores that show it. Each has a level for each bit
--- of the current and of the next state, and the limit that was asked for.
+-- Something is unknown only in the reply to a model, and with the full stores that show it. Each
+-- has a level for each bit of the current and of the next state, and the limit that was asked for.
 pub record IsUnknown (s : Session) (held : Vec Held) : Type 0 where
   pub work : Work
   pub bytes : List ℕ
@@ -186,7 +201,8 @@ IsOfWork status = ⊥
 
 -- No other answer has the status of a reply.
 pub record HasStatusOfReply (s : Session) : Type 0 where
-  pub shown : IsOfWork s.status → (r : Reply) × Answers (command_of s.words) s.contents r × Shows s r
+  pub shown : IsOfWork s.status
+      → (r : Reply) × Answers (command_of s.words) s.contents r × Shows s r
 
 -- what each command keeps of the contents, whatever the status
 abbrev pub KeepsOf : Command → Option Contents → Option Contents → Type 0
@@ -202,7 +218,8 @@ SavesNothing Usage = Unit {0}
 SavesNothing Memory = Unit {0}
 SavesNothing status = ⊥
 
--- Whatever the status, each name but that of the proofs keeps its bytes. Where nothing is saved all contents stay.
+-- Whatever the status, each name but that of the proofs keeps its bytes. Where nothing is saved all
+-- contents stay.
 pub record KeepsContents (s : Session) : Type 0 where
   pub others : KeepsOf (command_of s.words) s.contents s.contents_after
   pub all : SavesNothing s.status → s.contents_after ≡ s.contents
@@ -230,22 +247,30 @@ pub record Saves (s : Session) : Type 0 where
 -- what a fault line tells
 abbrev pub IsSo : Session → Fault → Type 0
 IsSo s LoadFailed = s.contents_after ≡ s.contents
-IsSo s LoadMissing = (s.contents_after ≡ s.contents) × IfSome s.contents (λ files. (name : List ℕ) × Loads (command_of s.words) s.contents name × (bytes_under files name ≡ None))
+IsSo s LoadMissing =
+    (s.contents_after ≡ s.contents)
+    × IfSome s.contents (λ files. (name : List ℕ) × Loads (command_of s.words) s.contents name
+    × (bytes_under files name ≡ None))
 IsSo s SaveFailed = Saves s
 
--- Where a count of the files grew the line of its fault is put: whole, or a prefix where the sink failed too. What it tells is so.
+-- Where a count of the files grew the line of its fault is put: whole, or a prefix where the sink
+-- failed too. What it tells is so.
 abbrev pub PutsFaultLine : Session → Type 0
 PutsFaultLine s = FilesGrew s → s.status ≡ OutsideFault
-    → (fault : Fault) × Grew s fault × IsSo s fault × (Puts s (fault_line fault) ⊎ (SinkRose s × PutsPrefix s (fault_line fault)))
+    → (fault : Fault) × Grew s fault × IsSo s fault
+    × (Puts s (fault_line fault) ⊎ (SinkRose s × PutsPrefix s (fault_line fault)))
 
 -- A fault line stands only where its own count rose, and what it tells is so.
 abbrev pub FaultLinesHaveCause : Session → Type 0
-FaultLinesHaveCause s = (fault : Fault) → IsToldToPut s (fault_line fault) → FaultRose s fault × IsSo s fault
+FaultLinesHaveCause s =
+    (fault : Fault) → IsToldToPut s (fault_line fault) → FaultRose s fault × IsSo s fault
 
--- A fault that no count of the files tells cut an answer off, or the line of a fault whose count stood at its last value.
+-- A fault that no count of the files tells cut an answer off, or the line of a fault whose count
+-- stood at its last value.
 pub record CutsOffAnswer (s : Session) : Type 0 where
   pub cut : s.status ≡ OutsideFault → ¬ FilesGrew s
-      → ((r : Reply) × Answers (command_of s.words) s.contents r × PutsPrefix s (text_of r) × Leaves r.saves s.contents s.contents_after)
+      → ((r : Reply) × Answers (command_of s.words) s.contents r × PutsPrefix s (text_of r)
+      × Leaves r.saves s.contents s.contents_after)
       ⊎ ((fault : Fault) × WasAtLast s fault × IsSo s fault × PutsPrefix s (fault_line fault))
 
 -- Where memory ran out nothing was put, and all contents stay.

@@ -1,4 +1,5 @@
--- What a model's text is: its tokens, its program and its flat model, each where no refusal stands in the way; and the texts that are accepted.
+-- What a model's text is: its tokens, its program and its flat model, each where no refusal stands
+-- in the way; and the texts that are accepted.
 use Rattle.std.specs.Prelude.{ℕ, ◌+◌, ◌≤◌, List, [], ◌∷◌, length, take, drop}
 use Rattle.smv_lexer.specs.Text.{Placed, Lexes, line_feeds, most_bytes}
 use Rattle.smv_parser.specs.Program.{Program, program_depth}
@@ -56,12 +57,14 @@ pub record HasRuled (bytes : List ℕ) (m : System) : Type 0 where
 abbrev pub most_state_bits : ℕ
 most_state_bits = 128
 
--- the states of its flat model m have few enough bits: nothing that can be read off the text stands in the way
+-- the states of its flat model m have few enough bits: nothing that can be read off the text stands
+-- in the way
 pub record HasModel (bytes : List ℕ) (m : System) : Type 0 where
   pub ruled : HasRuled bytes m
   pub few : state_bits m ≤ most_state_bits
 
--- The text is accepted, and m is its model: no item of m faults at any pair of states, reachable or not.
+-- The text is accepted, and m is its model: no item of m faults at any pair of states, reachable or
+-- not.
 pub record IsAccepted (bytes : List ℕ) (m : System) : Type 0 where
   pub has : HasModel bytes m
   pub faultless : IsFaultless m

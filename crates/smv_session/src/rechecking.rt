@@ -114,8 +114,8 @@ fn recheck_file<'a>(
     rechecked(alloc, file, answers)
 }
 
-/// The reply to the bytes of a proof file, of a model without faults. Each block is tested in a store
-/// of at most `limit` nodes, which is below 2^31.
+/// The reply to the bytes of a proof file, of a model without faults. Each block is tested in a
+/// store of at most `limit` nodes, which is below 2^31.
 pub(crate) fn recheck<'a>(
     alloc: Global,
     model: &Ruled,

@@ -1,9 +1,14 @@
 // The program, over any files and any sink.
 ghost use Rattle.std.specs.Prelude.{◌≡◌, IfOk, map, string_bytes};
 ghost use Rattle.command_words.specs.Words.{command_of};
-ghost use Rattle.smv_session.specs.Commands.{ExportsProofs, GeneratesText, RechecksProofs, ReportsVerdicts, ShowsStates};
+ghost use Rattle.smv_session.specs.Commands.{ExportsProofs, GeneratesText, RechecksProofs};
+ghost use Rattle.smv_session.specs.Commands.{ReportsVerdicts, ShowsStates};
 ghost use Rattle.smv_session.specs.Foreseen.{Foresees};
-ghost use Rattle.smv_session.specs.Session.{session, PutsAnswer, AnswersUsage, RefusesModels, TakesModels, HasEvidence, HasStatusOfReply, KeepsContents, FaultHasCause, AnswersFaults, PutsFaultLine, FaultLinesHaveCause, CutsOffAnswer, MemoryChangesNothing};
+ghost use Rattle.smv_session.specs.Session.{session, PutsAnswer, AnswersUsage, RefusesModels};
+ghost use Rattle.smv_session.specs.Session.{TakesModels, HasEvidence, HasStatusOfReply};
+ghost use Rattle.smv_session.specs.Session.{KeepsContents, FaultHasCause, AnswersFaults};
+ghost use Rattle.smv_session.specs.Session.{PutsFaultLine, FaultLinesHaveCause, CutsOffAnswer};
+ghost use Rattle.smv_session.specs.Session.{MemoryChangesNothing};
 
 use crate::finishing::finish;
 use crate::laws::one_answer;
@@ -23,24 +28,42 @@ pub(crate) enum Foreseen<'a> {
 
 /// Does what the words ask for, saves the proofs where that is asked for, and then puts one text.
 pub fn run<F: Files, S: Sink>(alloc: Global, words: &[String], files: &mut F, out: &mut S) -> Status
-    ensures answer { PutsAnswer (session F.contents F.faults S.written S.faults words.now files.old files.new out.old out.new result) }
-    ensures words { AnswersUsage (session F.contents F.faults S.written S.faults words.now files.old files.new out.old out.new result) }
-    ensures refused_model { RefusesModels (session F.contents F.faults S.written S.faults words.now files.old files.new out.old out.new result) }
-    ensures decided { TakesModels (session F.contents F.faults S.written S.faults words.now files.old files.new out.old out.new result) }
-    ensures unknown { HasEvidence (session F.contents F.faults S.written S.faults words.now files.old files.new out.old out.new result) }
-    ensures status { HasStatusOfReply (session F.contents F.faults S.written S.faults words.now files.old files.new out.old out.new result) }
-    ensures contents { KeepsContents (session F.contents F.faults S.written S.faults words.now files.old files.new out.old out.new result) }
-    ensures fault_has_cause { FaultHasCause (session F.contents F.faults S.written S.faults words.now files.old files.new out.old out.new result) }
-    ensures faults_are_answered { AnswersFaults (session F.contents F.faults S.written S.faults words.now files.old files.new out.old out.new result) }
-    ensures fault_line { PutsFaultLine (session F.contents F.faults S.written S.faults words.now files.old files.new out.old out.new result) }
-    ensures fault_lines_have_cause { FaultLinesHaveCause (session F.contents F.faults S.written S.faults words.now files.old files.new out.old out.new result) }
-    ensures cut_off { CutsOffAnswer (session F.contents F.faults S.written S.faults words.now files.old files.new out.old out.new result) }
-    ensures memory { MemoryChangesNothing (session F.contents F.faults S.written S.faults words.now files.old files.new out.old out.new result) }
-    ensures generated { GeneratesText (session F.contents F.faults S.written S.faults words.now files.old files.new out.old out.new result) }
-    ensures verdicts { ReportsVerdicts (session F.contents F.faults S.written S.faults words.now files.old files.new out.old out.new result) }
-    ensures states_and_traces { ShowsStates (session F.contents F.faults S.written S.faults words.now files.old files.new out.old out.new result) }
-    ensures exported_proofs { ExportsProofs (session F.contents F.faults S.written S.faults words.now files.old files.new out.old out.new result) }
-    ensures rechecked { RechecksProofs (session F.contents F.faults S.written S.faults words.now files.old files.new out.old out.new result) }
+    ensures answer { PutsAnswer (session F.contents F.faults
+        S.written S.faults words.now files.old files.new out.old out.new result) }
+    ensures words { AnswersUsage (session F.contents F.faults
+        S.written S.faults words.now files.old files.new out.old out.new result) }
+    ensures refused_model { RefusesModels (session F.contents F.faults
+        S.written S.faults words.now files.old files.new out.old out.new result) }
+    ensures decided { TakesModels (session F.contents F.faults
+        S.written S.faults words.now files.old files.new out.old out.new result) }
+    ensures unknown { HasEvidence (session F.contents F.faults
+        S.written S.faults words.now files.old files.new out.old out.new result) }
+    ensures status { HasStatusOfReply (session F.contents F.faults
+        S.written S.faults words.now files.old files.new out.old out.new result) }
+    ensures contents { KeepsContents (session F.contents F.faults
+        S.written S.faults words.now files.old files.new out.old out.new result) }
+    ensures fault_has_cause { FaultHasCause (session F.contents F.faults
+        S.written S.faults words.now files.old files.new out.old out.new result) }
+    ensures faults_are_answered { AnswersFaults (session F.contents F.faults
+        S.written S.faults words.now files.old files.new out.old out.new result) }
+    ensures fault_line { PutsFaultLine (session F.contents F.faults
+        S.written S.faults words.now files.old files.new out.old out.new result) }
+    ensures fault_lines_have_cause { FaultLinesHaveCause (session F.contents F.faults
+        S.written S.faults words.now files.old files.new out.old out.new result) }
+    ensures cut_off { CutsOffAnswer (session F.contents F.faults
+        S.written S.faults words.now files.old files.new out.old out.new result) }
+    ensures memory { MemoryChangesNothing (session F.contents F.faults
+        S.written S.faults words.now files.old files.new out.old out.new result) }
+    ensures generated { GeneratesText (session F.contents F.faults
+        S.written S.faults words.now files.old files.new out.old out.new result) }
+    ensures verdicts { ReportsVerdicts (session F.contents F.faults
+        S.written S.faults words.now files.old files.new out.old out.new result) }
+    ensures states_and_traces { ShowsStates (session F.contents F.faults
+        S.written S.faults words.now files.old files.new out.old out.new result) }
+    ensures exported_proofs { ExportsProofs (session F.contents F.faults
+        S.written S.faults words.now files.old files.new out.old out.new result) }
+    ensures rechecked { RechecksProofs (session F.contents F.faults
+        S.written S.faults words.now files.old files.new out.old out.new result) }
 {
     one_answer();
     match foresee(alloc, words, files) {
@@ -57,7 +80,8 @@ fn foresee<'a, F: Files>(
 ) -> Result<Foreseen<'a>, AllocError>
     ensures contents { F.contents files.new ≡ F.contents files.old }
     ensures unsaved { (F.faults files.new).unsaved ≡ (F.faults files.old).unsaved }
-    ensures foreseen { IfOk result (Foresees (command_of (map string_bytes words.entry.now)) (F.contents files.old) (F.faults files.old) (F.faults files.new)) }
+    ensures foreseen { IfOk result (Foresees (command_of (map string_bytes words.entry.now))
+        (F.contents files.old) (F.faults files.old) (F.faults files.new)) }
 {
     match read_words(alloc, words)? {
         Command::Usage => Ok(Foreseen::Reply(Reply::new(alloc, usage_text(), Ending::Usage)?)),

@@ -5,7 +5,8 @@ ghost use Rattle.smv_lexer.specs.Text as bytes_and_tokens;
 ghost use Rattle.smv_lexer.specs.Text.{most_bytes};
 ghost use Rattle.smv_lexer.specs.View.{views};
 ghost use Rattle.smv_parser.specs.ProgramView as programs;
-ghost use Rattle.smv_session.specs.Source.{HasFlat, HasProgram, HasRuled, HasTokens, line_at as line_at_byte, token_line as line_of_token};
+ghost use Rattle.smv_session.specs.Source.{HasFlat, HasProgram, HasRuled, HasTokens};
+ghost use Rattle.smv_session.specs.Source.{line_at as line_at_byte, token_line as line_of_token};
 ghost use Rattle.smv_session.specs.Told.{Applies};
 
 use kripke_model::models::{FlatModel, Ruled};
@@ -22,8 +23,8 @@ fn line_feeds(bytes: &[u8]) -> usize
     bytes.iter().filter(|byte| **byte == b'\n').count()
 }
 
-/// The line of the byte at this place, counted from 1. The place after the last byte is on the line that the last line
-/// feed begins.
+/// The line of the byte at this place, counted from 1. The place after the last byte is on the line
+/// that the last line feed begins.
 fn line_at(text: &[u8], at: usize) -> u32
     requires few { length text.now ≤ most_bytes }
     requires within { at ≤ length text.now }
@@ -82,9 +83,11 @@ fn program_of(alloc: Global, text: &[u8], tokens: &[Token]) -> Result<Program, R
 /// The flat model of a text with this program.
 fn flat_of(alloc: Global, program: &Program) -> Result<FlatModel, Refusal>
     requires { (bytes : List ℕ) × HasProgram bytes (programs.program program.now) }
-    ensures flat { (bytes : List ℕ) → HasProgram bytes (programs.program program.now) → IfOk result (HasFlat bytes) }
+    ensures flat { (bytes : List ℕ) → HasProgram bytes (programs.program program.now)
+        → IfOk result (HasFlat bytes) }
     ensures shape { IfOk result (λ m. IsFlat m) }
-    ensures refused { (bytes : List ℕ) → HasProgram bytes (programs.program program.now) → IfErr result (Applies bytes) }
+    ensures refused { (bytes : List ℕ) → HasProgram bytes (programs.program program.now)
+        → IfErr result (Applies bytes) }
 {
     match flatten(alloc, program) {
         Ok(flat) => Ok(flat),

@@ -1,5 +1,6 @@
-// A specification is tried: it is decided, and a proof of what is found is written where that is asked for.
-ghost use Rattle.std.specs.Prelude.{◌≡◌, ◌+◌, ◌*◌, [], ℕ, false, IfErr, IfOk, OnOk, Some, true};
+// A specification is tried: it is decided, and a proof of what is found is written where that is
+// asked for.
+ghost use Rattle.std.specs.Prelude.{◌≡◌, [], ℕ, false, IfOk, OnOk, Some, true};
 ghost use Rattle.kripke_model.specs.WellFormed.{ctl_of};
 ghost use Rattle.fair_fixpoint.specs.Walks.{HasModelLeaves};
 ghost use Rattle.proof_form.specs.Shape.{spec_formula};
@@ -27,8 +28,8 @@ pub(crate) enum Tried {
     Full(Held),
 }
 
-/// A specification that is to be tried: its number, counted from 1, its formula, and whether it is to
-/// be proved.
+/// A specification that is to be tried: its number, counted from 1, its formula, and whether it is
+/// to be proved.
 #[derive(Clone, Copy)]
 pub(crate) struct Trial<'a> {
     pub(crate) spec: u32,
@@ -55,7 +56,8 @@ fn find_over(
     Ok(Tried::Decided(outcome))
 }
 
-/// Decides a specification over the sets, and writes a proof of what is found. Its pins are released.
+/// Decides a specification over the sets, and writes a proof of what is found. Its pins are
+/// released.
 fn prove_over(
     alloc: Global,
     sets: &mut DiagramSets,
@@ -64,7 +66,8 @@ fn prove_over(
     spec: u32,
 ) -> Result<Tried, SetRefusal>
     requires over { (⟦<DiagramSets as StateSets>⟧.seen sets.old).over ≡ model.now }
-    requires order { (⟦<DiagramSets as StateSets>⟧.seen sets.old).gauge.order ≡ own_order model.now }
+    requires order { (⟦<DiagramSets as StateSets>⟧.seen sets.old).gauge.order
+        ≡ own_order model.now }
     requires leaves { HasModelLeaves model.now (ctl_of formula.now) }
     requires spec { spec_formula model.now spec ≡ Some (ctl_of formula.now) }
     ensures call { IsCall (trial_pins model.now (ctl_of formula.now))
@@ -87,7 +90,8 @@ fn try_over(
     trial: Trial<'_>,
 ) -> Result<Tried, SetRefusal>
     requires over { (⟦<DiagramSets as StateSets>⟧.seen sets.old).over ≡ model.now }
-    requires order { (⟦<DiagramSets as StateSets>⟧.seen sets.old).gauge.order ≡ own_order model.now }
+    requires order { (⟦<DiagramSets as StateSets>⟧.seen sets.old).gauge.order
+        ≡ own_order model.now }
     requires trial { IsTrial model.now trial }
     ensures call { IsCall (trial_pins model.now (ctl_of trial.entry.formula.now))
         (⟦<DiagramSets as StateSets>⟧.seen sets.old) (⟦<DiagramSets as StateSets>⟧.seen sets.new)
@@ -102,8 +106,8 @@ fn try_over(
     }
 }
 
-/// Tries the next specification. The store is collected before, so that it begins with the relation's
-/// diagrams alone.
+/// Tries the next specification. The store is collected before, so that it begins with the
+/// relation's diagrams alone.
 pub(crate) fn try_next(
     alloc: Global,
     sets: &mut DiagramSets,
@@ -111,7 +115,8 @@ pub(crate) fn try_next(
     trial: Trial<'_>,
 ) -> Result<Tried, AllocError>
     requires over { (⟦<DiagramSets as StateSets>⟧.seen sets.old).over ≡ model.now }
-    requires order { (⟦<DiagramSets as StateSets>⟧.seen sets.old).gauge.order ≡ own_order model.now }
+    requires order { (⟦<DiagramSets as StateSets>⟧.seen sets.old).gauge.order
+        ≡ own_order model.now }
     requires trial { IsTrial model.now trial }
     ensures ready { (limit : ℕ)
         → IsReady model.now limit (⟦<DiagramSets as StateSets>⟧.seen sets.old)
