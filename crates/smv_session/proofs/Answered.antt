@@ -101,13 +101,16 @@ one_held m limit held full one is = record {
 }
 
 undecides_end : (job : Job) (m : System) (limit : ℕ) (r : Reply) → Undecides job m limit r → IsWorkEnding m limit r.ending
-undecides_end (Decide proofs) m limit r u = subst (IsWorkEnding m limit) (sym u.ends) (one_held m limit u.held u.full u.one u.of_limit)
-undecides_end (Recheck proofs) m limit r u = subst (IsWorkEnding m limit) (sym u.ends) (one_held m limit u.held u.full u.one u.of_limit)
+undecides_end (Decide proofs) m limit r u = subst (IsWorkEnding m limit) (sym u.ends) (one_held m limit u.held u.full u.one u.of_limit.0)
+undecides_end (Recheck proofs) m limit r (u, below) = subst (IsWorkEnding m limit) (sym u.ends) (one_held m limit u.held u.full u.one u.of_limit)
 
 checked_end : (m : System) (limit : ℕ) (fs : List Finding) (e : Ending) → EndsWith m limit fs e → IsWorkEnding m limit e
 checked_end m limit fs endings.Clear ends = tt
 checked_end m limit fs endings.Failed ends = tt
-checked_end m limit fs (endings.Undecided held) ends = record { full = ends.0; some = ends.1 }
+checked_end m limit fs (endings.Undecided held) ends = record {
+  full = λ i d within. (ends.0 i d within).0;
+  some = ends.1;
+}
 checked_end m limit fs endings.ModelRefused ends = absurd ends
 checked_end m limit fs endings.ProofRefused ends = absurd ends
 checked_end m limit fs endings.Usage ends = absurd ends

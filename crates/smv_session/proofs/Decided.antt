@@ -1,19 +1,58 @@
 -- What is promised of the jobs over a model.
-use Rattle.std.proofs.Common.{◌≡◌, inl, inr, ℕ, List, [], ◌∷◌, length, replicate, Option, Some, None, refl, subst}
+use Rattle.std.proofs.Common.{◌≡◌, ◌<◌, ◌≤◌, inl, inr, ℕ, List, [], ◌∷◌, length, replicate}
+use Rattle.std.proofs.Common.{Option, Some, None, refl, sym, subst, arith}
+use Rattle.std.specs.Prelude.{All, count_by}
+use Rattle.std.proofs.lemmas.List.Elements.{All-head}
+use Rattle.bdd_nodes.specs.declared.refusal.Held.{Held}
 use Rattle.command_words.specs.Words.{Job, Work, Decide, Recheck}
 use Rattle.kripke_model.specs.Faults.{IsFaultless}
 use Rattle.kripke_model.specs.System.{System, Condition}
 use Rattle.smv_outside.specs.Contents.{Contents}
 use Rattle.smv_session.specs.Answers.{Takes}
-use Rattle.smv_session.specs.Commands.{AreFoundIn, ExportsProofs, IsRechecked, RechecksProofs, ReportsVerdicts, ShowsStates, TellsOfProofs}
+use Rattle.smv_session.specs.Commands.{AreFoundIn, DecidesAll, ExportsProofs, IsOfVerdicts}
+use Rattle.smv_session.specs.Commands.{IsRechecked, RechecksProofs, ReportsVerdicts, ShowsStates}
+use Rattle.smv_session.specs.Commands.{TellsOfProofs}
 use Rattle.smv_session.specs.Jobs.{Does, IsSecond, Undecides}
-use Rattle.smv_session.specs.Session.{Leaves, Puts, Session, Shows, TakesModels}
+use Rattle.smv_session.specs.Session.{Leaves, Puts, RefusesModels, Session, Shows, TakesModels}
+use Rattle.smv_session.proofs.Tried.{names_any}
 use Rattle.smv_texts.specs.Replies.{Reply, text_of}
-use Rattle.smv_texts.specs.Report.{Finding, Unknown, report}
-use Rattle.spec_verdicts.specs.Checked.{Checked, LeavesUnknown, SavesProofs, all_unknown}
+use Rattle.smv_texts.specs.Report.{Finding, Unknown, is_unknown, report}
+use Rattle.smv_texts.specs.Statuses.{status_of}
+use Rattle.smv_texts.specs.declared.ending.Ending.{Ending}
+use Rattle.smv_texts.specs.declared.ending.Ending.TheVariants as endings
+use Rattle.spec_verdicts.specs.Checked.{Checked, EndsWith, LeavesUnknown, SavesProofs, all_unknown}
+use Rattle.spec_verdicts.specs.Met.{IsMet}
+use Rattle.trans_parts.specs.Budget.{enough}
 use Rattle.spec_verdicts.specs.Verdicts.{EachFinding, IsVerdict, ShowsState, ShowStates}
 
 -- ---- check
+
+-- evidence shows that the limit is below what is enough
+met_held : (m : System) (limit : ℕ) (held : List Held) → All (IsMet m limit) held
+    → 0 < length held → limit < enough m
+met_held m limit [] met some = absurd (omega (arith, some))
+met_held m limit (h ∷ held) met some = (All-head (IsMet m limit) h held met).1
+
+below_of : (m : System) (limit : ℕ) (fs : List Finding) (e : Ending) → EndsWith m limit fs e
+    → 0 < count_by is_unknown fs → limit < enough m
+below_of m limit fs endings.Clear ends some = absurd (omega (arith, ends.0, some))
+below_of m limit fs endings.Failed ends some = absurd (omega (arith, ends.0, some))
+below_of m limit fs (endings.Undecided held) ends some = met_held m limit held.items ends.0 ends.1
+below_of m limit fs endings.ModelRefused ends some = absurd ends
+below_of m limit fs endings.ProofRefused ends some = absurd ends
+below_of m limit fs endings.Usage ends some = absurd ends
+
+-- where it is enough each specification has a verdict
+enough_ends : (m : System) (limit : ℕ) (fs : List Finding) (e : Ending) → enough m ≤ limit
+    → EndsWith m limit fs e → IsOfVerdicts (status_of e) × (count_by is_unknown fs ≡ 0)
+enough_ends m limit fs endings.Clear le ends = (tt, ends.0)
+enough_ends m limit fs endings.Failed le ends = (tt, ends.0)
+enough_ends m limit fs (endings.Undecided held) le ends =
+    let below = met_held m limit held.items ends.0 ends.1 in
+    absurd (omega (arith, le, below))
+enough_ends m limit fs endings.ModelRefused le ends = absurd ends
+enough_ends m limit fs endings.ProofRefused le ends = absurd ends
+enough_ends m limit fs endings.Usage le ends = absurd ends
 
 -- of each specification nothing is known
 each_unknown : (m : System) (limit : ℕ) (cs : List Condition) → EachFinding (λ f finding. IsVerdict m limit f finding.outcome) cs (replicate (length cs) (record { outcome = Unknown limit; left_out = None }))
@@ -42,7 +81,7 @@ undecided m limit proofs r u =
     record {
       findings = all_unknown m limit;
       text = u.text;
-      found = record { verdicts = each_unknown m limit m.specs; known = inr refl; told = told_of m proofs (all_unknown m limit) r.saves saves };
+      found = record { verdicts = each_unknown m limit m.specs; known = inr refl; told = told_of m proofs (all_unknown m limit) r.saves saves; below = λ some. u.of_limit.1 };
       states = none_shown m limit m.specs;
       saves = saves;
     }
@@ -52,7 +91,7 @@ module _ (w : Work) (contents : Option Contents) (m : System) (r : Reply) (proof
   finds (inl u) = undecided m w.limit proofs r (subst (λ job. Undecides job m w.limit r) is u)
   finds (inr done) =
       let does : Checked m w.limit proofs r = subst (λ job. Does job m w.limit done.second r) is done.does in
-      record { findings = does.findings; text = does.text; found = record { verdicts = does.verdicts; known = inl done.faultless; told = told_of m proofs does.findings r.saves does.saves }; states = does.states; saves = does.saves }
+      record { findings = does.findings; text = does.text; found = record { verdicts = does.verdicts; known = inl done.faultless; told = told_of m proofs does.findings r.saves does.saves; below = below_of m w.limit does.findings r.ending does.ends }; states = does.states; saves = does.saves }
 
 pub verdicts : (s : Session) → TakesModels s → ReportsVerdicts s
 verdicts s takes = record {
@@ -94,8 +133,38 @@ rechecked s takes = record {
   rechecks = λ quiet w bytes m proofs asks is has other.
       let taken = takes.takes quiet w bytes m asks has other in
       elim taken.1 [
-        | inl u ↦ inl (taken.0, subst (λ (job : Job). Undecides job m w.limit taken.0) is u, taken.2)
+        | inl u ↦
+            let left = subst (λ (job : Job). Undecides job m w.limit taken.0) is u in
+            inl (taken.0, left.0, left.1, taken.2)
         | inr done ↦ inr (second_of s m w.limit proofs taken.0 done.second done.faultless taken.2
             (subst (λ (job : Job). IsSecond job s.contents done.second) is done.loaded) (subst (λ (job : Job). Does job m w.limit done.second taken.0) is done.does))
       ];
+}
+
+-- ---- where the limit is enough
+
+all_of : (s : Session) (w : Work) (m : System) (r : Reply) (proofs : Option (List ℕ))
+    → w.job ≡ Decide proofs → enough m ≤ w.limit → Takes w s.contents m r → Shows s r
+    → IsOfVerdicts s.status
+    × ((findings : List Finding) × Puts s (report m findings)
+    × AreFoundIn m w.limit proofs findings × (count_by is_unknown findings ≡ 0))
+all_of s w m r proofs is le (inl u) shows =
+    let left : LeavesUnknown m w.limit proofs r = subst (λ job. Undecides job m w.limit r) is u in
+    let below = left.of_limit.1 in
+    absurd (omega (arith, le, below))
+all_of s w m r proofs is le (inr done) shows =
+    let does : Checked m w.limit proofs r =
+    subst (λ job. Does job m w.limit done.second r) is done.does in
+    let found = finds w s.contents m r proofs is (inr done) in
+    let ends = enough_ends m w.limit does.findings r.ending le does.ends in (
+      subst IsOfVerdicts (sym shows.status) ends.0,
+      (does.findings, subst (Puts s) does.text shows.text, found.found, ends.1),
+    )
+
+pub decides_all : (s : Session) → RefusesModels s → TakesModels s → DecidesAll s
+decides_all s refuses takes = record {
+  decides = λ quiet w bytes m proofs asks is accepted le.
+      let other = refuses.never quiet w bytes m asks accepted (names_any w m) in
+      let taken = takes.takes quiet w bytes m asks accepted.has other in
+      all_of s w m taken.0 proofs is le taken.1 taken.2;
 }

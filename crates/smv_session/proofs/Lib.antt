@@ -11,6 +11,7 @@ pub mod FormulaPlaces
 pub mod BlockPlaces
 pub mod NotBuilt
 pub mod Built
+pub mod Budget
 pub mod Ready
 pub mod FaultLemmas
 pub mod OneAnswer

@@ -12,13 +12,14 @@ use Rattle.trans_parts.specs.declared.parts.Parts.{Parts}
 use Rattle.smv_session.specs.Source.{most_state_bits}
 use Rattle.smv_session.specs.Relation.{IsNotBuilt}
 use Rattle.smv_session.proofs.BitCounts.{few_bits, told_count}
+use Rattle.smv_session.proofs.Budget.{build_fits}
 
 module _ (m : System) (order : List ℕ) (limit : ℕ) (few : length m.vars ≤ 256) (short : All (λ v. length v.values ≤ 1024) m.vars) (ordered : IsOrder (length m.vars) order) where
   refused : (r : BuildRefusal) → Refuses m order limit r → IsNotBuilt m limit r
   refused (refusals.TooManyBits bits) h = (h.0, h.1 ∙ told_count (state_bits m) (few_bits m few short))
   refused refusals.BadOrder h = h.1 (subst (λ n. IsOrder n order) (sym (length-map m.vars (λ v. v.values))) ordered)
   refused (refusals.Fault kind line here after) h = (h.0.few, h.1)
-  refused (refusals.Full held) h = (h.0.few, (h.1, h.2))
+  refused (refusals.Full held) h = (h.0.few, ((h.1, h.2), build_fits m limit h.3))
   refused refusals.Memory h = tt
 
   pub not_built : (r : Result Parts BuildRefusal) → IfErr r (Refuses m order limit) → IfErr r (IsNotBuilt m limit)

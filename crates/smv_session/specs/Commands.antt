@@ -1,6 +1,7 @@
 -- What is promised of each command, in its own words: a record for each, which the promises of
 -- every call give.
-use Rattle.std.specs.Prelude.{◌≡◌, ◌≢◌, ◌⊎◌, ℕ, List, Option, Some, None, IfSome}
+use Rattle.std.specs.Prelude.{◌≡◌, ◌≢◌, ◌⊎◌, ◌<◌, ◌≤◌, ℕ, List, Option, Some, None, IfSome}
+use Rattle.std.specs.Prelude.{count_by}
 use Rattle.command_words.specs.Words.{Work, Decide, Recheck, Print, command_of}
 use Rattle.kripke_model.specs.Faults.{IsFaultless}
 use Rattle.kripke_model.specs.System.{System}
@@ -8,13 +9,15 @@ use Rattle.smv_rings.specs.Rings.{ring_text}
 use Rattle.proof_answers.specs.Rechecked.{Rechecked, LeavesUnanswered}
 use Rattle.smv_outside.specs.Contents.{bytes_under}
 use Rattle.smv_texts.specs.Replies.{Reply}
-use Rattle.smv_texts.specs.Report.{Finding, report}
-use Rattle.smv_texts.specs.declared.status.Status.TheVariants.{Clear, ModelRefused}
+use Rattle.smv_texts.specs.Report.{Finding, is_unknown, report}
+use Rattle.smv_texts.specs.declared.status.Status.{Status}
+use Rattle.smv_texts.specs.declared.status.Status.TheVariants.{Clear, Failed, ModelRefused}
 use Rattle.spec_verdicts.specs.Checked.{LeavesNoneOut, all_unknown}
 use Rattle.spec_verdicts.specs.Exports.{Exports}
 use Rattle.spec_verdicts.specs.Verdicts.{AreVerdicts, ShowStates}
 use Rattle.smv_session.specs.Session.{Session, Asks, IsUndisturbed, Leaves, Puts, Shows}
-use Rattle.smv_session.specs.Source.{HasModel}
+use Rattle.smv_session.specs.Source.{HasModel, IsAccepted}
+use Rattle.trans_parts.specs.Budget.{enough}
 
 -- `gen N`: the ring's text is put.
 pub record GeneratesText (s : Session) : Type 0 where
@@ -27,12 +30,13 @@ TellsOfProofs None findings = LeavesNoneOut findings
 TellsOfProofs (Some name) findings = Unit {0}
 
 -- what is found of the specifications of a model without faults; or nothing, where the limit was
--- met before that was known
+-- met before that was known; something is unknown only where the limit is below what is enough
 pub record AreFoundIn (m : System) (limit : ℕ) (proofs : Option (List ℕ))
     (findings : List Finding) : Type 0 where
   pub verdicts : AreVerdicts m limit findings
   pub known : IsFaultless m ⊎ (findings ≡ all_unknown m limit)
   pub told : TellsOfProofs proofs findings
+  pub below : 0 < count_by is_unknown findings → limit < enough m
 
 -- `check`, and `gen N --check`: a model of which no fault is told is answered by the report of one
 -- outcome for each specification. True and false come only where the model is accepted and are the
@@ -73,8 +77,24 @@ pub record IsRechecked (s : Session) (m : System) (limit : ℕ) (proofs : List �
 -- `recheck`: the proof file is refused, or each of its blocks is answered. It is accepted only
 -- where the model is accepted, each of its lines shows what it has to and its claim is true; it is
 -- rejected only at the first line that doesn't. Where the limit was met before the model was
--- decided, that alone is told.
+-- decided, that alone is told; then the limit is below what is enough.
 pub record RechecksProofs (s : Session) : Type 0 where
   pub rechecks : IsUndisturbed s → (w : Work) (bytes : List ℕ) (m : System) (proofs : List ℕ)
       → Asks s w bytes → w.job ≡ Recheck proofs → HasModel bytes m → s.status ≢ ModelRefused
-      → ((r : Reply) × LeavesUnanswered m w.limit r × Shows s r) ⊎ IsRechecked s m w.limit proofs
+      → ((r : Reply) × LeavesUnanswered m w.limit r × (w.limit < enough m) × Shows s r)
+      ⊎ IsRechecked s m w.limit proofs
+
+-- the statuses of reports in which each specification has a verdict
+abbrev pub IsOfVerdicts : Status → Type 0
+IsOfVerdicts Clear = Unit {0}
+IsOfVerdicts Failed = Unit {0}
+IsOfVerdicts status = ⊥
+
+-- Where the limit is enough each specification of an accepted model has a verdict.
+pub record DecidesAll (s : Session) : Type 0 where
+  pub decides : IsUndisturbed s
+      → (w : Work) (bytes : List ℕ) (m : System) (proofs : Option (List ℕ)) → Asks s w bytes
+      → w.job ≡ Decide proofs → IsAccepted bytes m → enough m ≤ w.limit
+      → IsOfVerdicts s.status
+      × ((findings : List Finding) × Puts s (report m findings)
+      × AreFoundIn m w.limit proofs findings × (count_by is_unknown findings ≡ 0))

@@ -14,6 +14,7 @@ use Rattle.fair_fixpoint.specs.Walks.{HasModelLeaves}
 use Rattle.proof_form.specs.Shape.{spec_formula}
 use Rattle.region_sets.specs.Sets.{Sets}
 use Rattle.region_sets.specs.States.{state_count}
+use Rattle.trans_parts.specs.Budget.{enough, room}
 use Rattle.trans_parts.specs.FirstFault.{IsFirstFault}
 use Rattle.trans_parts.specs.Parts.{coding_of, model_of, store_of}
 use Rattle.trans_parts.specs.declared.building.BuildRefusal.{BuildRefusal}
@@ -28,12 +29,12 @@ use Rattle.smv_session.specs.declared.trials.Trial.{Trial}
 use Rattle.proof_text.specs.File.{Block}
 use Rattle.proof_text.specs.Lines.{block_lines, text_of}
 use Rattle.proof_text.specs.Written.{own_order}
-use Rattle.smv_texts.specs.Evidence.{IsOfLimit}
 use Rattle.smv_texts.specs.Outcomes.{outcome_of}
 use Rattle.smv_texts.specs.declared.outcome.Outcome.{Outcome}
 use Rattle.smv_texts.specs.Replies.{Reply}
 use Rattle.spec_verdicts.specs.Checked.{Checked, LeavesUnknown}
 use Rattle.spec_verdicts.specs.Exports.{ProvesOutcome}
+use Rattle.spec_verdicts.specs.Met.{IsMet}
 use Rattle.spec_verdicts.specs.Verdicts.{IsDecided}
 
 -- the parts of this model, in a store of this limit, with the variables in declared order
@@ -49,7 +50,7 @@ IsNotBuilt m limit (refusals.TooManyBits bits) =
 IsNotBuilt m limit refusals.BadOrder = ⊥
 IsNotBuilt m limit (refusals.Fault kind line here after) =
     (state_bits m ≤ most_state_bits) × IsFirstFault m kind line here after
-IsNotBuilt m limit (refusals.Full held) = (state_bits m ≤ most_state_bits) × IsOfLimit m limit held
+IsNotBuilt m limit (refusals.Full held) = (state_bits m ≤ most_state_bits) × IsMet m limit held
 IsNotBuilt m limit refusals.Memory = Unit {0}
 
 -- why a model is not taken
@@ -59,13 +60,15 @@ Stops m (stops.Fault f) =
     (state_bits m ≤ most_state_bits) × IsFirstFault m f.kind f.line f.here f.after
 Stops m stops.Memory = Unit {0}
 
--- the sets are over this model, in a store of this limit, with the variables in declared order, and
--- none is live
+-- The sets are over this model, in a store of this limit, with the variables in declared order, and
+-- none is live. Where the limit is enough there is room, and no store was full.
 pub record IsReady (m : System) (limit : ℕ) (sets : Sets) : Type 0 where
   pub over : sets.over ≡ m
   pub gauge : sets.gauge
       ≡ record { levels = 2 * state_bits m; limit = limit; order = own_order m }
   pub live : sets.live ≡ 0
+  pub spare : enough m ≤ limit → room m ≤ sets.room
+  pub fulls : enough m ≤ limit → sets.fulls ≡ 0
 
 -- so many sets are held at a time while a specification with this formula is tried
 abbrev pub trial_pins : System → Ctl → ℕ
@@ -89,7 +92,7 @@ IsTried m limit proves j f (tried.Decided outcome) =
     (proves ≡ false) × IsDecided m f (outcome_of outcome)
 IsTried m limit proves j f (tried.Proved outcome block) =
     (proves ≡ true) × IsDecided m f (outcome_of outcome) × IsProofText m j outcome block.items
-IsTried m limit proves j f (tried.Full held) = IsOfLimit m limit held
+IsTried m limit proves j f (tried.Full held) = IsMet m limit held
 
 -- the reply to a model whose specifications are to be decided: nothing is known, or it has no fault
 -- and they were tried

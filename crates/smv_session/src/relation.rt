@@ -4,7 +4,7 @@ ghost use Rattle.bit_encode.specs.Code.{state_bits};
 ghost use Rattle.kripke_model.specs.Faults.{IsFaultless};
 ghost use Rattle.smv_session.specs.Relation.{AreOver, IsNotBuilt, Stops};
 ghost use Rattle.smv_session.specs.Source.{most_state_bits};
-ghost use Rattle.smv_texts.specs.Evidence.{IsOfLimit};
+ghost use Rattle.spec_verdicts.specs.Met.{IsMet};
 
 use bdd_nodes::{Held, Steps};
 use bit_encode::orders::declared_order;
@@ -81,7 +81,7 @@ pub(crate) fn relation(alloc: Global, model: &Ruled, limit: u32) -> Result<Parts
 pub(crate) fn held_of(model: &Ruled, limit: u32, refusal: BuildRefusal) -> Result<Held, Stop>
     requires { IsNotBuilt model.now limit refusal }
     ensures few { OnOk result (state_bits model.now ≤ most_state_bits) }
-    ensures held { IfOk result (IsOfLimit model.now limit) }
+    ensures held { IfOk result (IsMet model.now limit) }
     ensures stops { IfErr result (Stops model.now) }
 {
     match refusal {
@@ -108,7 +108,7 @@ pub(crate) fn find_fault(alloc: Global, model: &Ruled, limit: u32) -> Result<Opt
     requires { limit < 2 ^ 31 }
     ensures few { OnOk result (state_bits model.now ≤ most_state_bits) }
     ensures faultless { IfOk result (λ held.
-        MatchOption held (IsFaultless model.now) (IsOfLimit model.now limit)) }
+        MatchOption held (IsFaultless model.now) (IsMet model.now limit)) }
     ensures stops { IfErr result (Stops model.now) }
 {
     match relation(alloc, model, limit) {

@@ -1,7 +1,8 @@
 // The program, over any files and any sink.
 ghost use Rattle.std.specs.Prelude.{◌≡◌, IfOk, map, string_bytes};
 ghost use Rattle.command_words.specs.Words.{command_of};
-ghost use Rattle.smv_session.specs.Commands.{ExportsProofs, GeneratesText, RechecksProofs};
+ghost use Rattle.smv_session.specs.Commands.{DecidesAll, ExportsProofs, GeneratesText};
+ghost use Rattle.smv_session.specs.Commands.{RechecksProofs};
 ghost use Rattle.smv_session.specs.Commands.{ReportsVerdicts, ShowsStates};
 ghost use Rattle.smv_session.specs.Foreseen.{Foresees};
 ghost use Rattle.smv_session.specs.Session.{session, PutsAnswer, AnswersUsage, RefusesModels};
@@ -63,6 +64,8 @@ pub fn run<F: Files, S: Sink>(alloc: Global, words: &[String], files: &mut F, ou
     ensures exported_proofs { ExportsProofs (session F.contents F.faults
         S.written S.faults words.now files.old files.new out.old out.new result) }
     ensures rechecked { RechecksProofs (session F.contents F.faults
+        S.written S.faults words.now files.old files.new out.old out.new result) }
+    ensures enough { DecidesAll (session F.contents F.faults
         S.written S.faults words.now files.old files.new out.old out.new result) }
 {
     one_answer();

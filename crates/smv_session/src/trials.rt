@@ -10,6 +10,7 @@ ghost use Rattle.smv_session.specs.Relation.{IsReady, IsTrial, IsTried, trial_pi
 
 use bdd_nodes::Held;
 use diagram_sets::DiagramSets;
+use diagram_sets::laws::state_count_law;
 use kripke_model::expressions::Formula;
 use kripke_model::models::Ruled;
 use proof_export::writing::block_text;
@@ -126,6 +127,7 @@ pub(crate) fn try_next(
         → IfOk result (IsTried model.now limit trial.entry.proves
         trial.entry.spec (ctl_of trial.entry.formula.now)) }
 {
+    state_count_law(model);
     sets.collect()?;
     match try_over(alloc, sets, model, trial) {
         Ok(tried) => Ok(tried),

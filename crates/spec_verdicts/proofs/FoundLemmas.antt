@@ -11,7 +11,7 @@ use Rattle.kripke_model.specs.System.{System, Condition}
 use Rattle.proof_text.specs.File.{Block}
 use Rattle.proof_text.specs.Lines.{block_lines, text_of}
 use Rattle.proof_text.specs.Written.{AreSpelled}
-use Rattle.smv_texts.specs.Evidence.{IsOfLimit}
+use Rattle.spec_verdicts.specs.Met.{IsMet}
 use Rattle.smv_texts.specs.Outcomes.{finding_of, outcome_of}
 use Rattle.smv_texts.specs.Replies.{saved_of}
 use Rattle.smv_texts.specs.Report.{Finding, is_unknown, is_false}
@@ -85,7 +85,7 @@ module _ (m : System) (limit : ℕ) (proofs : Option (List ℕ)) (cs : List Cond
       → SavesProofs m proofs (map finding_of old.findings.items ++ finding_of one ∷ []) (saved_of new.saves) → AreFound m limit proofs (cs ++ c ∷ []) new
   known_more sure is same saves = record {
     each = each_more is;
-    held = subst (All (IsOfLimit m limit)) (sym same) found.held;
+    held = subst (All (IsMet m limit)) (sym same) found.held;
     count =
         let before = found.count in
         let after = count_more false sure in
@@ -99,11 +99,11 @@ module _ (m : System) (limit : ℕ) (proofs : Option (List ℕ)) (cs : List Cond
   unproved None saves unknown told = (saves.0, All-append (λ (f : Finding). f.left_out ≡ None) (map finding_of old.findings.items) (finding_of one ∷ []) saves.1 (All-cons (λ (f : Finding). f.left_out ≡ None) (finding_of one) [] told (All-nil (λ (f : Finding). f.left_out ≡ None))))
   unproved (Some name) saves unknown told = (saves.0, saves.1, exports_unknown m (map finding_of old.findings.items) (finding_of one) saves.0 unknown told saves.2)
 
-  pub unknown_more : (h : Held) → one ≡ record { outcome = Unknown limit; left_out = None } → IsOfLimit m limit h → new.held.items ≡ old.held.items ++ h ∷ [] → new.saves ≡ old.saves → AreFound m limit proofs (cs ++ c ∷ []) new
+  pub unknown_more : (h : Held) → one ≡ record { outcome = Unknown limit; left_out = None } → IsMet m limit h → new.held.items ≡ old.held.items ++ h ∷ [] → new.saves ≡ old.saves → AreFound m limit proofs (cs ++ c ∷ []) new
   unknown_more h is of_limit more same = record {
     each = each_more (subst (λ u. IsFoundOf m limit (formula_of c.expr) (finding_of u)) (sym is) (refl, tt));
-    held = subst (All (IsOfLimit m limit)) (sym more)
-        (All-append (IsOfLimit m limit) old.held.items (h ∷ []) found.held (All-cons (IsOfLimit m limit) h [] of_limit (All-nil (IsOfLimit m limit))));
+    held = subst (All (IsMet m limit)) (sym more)
+        (All-append (IsMet m limit) old.held.items (h ∷ []) found.held (All-cons (IsMet m limit) h [] of_limit (All-nil (IsMet m limit))));
     count =
         let before = found.count in
         let after = count_more true (ap (λ (u : code.Finding). is_unknown (finding_of u)) is) in
@@ -154,7 +154,7 @@ proved_more m limit name cs c b o left_out block old new law found is proves tex
 -- ---- endings
 
 module _ (m : System) (limit : ℕ) (fs : List Finding) (held : Vec Held) (many : length held.items ≡ count_by is_unknown fs) where
-  pub undecided : All (IsOfLimit m limit) held.items → 0 < length held.items → EndsWith m limit fs (Undecided held)
+  pub undecided : All (IsMet m limit) held.items → 0 < length held.items → EndsWith m limit fs (Undecided held)
   undecided full some = (full, some, many)
 
   none_full : length held.items ≡ 0 → count_by is_unknown fs ≡ 0

@@ -8,7 +8,7 @@ use Rattle.bdd_nodes.specs.declared.refusal.Held.{Held}
 use Rattle.kripke_model.specs.System.{System}
 use Rattle.proof_text.specs.Lines.{header_lines, text_of}
 use Rattle.proof_text.specs.Written.{AreSpelled, own_order}
-use Rattle.smv_texts.specs.Evidence.{IsOfLimit}
+use Rattle.spec_verdicts.specs.Met.{IsMet}
 use Rattle.smv_texts.specs.Outcomes.{finding_of}
 use Rattle.smv_texts.specs.Replies.{Reply, Gives, IsReply, saved_of}
 use Rattle.smv_texts.specs.Report.{Finding, is_unknown, report}
@@ -94,7 +94,7 @@ none_found m limit proofs found findings held saves =
     let none : map finding_of found.findings.items ≡ [] = ap (map finding_of) findings in
     record {
       each = subst (EachFinding (IsFoundOf m limit) []) (sym none) tt;
-      held = subst (All (IsOfLimit m limit)) (sym held) (All-nil (IsOfLimit m limit));
+      held = subst (All (IsMet m limit)) (sym held) (All-nil (IsMet m limit));
       count = ap length held ∙ sym (ap (count_by is_unknown) none);
       saves = subst (λ fs. SavesProofs m proofs fs (saved_of found.saves)) (sym none) saves;
     }
@@ -104,7 +104,7 @@ saves_unknown m limit n None saves e = (e.0, none_told limit n)
 saves_unknown m limit n (Some name) saves e = (e.0, e.1, none_proved m limit n e.0 e.2)
 
 pub unknown_reply : (m : System) (limit : ℕ) (proofs : Option (List ℕ)) (held : Vec Held) (full : Held) (fs : List Finding) (reply : code.Reply) → fs ≡ all_unknown m limit
-    → reply.text.items ≡ report m fs → reply.ending ≡ Undecided held → held.items ≡ full ∷ [] → IsOfLimit m limit full → SavesProofs m proofs [] (saved_of reply.saves)
+    → reply.text.items ≡ report m fs → reply.ending ≡ Undecided held → held.items ≡ full ∷ [] → IsMet m limit full → SavesProofs m proofs [] (saved_of reply.saves)
     → IsReply (LeavesUnknown m limit proofs) reply
 unknown_reply m limit proofs held full fs reply same text ends one of_limit saves = (
   reported m fs reply.ending (saved_of reply.saves),

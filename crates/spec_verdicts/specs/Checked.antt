@@ -4,7 +4,7 @@ use Rattle.std.specs.Prelude.{◌≡◌, ℕ, ◌<◌, List, [], ◌∷◌, leng
 use Rattle.std.specs.Global.{Vec}
 use Rattle.bdd_nodes.specs.declared.refusal.Held.{Held}
 use Rattle.kripke_model.specs.System.{System}
-use Rattle.smv_texts.specs.Evidence.{IsOfLimit}
+use Rattle.spec_verdicts.specs.Met.{IsMet}
 use Rattle.smv_texts.specs.Replies.{Reply, text_of}
 use Rattle.smv_texts.specs.Report.{Finding, Unknown, is_false, is_unknown, report}
 use Rattle.smv_texts.specs.declared.ending.Ending.{Ending}
@@ -16,7 +16,7 @@ use Rattle.spec_verdicts.specs.Verdicts.{AreVerdicts, ShowStates}
 abbrev pub EndsWith : System → ℕ → List Finding → Ending → Type 0
 EndsWith m limit fs Clear = (count_by is_unknown fs ≡ 0) × (count_by is_false fs ≡ 0)
 EndsWith m limit fs Failed = (count_by is_unknown fs ≡ 0) × (0 < count_by is_false fs)
-EndsWith m limit fs (Undecided held) = All (IsOfLimit m limit) held.items × (0 < length held.items) × (length held.items ≡ count_by is_unknown fs)
+EndsWith m limit fs (Undecided held) = All (IsMet m limit) held.items × (0 < length held.items) × (length held.items ≡ count_by is_unknown fs)
 EndsWith m limit fs ending = ⊥
 
 -- no proof is left out
@@ -48,7 +48,7 @@ pub record LeavesUnknown (m : System) (limit : ℕ) (proofs : Option (List ℕ))
   pub held : Vec Held
   pub full : Held
   pub one : held.items ≡ full ∷ []
-  pub of_limit : IsOfLimit m limit full
+  pub of_limit : IsMet m limit full
   pub text : text_of r ≡ report m (all_unknown m limit)
   pub ends : r.ending ≡ Undecided held
   pub saves : SavesProofs m proofs (all_unknown m limit) r.saves

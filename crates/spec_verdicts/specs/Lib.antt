@@ -1,4 +1,5 @@
 pub mod Verdicts
+pub mod Met
 pub mod Exports
 pub mod Added
 pub mod Checked

@@ -5,7 +5,7 @@ ghost use Rattle.kripke_model.specs.Ctl.{formula_of};
 ghost use Rattle.kripke_model.specs.System.{Condition, System};
 ghost use Rattle.proof_text.specs.File.{Block};
 ghost use Rattle.proof_text.specs.Lines.{block_lines, text_of};
-ghost use Rattle.smv_texts.specs.Evidence.{IsOfLimit};
+ghost use Rattle.spec_verdicts.specs.Met.{IsMet};
 ghost use Rattle.smv_texts.specs.Outcomes.{finding_of, outcome_of};
 ghost use Rattle.smv_texts.specs.Report.{is_unknown};
 ghost use Rattle.spec_verdicts.specs.Checked.{EndsWith};
@@ -79,7 +79,7 @@ impl<'a> Findings<'a> {
     /// The next specification met the node limit.
     pub fn leave(&mut self, limit: u32, held: Held) -> Result<(), AllocError>
         ensures { (m : System) (proofs : Option (List ℕ)) (cs : List Condition) (c : Condition)
-            → AreFound m limit proofs cs self.old → IsOfLimit m limit held
+            → AreFound m limit proofs cs self.old → IsMet m limit held
             → OnOk result (AreFound m limit proofs (cs ++ c ∷ []) self.new) }
     {
         self.findings.push(Finding {
@@ -93,7 +93,7 @@ impl<'a> Findings<'a> {
 
 /// The greatest ending that applies.
 pub(crate) fn ending_of(findings: &[Finding], held: Vec<Held>) -> Ending
-    ensures { (m : System) (limit : ℕ) → All (IsOfLimit m limit) held.items
+    ensures { (m : System) (limit : ℕ) → All (IsMet m limit) held.items
         → length held.items ≡ count_by is_unknown (map finding_of findings.now)
         → EndsWith m limit (map finding_of findings.now) result }
 {

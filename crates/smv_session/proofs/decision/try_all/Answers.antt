@@ -15,7 +15,8 @@ loop-place-init c =
     record {
       found = c.in_ok-found.ensures c.args.limit;
       ready = ready_new c.args.model.now c.args.limit c.args.parts (diagram_sets x.parts x.pins x.fulls) c.requires
-          c.new-sets.ensures.over c.new-sets.ensures.gauge c.new-sets.ensures.live;
+          c.new-sets.ensures.over c.new-sets.ensures.gauge c.new-sets.ensures.live
+          c.new-sets.ensures.room c.new-sets.ensures.fulls;
     }
 
 pub try_next-requires-clause-over : goal.try_next-requires-clause-over

@@ -1,8 +1,13 @@
 use Rattle.std.proofs.lemmas.Result.{err_from_is_err_and}
 use Rattle.kripke_model.specs.WellFormed.{ctl_of}
+use Rattle.region_sets.proofs.Changes.{stays_live}
 use Rattle.fair_fixpoint.proofs.Lists.{to_err, to_ok}
 use Rattle.smv_session.proofs.Ready.{after_block}
 use Rattle.smv_session.proofs.trials.prove_over.Goals as goal
+
+pub release-requires-clause-live : goal.release-requires-clause-live
+release-requires-clause-live c = λ k here.
+    stays_live c.block_text-block.ensures.call.pins k (c.in_ok-outcome.ensures.call.pins.there k here)
 
 pub returns-in_err-block-clause-call : goal.returns-in_err-block-clause-call
 returns-in_err-block-clause-call c =
