@@ -148,6 +148,7 @@ all_of : (s : Session) (w : Work) (m : System) (r : Reply) (proofs : Option (Lis
     → IsOfVerdicts s.status
     × ((findings : List Finding) × Puts s (report m findings)
     × AreFoundIn m w.limit proofs findings × (count_by is_unknown findings ≡ 0))
+unfolding finds
 all_of s w m r proofs is le (inl u) shows =
     let left : LeavesUnknown m w.limit proofs r = subst (λ job. Undecides job m w.limit r) is u in
     let below = left.of_limit.1 in
