@@ -5,6 +5,7 @@
 #![tactic(auto)]
 
 mod builds;
+mod collections;
 mod leaves;
 mod orders;
 mod pairs;

@@ -4,6 +4,7 @@
 //! |---|---|
 //! | `count` | how many states, initial states and steps there are by the tests of single states, how many states are in the set of the last specification, how many have a step into it, and how many have no other step |
 //! | `relation ORDER` | `as defined`, or in how many places the diagrams and the tests of single states differ |
+//! | `collection ORDER` | the same after a collection, for sets that were made before it and behind it |
 //! | `build ORDER`, `build ORDER within N nodes` | what comes of building the parts |
 //! | a text that begins with `MODULE` | whether it has the same initial states and steps |
 //!
@@ -57,10 +58,11 @@ fn answer_relation(
     alloc: Global,
     model: &Ruled,
     words: &str,
+    collect: bool,
     answer: &mut String,
 ) -> Result<(), Fault> {
     let order = order_of(alloc, model, words)?;
-    match differences(alloc, model, &order)? {
+    match differences(alloc, model, &order, collect)? {
         0 => answer.push_str("as defined")?,
         count => write!(answer, "{count} differences")?,
     }
@@ -111,7 +113,8 @@ impl Answer for Relations {
         let model = model_of(alloc, text).ok_or(Fault::Unasked)?;
         let question = str::from_utf8(question).map_err(|_| Fault::NoText)?;
         match question.split_once(' ') {
-            Some(("relation", words)) => answer_relation(alloc, &model, words, answer),
+            Some(("relation", words)) => answer_relation(alloc, &model, words, false, answer),
+            Some(("collection", words)) => answer_relation(alloc, &model, words, true, answer),
             Some(("build", words)) => answer_build(alloc, &model, words, answer),
             Some(("MODULE", _)) => tell_second(alloc, &model, question.as_bytes(), answer),
             None if question == "count" => answer_count(alloc, &model, answer),
