@@ -1,5 +1,6 @@
 pub mod Binary
 pub mod Code
+pub mod Enough
 pub mod Kept
 pub mod Layouts
 pub mod Laws

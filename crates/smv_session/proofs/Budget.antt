@@ -18,7 +18,8 @@ use Rattle.kripke_model.specs.Term.{Term, has_path_operator}
 use Rattle.kripke_model.specs.declared.expressions.BinOp.{BinOp}
 use Rattle.proof_form.specs.Shape.{spec_formula}
 use Rattle.region_sets.specs.States.{state_count}
-use Rattle.trans_parts.specs.Budget.{enough, room}
+use Rattle.bit_encode.specs.Enough.{enough}
+use Rattle.trans_parts.specs.Budget.{room}
 use Rattle.trans_parts.specs.Building.{build_bound}
 use Rattle.smv_session.specs.Relation.{trial_pins}
 

@@ -21,8 +21,8 @@ use Rattle.smv_texts.specs.Statuses.{status_of}
 use Rattle.smv_texts.specs.declared.ending.Ending.{Ending}
 use Rattle.smv_texts.specs.declared.ending.Ending.TheVariants as endings
 use Rattle.spec_verdicts.specs.Checked.{Checked, EndsWith, LeavesUnknown, SavesProofs, all_unknown}
-use Rattle.spec_verdicts.specs.Met.{IsMet}
-use Rattle.trans_parts.specs.Budget.{enough}
+use Rattle.smv_texts.specs.Evidence.{IsMet}
+use Rattle.bit_encode.specs.Enough.{enough}
 use Rattle.spec_verdicts.specs.Verdicts.{EachFinding, IsVerdict, ShowsState, ShowStates}
 
 -- ---- check

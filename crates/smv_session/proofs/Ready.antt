@@ -23,8 +23,9 @@ use Rattle.region_sets.specs.declared.pins.SetRefusal.TheVariants.{Full}
 use Rattle.region_sets.proofs.Calls.{let_go, then_call}
 use Rattle.smv_session.specs.Relation.{AreOver, IsReady, trial_pins}
 use Rattle.smv_session.proofs.Budget.{trial_fits}
-use Rattle.spec_verdicts.specs.Met.{IsMet}
-use Rattle.trans_parts.specs.Budget.{enough, room}
+use Rattle.smv_texts.specs.Evidence.{IsMet}
+use Rattle.bit_encode.specs.Enough.{enough}
+use Rattle.trans_parts.specs.Budget.{room}
 use Rattle.trans_parts.specs.Parts.{coding_of, model_of, store_of}
 use Rattle.trans_parts.specs.declared.parts.Parts.{Parts}
 

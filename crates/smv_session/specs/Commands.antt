@@ -17,7 +17,7 @@ use Rattle.spec_verdicts.specs.Exports.{Exports}
 use Rattle.spec_verdicts.specs.Verdicts.{AreVerdicts, ShowStates}
 use Rattle.smv_session.specs.Session.{Session, Asks, IsUndisturbed, Leaves, Puts, Shows}
 use Rattle.smv_session.specs.Source.{HasModel, IsAccepted}
-use Rattle.trans_parts.specs.Budget.{enough}
+use Rattle.bit_encode.specs.Enough.{enough}
 
 -- `gen N`: the ring's text is put.
 pub record GeneratesText (s : Session) : Type 0 where

@@ -6,7 +6,7 @@ use Rattle.proof_answers.specs.Rechecked.{Rechecked, LeavesUnanswered}
 use Rattle.smv_outside.specs.Contents.{AreTold, Contents, LeavesOthers, bytes_under}
 use Rattle.smv_texts.specs.Replies.{Reply}
 use Rattle.spec_verdicts.specs.Checked.{Checked, LeavesUnknown}
-use Rattle.trans_parts.specs.Budget.{enough}
+use Rattle.bit_encode.specs.Enough.{enough}
 
 -- the specifications whose numbers the job names are formulas without path operators
 abbrev pub NamesLeaves : Job → System → Type 0

@@ -14,7 +14,8 @@ use Rattle.fair_fixpoint.specs.Walks.{HasModelLeaves}
 use Rattle.proof_form.specs.Shape.{spec_formula}
 use Rattle.region_sets.specs.Sets.{Sets}
 use Rattle.region_sets.specs.States.{state_count}
-use Rattle.trans_parts.specs.Budget.{enough, room}
+use Rattle.bit_encode.specs.Enough.{enough}
+use Rattle.trans_parts.specs.Budget.{room}
 use Rattle.trans_parts.specs.FirstFault.{IsFirstFault}
 use Rattle.trans_parts.specs.Parts.{coding_of, model_of, store_of}
 use Rattle.trans_parts.specs.declared.building.BuildRefusal.{BuildRefusal}
@@ -34,7 +35,7 @@ use Rattle.smv_texts.specs.declared.outcome.Outcome.{Outcome}
 use Rattle.smv_texts.specs.Replies.{Reply}
 use Rattle.spec_verdicts.specs.Checked.{Checked, LeavesUnknown}
 use Rattle.spec_verdicts.specs.Exports.{ProvesOutcome}
-use Rattle.spec_verdicts.specs.Met.{IsMet}
+use Rattle.smv_texts.specs.Evidence.{IsMet}
 use Rattle.spec_verdicts.specs.Verdicts.{IsDecided}
 
 -- the parts of this model, in a store of this limit, with the variables in declared order

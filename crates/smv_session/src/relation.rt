@@ -4,7 +4,7 @@ ghost use Rattle.bit_encode.specs.Code.{state_bits};
 ghost use Rattle.kripke_model.specs.Faults.{IsFaultless};
 ghost use Rattle.smv_session.specs.Relation.{AreOver, IsNotBuilt, Stops};
 ghost use Rattle.smv_session.specs.Source.{most_state_bits};
-ghost use Rattle.spec_verdicts.specs.Met.{IsMet};
+ghost use Rattle.smv_texts.specs.Evidence.{IsMet};
 
 use bdd_nodes::{Held, Steps};
 use bit_encode::orders::declared_order;

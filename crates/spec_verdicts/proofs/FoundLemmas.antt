@@ -11,7 +11,7 @@ use Rattle.kripke_model.specs.System.{System, Condition}
 use Rattle.proof_text.specs.File.{Block}
 use Rattle.proof_text.specs.Lines.{block_lines, text_of}
 use Rattle.proof_text.specs.Written.{AreSpelled}
-use Rattle.spec_verdicts.specs.Met.{IsMet}
+use Rattle.smv_texts.specs.Evidence.{IsMet}
 use Rattle.smv_texts.specs.Outcomes.{finding_of, outcome_of}
 use Rattle.smv_texts.specs.Replies.{saved_of}
 use Rattle.smv_texts.specs.Report.{Finding, is_unknown, is_false}

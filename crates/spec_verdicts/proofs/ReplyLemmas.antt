@@ -8,7 +8,7 @@ use Rattle.bdd_nodes.specs.declared.refusal.Held.{Held}
 use Rattle.kripke_model.specs.System.{System}
 use Rattle.proof_text.specs.Lines.{header_lines, text_of}
 use Rattle.proof_text.specs.Written.{AreSpelled, own_order}
-use Rattle.spec_verdicts.specs.Met.{IsMet}
+use Rattle.smv_texts.specs.Evidence.{IsMet}
 use Rattle.smv_texts.specs.Outcomes.{finding_of}
 use Rattle.smv_texts.specs.Replies.{Reply, Gives, IsReply, saved_of}
 use Rattle.smv_texts.specs.Report.{Finding, is_unknown, report}

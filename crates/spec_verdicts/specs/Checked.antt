@@ -4,7 +4,7 @@ use Rattle.std.specs.Prelude.{◌≡◌, ℕ, ◌<◌, List, [], ◌∷◌, leng
 use Rattle.std.specs.Global.{Vec}
 use Rattle.bdd_nodes.specs.declared.refusal.Held.{Held}
 use Rattle.kripke_model.specs.System.{System}
-use Rattle.spec_verdicts.specs.Met.{IsMet}
+use Rattle.smv_texts.specs.Evidence.{IsMet}
 use Rattle.smv_texts.specs.Replies.{Reply, text_of}
 use Rattle.smv_texts.specs.Report.{Finding, Unknown, is_false, is_unknown, report}
 use Rattle.smv_texts.specs.declared.ending.Ending.{Ending}

@@ -2,7 +2,7 @@
 use Rattle.std.specs.Prelude.{◌≡◌, ℕ, List, length, map, count_by, All, Option}
 use Rattle.kripke_model.specs.Ctl.{Ctl}
 use Rattle.kripke_model.specs.System.{System, Condition}
-use Rattle.spec_verdicts.specs.Met.{IsMet}
+use Rattle.smv_texts.specs.Evidence.{IsMet}
 use Rattle.smv_texts.specs.Outcomes.{finding_of}
 use Rattle.smv_texts.specs.Replies.{saved_of}
 use Rattle.smv_texts.specs.Report.{Finding, is_unknown}

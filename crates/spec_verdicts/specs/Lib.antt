@@ -1,5 +1,4 @@
 pub mod Verdicts
-pub mod Met
 pub mod Exports
 pub mod Added
 pub mod Checked

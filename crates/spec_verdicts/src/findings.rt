@@ -5,7 +5,7 @@ ghost use Rattle.kripke_model.specs.Ctl.{formula_of};
 ghost use Rattle.kripke_model.specs.System.{Condition, System};
 ghost use Rattle.proof_text.specs.File.{Block};
 ghost use Rattle.proof_text.specs.Lines.{block_lines, text_of};
-ghost use Rattle.spec_verdicts.specs.Met.{IsMet};
+ghost use Rattle.smv_texts.specs.Evidence.{IsMet};
 ghost use Rattle.smv_texts.specs.Outcomes.{finding_of, outcome_of};
 ghost use Rattle.smv_texts.specs.Report.{is_unknown};
 ghost use Rattle.spec_verdicts.specs.Checked.{EndsWith};

@@ -1,6 +1,6 @@
 // The report of what is found.
 ghost use Rattle.std.specs.Prelude.{◌≡◌, ◌≤◌, ℕ, IfOk, List, Option, length, map, option_map};
-ghost use Rattle.spec_verdicts.specs.Met.{IsMet};
+ghost use Rattle.smv_texts.specs.Evidence.{IsMet};
 ghost use Rattle.smv_texts.specs.Outcomes.{finding_of};
 ghost use Rattle.smv_texts.specs.Replies.{IsReply};
 ghost use Rattle.spec_verdicts.specs.Checked.{Checked, LeavesUnknown, all_unknown as all_are_unknown};
