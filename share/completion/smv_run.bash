@@ -14,11 +14,11 @@ _smv_offer() {
   mapfile -t COMPREPLY < <(compgen -W "$2" -- "$1")
 }
 
-# The options of the command that don't stand among the words yet.
+# The options of the command that don't stand among the words yet. With the script, which ./smv has, there is one more.
 _smv_options() {
   local option options given=" ${*:2} "
   case $1 in
-    check) options="--nodes --proof" ;;
+    check) options="--nodes --proof${script:+ --verbose}" ;;
     recheck | explain) options="--nodes" ;;
     trace) options="--nodes --csv --vcd --svg" ;;
     gen) options="--check" ;;
@@ -30,9 +30,10 @@ _smv_options() {
 
 _smv_run() {
   local word=${COMP_WORDS[COMP_CWORD]} commands="check recheck gen"
-  local words=("${COMP_WORDS[@]:1:COMP_CWORD-1}") at=0 operands=0 behind="" command option
+  local words=("${COMP_WORDS[@]:1:COMP_CWORD-1}") at=0 operands=0 behind="" script="" command option
   COMPREPLY=()
   if [ "${1##*/}" = smv ]; then
+    script=yes
     commands+=" explain trace"
     [ "${words[0]-}" = --proved ] && words=("${words[@]:1}") || commands+=" --proved"
   fi
