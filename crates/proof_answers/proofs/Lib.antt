@@ -1,3 +1,4 @@
 pub mod AnsweredLemmas
+pub mod Accepting
 pub mod ReportLemmas
 pub mod ReplyLemmas

@@ -13,7 +13,7 @@ use Rattle.proof_text.specs.File.{Block, File}
 use Rattle.proof_text.specs.Refuses.{Refuses}
 use Rattle.proof_text.specs.Spells.{Spells}
 use Rattle.proof_text.specs.declared.refusals.TextRefusal.{TextRefusal}
-use Rattle.smv_texts.specs.Evidence.{IsOfLimit}
+use Rattle.smv_texts.specs.Evidence.{IsMet}
 use Rattle.smv_texts.specs.Replies.{Head, Spec, Total, Model, Refused, Reply, Gives, IsReply, head_word, saved_of}
 use Rattle.smv_texts.specs.declared.ending.Ending.{Ending}
 use Rattle.smv_texts.specs.declared.ending.Ending.TheVariants.{ProofRefused, Undecided}
@@ -106,7 +106,7 @@ refused_reply m limit bytes refusal reply applies text ends none =
     )
 
 pub model_reply : (m : System) (limit : ℕ) (held : Vec Held) (full : Held) (reply : code.Reply)
-    → IsOfLimit m limit full → held.items ≡ full ∷ [] → reply.text.items ≡ unanswered_model limit
+    → IsMet m limit full → held.items ≡ full ∷ [] → reply.text.items ≡ unanswered_model limit
     → reply.ending ≡ Undecided held → reply.saves ≡ None → IsReply (LeavesUnanswered m limit) reply
 model_reply m limit held full reply of_limit one text ends none = (
   put Model (model_rest limit) reply.ending,

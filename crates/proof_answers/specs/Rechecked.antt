@@ -7,7 +7,7 @@ use Rattle.proof_text.specs.File.{File}
 use Rattle.proof_text.specs.Refuses.{Refuses}
 use Rattle.proof_text.specs.Spells.{Spells}
 use Rattle.proof_text.specs.declared.refusals.TextRefusal.{TextRefusal}
-use Rattle.smv_texts.specs.Evidence.{IsOfLimit}
+use Rattle.smv_texts.specs.Evidence.{IsMet, IsOfLimit}
 use Rattle.smv_texts.specs.Replies.{Reply, text_of}
 use Rattle.smv_texts.specs.declared.ending.Ending.{Ending}
 use Rattle.smv_texts.specs.declared.ending.Ending.TheVariants.{Clear, Failed, Undecided, ProofRefused}
@@ -47,13 +47,13 @@ pub record IsAnswered (m : System) (limit : ℕ) (bytes : List ℕ) (r : Reply) 
 abbrev pub Rechecked : System → ℕ → List ℕ → Reply → Type 0
 Rechecked m limit bytes r = IsProofRefused m bytes r ⊎ IsAnswered m limit bytes r
 
--- The limit was met before the model was known to have no fault: one full store is the evidence. No
--- proof file is looked at.
+-- The limit was met before the model was known to have no fault: one full store is the evidence, and
+-- the limit is below what is enough. No proof file is looked at.
 pub record LeavesUnanswered (m : System) (limit : ℕ) (r : Reply) : Type 0 where
   pub held : Vec Held
   pub full : Held
   pub one : held.items ≡ full ∷ []
-  pub of_limit : IsOfLimit m limit full
+  pub of_limit : IsMet m limit full
   pub text : text_of r ≡ unanswered_model limit
   pub ends : r.ending ≡ Undecided held
   pub saves : r.saves ≡ None

@@ -1,11 +1,13 @@
 // What is answered to the blocks of a proof file.
-ghost use Rattle.std.specs.Prelude.{◌≡◌, ◌++◌, ◌∷◌, [], ℕ, List, OnOk, count_by, map};
+ghost use Rattle.std.specs.Prelude.{◌≡◌, ◌++◌, ◌∷◌, ◌*◌, ◌<◌, [], ℕ, List, OnOk, count_by, length, map};
+ghost use Rattle.bit_encode.specs.Enough.{enough};
 ghost use Rattle.kripke_model.specs.System.{System};
 ghost use Rattle.proof_answers.specs.Answered.{AreAnswered, answer_of};
 ghost use Rattle.proof_answers.specs.Rechecked.{EndsAnswers};
 ghost use Rattle.proof_answers.specs.Report as lines;
 ghost use Rattle.proof_form.specs.Meaning.{ClaimHolds};
 ghost use Rattle.proof_text.specs.File.{Block};
+ghost use Rattle.proof_text.specs.Lines.{block_lines};
 ghost use Rattle.proof_text.specs.Meaning.{IsFirstBadLine, IsProved};
 ghost use Rattle.smv_texts.specs.Evidence.{IsOfLimit};
 
@@ -110,11 +112,12 @@ impl Answers {
         Ok(())
     }
 
-    /// The next block met the node limit.
+    /// The next block met the node limit, which is below what is enough for each of its lines.
     pub fn leave(&mut self, limit: u32, held: Held) -> Result<(), AllocError>
         ensures { (m : System) (order : List ℕ) (blocks : List Block) (b : Block)
             → AreAnswered m limit order blocks self.old
             → IsOfLimit m limit held
+            → limit < enough m * length (block_lines m b)
             → OnOk result (AreAnswered m limit order (blocks ++ b ∷ []) self.new) }
     {
         self.answers.push(Answer::Unanswered(limit))?;

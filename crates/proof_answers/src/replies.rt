@@ -7,7 +7,7 @@ ghost use Rattle.proof_answers.specs.Report as lines;
 ghost use Rattle.proof_text.specs.Refuses.{Refuses};
 ghost use Rattle.proof_text.specs.Spells.{Spells};
 ghost use Rattle.proof_text.specs.declared.refusals.TextRefusal.TheVariants.{Memory as out_of_memory};
-ghost use Rattle.smv_texts.specs.Evidence.{IsOfLimit};
+ghost use Rattle.smv_texts.specs.Evidence.{IsMet};
 ghost use Rattle.smv_texts.specs.Replies.{IsReply};
 
 use crate::answers::Answers;
@@ -63,7 +63,7 @@ fn model_text(alloc: Global, limit: u32) -> Result<Vec<u8>, AllocError>
 
 /// The reply where the limit was met before the model was known to have no fault.
 pub fn unanswered_model<'a>(alloc: Global, limit: u32, held: Held) -> Result<Reply<'a>, AllocError>
-    ensures { (m : System) → IsOfLimit m limit held
+    ensures { (m : System) → IsMet m limit held
         → IfOk result (IsReply (LeavesUnanswered m limit)) }
 {
     Ok(Reply {

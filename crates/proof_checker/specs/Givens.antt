@@ -3,8 +3,11 @@ use Rattle.std.specs.Prelude.{◌+◌, ◌<◌, ◌≤◌, ◌^◌, List, length
 use Rattle.bdd_nodes.specs.Table.{Has, IsGood}
 use Rattle.bit_encode.specs.Code.{IsOrder, state_bits}
 use Rattle.kripke_model.specs.Faults.{IsFaultless}
+use Rattle.kripke_model.specs.Flat.{node_total}
+use Rattle.kripke_model.specs.Signs.{node_count}
 use Rattle.kripke_model.specs.WellFormed.{ctl_of}
 use Rattle.fair_rules.specs.Checks.{Check}
+use Rattle.fair_rules.specs.FreePart.{constraint_nodes}
 use Rattle.proof_form.specs.Form.{map_proof, sets_of}
 use Rattle.proof_form.specs.Meaning.{obligations}
 use Rattle.proof_form.specs.Shape.{IsInShape}
@@ -25,4 +28,6 @@ pub record IsGiven (g : Given) : Type 0 where
   pub shape : IsInShape g.model.now (ctl_of g.formula.now) g.proof.now
   pub good : IsGood (state_bits g.model.now) g.nodes.now
   pub known : All (Has g.nodes.now) (sets_of g.proof.now)
+  pub sizes : node_count (ctl_of g.formula.now) + constraint_nodes g.model.now
+      ≤ node_total g.model.now
   pub small : length g.nodes.now + 2 < 2 ^ 32

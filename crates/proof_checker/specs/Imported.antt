@@ -34,12 +34,6 @@ node_states m order nodes number s = value_of nodes number (code (record { types
 abbrev pub seen_in : DiagramSets → Sets
 seen_in x = diagram_sets x.parts x.pins x.fulls
 
--- the model and the store are the same
-pub record KeepsSets (old new : DiagramSets) : Type 0 where
-  pub over : (seen_in new).over ≡ (seen_in old).over
-  pub gauge : (seen_in new).gauge ≡ (seen_in old).gauge
-  pub coding : coding_in new ≡ coding_in old
-
 -- the slot's pin is live, and has the states in whose codes the node has value 1
 pub record HasNumber (x : DiagramSets) (nodes : List Triple) (slot number : ℕ) : Type 0 where
   pub live : IsLive (seen_in x) slot

@@ -1,7 +1,9 @@
 pub mod NoRoom
 pub mod Found
 pub mod Imported
+pub mod ImportCalls
 pub mod Jobs
+pub mod Ready
 pub mod Givens
 pub mod Reads
 pub mod Answers

@@ -8,13 +8,16 @@ ghost use Rattle.bit_encode.specs.Code.{state_bits};
 ghost use Rattle.proof_form.specs.Meaning.{obligations};
 ghost use Rattle.proof_form.specs.Shape.{spec_formula};
 ghost use Rattle.proof_lines.specs.LineCounts.{set_line_count};
+ghost use Rattle.proof_text.specs.Lines.{block_lines};
 ghost use Rattle.proof_text.specs.Meaning.{over_states};
 ghost use Rattle.proof_checker.specs.Answers.{IsAnswerTo};
 ghost use Rattle.proof_checker.specs.Found.{IsFound};
 ghost use Rattle.proof_checker.specs.NoRoom.{IsNoRoom};
 ghost use Rattle.proof_checker.specs.Reads.{IsRead};
+ghost use Rattle.proof_checker.specs.Ready.{IsKept};
 
 use crate::blocks::{Given, test_nodes};
+use crate::kept::KeptSets;
 use bdd_nodes::{Held, Steps};
 use kripke_model::expressions::Formula;
 use kripke_model::models::Ruled;
@@ -67,6 +70,7 @@ fn first_bad_of<L: Ledger>(
     block: &Block,
     formula: &Formula,
     limit: u32,
+    kept: &mut KeptSets,
     steps: &mut Steps<L>,
 ) -> Result<Option<u64>, SetRefusal>
     requires faultless { IsFaultless model.now }
@@ -74,9 +78,12 @@ fn first_bad_of<L: Ledger>(
     requires read { IsRead model.now order.now block.now }
     requires formula { Some (ctl_of formula.now) ≡ spec_formula model.now block.now.spec }
     requires limit { limit < 2 ^ 31 }
+    requires kept { IsKept model.now order.now limit kept.old }
     ensures found { IfOk result (IsFound model.now (obligations model.now (ctl_of formula.now)
         (over_states model.now order.now block.now))) }
-    ensures refused { IfErr result (IsNoRoom model.now limit) }
+    ensures kept { IsKept model.now order.now limit kept.new }
+    ensures refused { IfErr result
+        (IsNoRoom model.now limit (length (block_lines model.now block.now))) }
     ensures counted { steps.old ≤ steps.new }
     ensures local { steps.new ≤ steps.old + set_line_count block.now.proof }
 {
@@ -89,7 +96,7 @@ fn first_bad_of<L: Ledger>(
         nodes: &block.nodes,
         proof: &block.proof,
     };
-    test_nodes(alloc, &given, limit, steps)
+    test_nodes(alloc, &given, limit, kept, steps)
 }
 
 /// Tests each line of a block by the formula of its specification.
@@ -100,6 +107,7 @@ fn answer_by<L: Ledger>(
     block: &Block,
     formula: &Formula,
     limit: u32,
+    kept: &mut KeptSets,
     steps: &mut Steps<L>,
 ) -> Result<Answer, AllocError>
     requires faultless { IsFaultless model.now }
@@ -107,19 +115,49 @@ fn answer_by<L: Ledger>(
     requires read { IsRead model.now order.now block.now }
     requires formula { Some (ctl_of formula.now) ≡ spec_formula model.now block.now.spec }
     requires limit { limit < 2 ^ 31 }
+    requires kept { IsKept model.now order.now limit kept.old }
+    ensures kept { IsKept model.now order.now limit kept.new }
     ensures answer { IfOk result (IsAnswerTo model.now order.now block.now limit) }
     ensures counted { steps.old ≤ steps.new }
     ensures local { steps.new ≤ steps.old + set_line_count block.now.proof }
 {
     lines_law(model);
     proofs_law(model);
-    match first_bad_of(alloc, model, order, block, formula, limit, steps) {
+    match first_bad_of(alloc, model, order, block, formula, limit, kept, steps) {
         Ok(None) => Ok(Answer::Accepted),
         Ok(Some(count)) => Ok(Answer::Rejected {
             line: line_of(block, count),
         }),
         Err(SetRefusal::Full { held }) => Ok(Answer::NodeLimit { held }),
         Err(SetRefusal::Memory) => Err(AllocError),
+    }
+}
+
+/// Tests each line of a block in turn, in a store of at most `limit` nodes (less than 2^31), over
+/// what the last test kept of the same model, order and limit. A step is one product with the
+/// transition relation.
+pub fn check_next<L: Ledger>(
+    alloc: Global,
+    model: &Ruled,
+    order: &[u32],
+    block: &Block,
+    limit: u32,
+    kept: &mut KeptSets,
+    steps: &mut Steps<L>,
+) -> Result<Answer, AllocError>
+    requires faultless { IsFaultless model.now }
+    requires bits { state_bits model.now ≤ 128 }
+    requires read { IsRead model.now order.now block.now }
+    requires limit { limit < 2 ^ 31 }
+    requires kept { IsKept model.now order.now limit kept.old }
+    ensures kept { IsKept model.now order.now limit kept.new }
+    ensures answer { IfOk result (IsAnswerTo model.now order.now block.now limit) }
+    ensures counted { steps.old ≤ steps.new }
+    ensures local { steps.new ≤ steps.old + set_line_count block.now.proof }
+{
+    match formula_of(model, block.spec) {
+        None => unreachable!(),
+        Some(formula) => answer_by(alloc, model, order, block, formula, limit, kept, steps),
     }
 }
 
@@ -141,8 +179,6 @@ pub fn check_block<L: Ledger>(
     ensures counted { steps.old ≤ steps.new }
     ensures local { steps.new ≤ steps.old + set_line_count block.now.proof }
 {
-    match formula_of(model, block.spec) {
-        None => unreachable!(),
-        Some(formula) => answer_by(alloc, model, order, block, formula, limit, steps),
-    }
+    let mut kept = KeptSets::new();
+    check_next(alloc, model, order, block, limit, &mut kept, steps)
 }

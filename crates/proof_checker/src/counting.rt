@@ -1,12 +1,11 @@
 //! The test of a proof over numbers whose pins are there, with its products counted in the caller's
 //! steps.
 
-ghost use Rattle.std.specs.Prelude.{◌≡◌, ◌≤◌, ◌+◌, IfErr, IfOk};
+ghost use Rattle.std.specs.Prelude.{◌≡◌, ◌≤◌, ◌+◌, IfOk};
 ghost use Rattle.proof_lines.specs.LineCounts.{set_line_count};
 ghost use Rattle.proof_checker.specs.Found.{IsFound};
 ghost use Rattle.proof_checker.specs.Imported.{seen_in};
-ghost use Rattle.proof_checker.specs.Jobs.{IsJob, lines_in};
-ghost use Rattle.proof_checker.specs.NoRoom.{IsOfGauge};
+ghost use Rattle.proof_checker.specs.Jobs.{IsJob, IsTestCall, lines_in};
 
 use crate::numbers::first_bad_number;
 use bdd_nodes::Steps;
@@ -33,15 +32,15 @@ pub(crate) struct Job<'a> {
     pub(crate) table: &'a [u64],
 }
 
+/// The sets after a test, and what was found.
+type Tested = (DiagramSets, Result<Option<u64>, SetRefusal>);
+
 /// Tests the proof in steps that don't fall below the floor.
-fn tested_above<L: Ledger, F: Floor>(
-    steps: Steps<L>,
-    job: Job<'_>,
-) -> (Steps<L>, Result<Option<u64>, SetRefusal>)
+fn tested_above<L: Ledger, F: Floor>(steps: Steps<L>, job: Job<'_>) -> (Steps<L>, Tested)
     requires floor { F.floor ≡ steps }
     requires job { IsJob job }
-    ensures found { IfOk result.1 (IsFound job.entry.model.now (lines_in job.entry)) }
-    ensures refused { IfErr result.1 (IsOfGauge (seen_in job.entry.sets).gauge) }
+    ensures found { IfOk result.1.1 (IsFound job.entry.model.now (lines_in job.entry)) }
+    ensures call { IsTestCall job.entry (seen_in job.entry.sets) (seen_in result.1.0) result.1.1 }
     ensures counted { steps ≤ result.0 }
     ensures local { result.0 ≤ steps + set_line_count job.entry.proof.now }
 {
@@ -54,15 +53,15 @@ fn tested_above<L: Ledger, F: Floor>(
         job.proof,
         job.table,
     );
-    let (_sets, after) = counted.into_parts();
-    (after, found)
+    let (sets, after) = counted.into_parts();
+    (after, (sets, found))
 }
 
-/// Tests the proof, and gives the steps back.
-fn tested<L: Ledger>(steps: Steps<L>, job: Job<'_>) -> (Steps<L>, Result<Option<u64>, SetRefusal>)
+/// Tests the proof, and gives the steps and the sets back.
+fn tested<L: Ledger>(steps: Steps<L>, job: Job<'_>) -> (Steps<L>, Tested)
     requires { IsJob job }
-    ensures found { IfOk result.1 (IsFound job.entry.model.now (lines_in job.entry)) }
-    ensures refused { IfErr result.1 (IsOfGauge (seen_in job.entry.sets).gauge) }
+    ensures found { IfOk result.1.1 (IsFound job.entry.model.now (lines_in job.entry)) }
+    ensures call { IsTestCall job.entry (seen_in job.entry.sets) (seen_in result.1.0) result.1.1 }
     ensures counted { steps ≤ result.0 }
     ensures local { result.0 ≤ steps + set_line_count job.entry.proof.now }
 {
@@ -71,13 +70,10 @@ fn tested<L: Ledger>(steps: Steps<L>, job: Job<'_>) -> (Steps<L>, Result<Option<
 
 /// The first line of the proof that fails, counted from 0, if one does. A step is one product with
 /// the transition relation.
-pub(crate) fn test_job<L: Ledger>(
-    job: Job<'_>,
-    steps: &mut Steps<L>,
-) -> Result<Option<u64>, SetRefusal>
+pub(crate) fn test_job<L: Ledger>(job: Job<'_>, steps: &mut Steps<L>) -> Tested
     requires { IsJob job }
-    ensures found { IfOk result (IsFound job.entry.model.now (lines_in job.entry)) }
-    ensures refused { IfErr result (IsOfGauge (seen_in job.entry.sets).gauge) }
+    ensures found { IfOk result.1 (IsFound job.entry.model.now (lines_in job.entry)) }
+    ensures call { IsTestCall job.entry (seen_in job.entry.sets) (seen_in result.0) result.1 }
     ensures counted { steps.old ≤ steps.new }
     ensures local { steps.new ≤ steps.old + set_line_count job.entry.proof.now }
 {

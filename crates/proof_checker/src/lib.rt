@@ -5,5 +5,6 @@ mod blocks;
 pub mod checking;
 mod counting;
 mod importing;
+pub mod kept;
 mod numbers;
 mod relation;

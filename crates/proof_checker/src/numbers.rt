@@ -1,12 +1,10 @@
 //! The test of a proof whose sets are numbers, by the pin of each number.
 
-ghost use Rattle.std.specs.Prelude.{◌≡◌, ◌≤◌, ◌+◌, ◌*◌, []};
+ghost use Rattle.std.specs.Prelude.{◌≡◌, ◌≤◌, ◌+◌, []};
 ghost use Rattle.std.specs.Prelude.{All, IfOk, slice_index};
-ghost use Rattle.kripke_model.specs.Signs.{node_count};
 ghost use Rattle.kripke_model.specs.WellFormed.{ctl_of};
 ghost use Rattle.region_sets.specs.Sets.{IsCall, IsLive};
 ghost use Rattle.region_sets.specs.Ranks.{AreLive};
-ghost use Rattle.fair_rules.specs.FreePart.{constraint_nodes};
 ghost use Rattle.proof_form.specs.Form.{sets_of};
 ghost use Rattle.proof_form.specs.Meaning.{obligations};
 ghost use Rattle.proof_form.specs.Pinned.{over_states, proof_slots};
@@ -15,6 +13,7 @@ ghost use Rattle.claim_sets.specs.Claimed.{HasModelLeaves};
 ghost use Rattle.proof_lines.specs.LineCounts.{set_line_count};
 ghost use Rattle.block_proofs.specs.PinsFor.{pinned};
 ghost use Rattle.proof_checker.specs.Found.{IsFound};
+ghost use Rattle.proof_checker.specs.Jobs.{test_pins};
 
 use block_proofs::letting_go::LetGo;
 use block_proofs::pinning::with_pins;
@@ -37,7 +36,7 @@ fn first_bad<S: StateSets>(
     requires leaves { HasModelLeaves model.now (ctl_of formula.now) }
     requires live { AreLive (S.seen sets.old) (proof_slots proof.now) }
     requires shape { IsInShape model.now (ctl_of formula.now) proof.now }
-    ensures call { IsCall (8 * (node_count (ctl_of formula.now) + constraint_nodes model.now + 2))
+    ensures call { IsCall (test_pins model.now (ctl_of formula.now))
         (S.seen sets.old) (S.seen sets.new) [] result }
     ensures found { IfOk result (IsFound model.now (obligations model.now (ctl_of formula.now)
         (over_states (S.seen sets.old) proof.now))) }
@@ -65,7 +64,7 @@ pub(crate) fn first_bad_number<S: StateSets>(
     requires live { All (λ number. IsLive (S.seen sets.old) (slice_index table.now number))
         (sets_of proof.now) }
     requires shape { IsInShape model.now (ctl_of formula.now) proof.now }
-    ensures call { IsCall (8 * (node_count (ctl_of formula.now) + constraint_nodes model.now + 2))
+    ensures call { IsCall (test_pins model.now (ctl_of formula.now))
         (S.seen sets.old) (S.seen sets.new) [] result }
     ensures found { IfOk result (IsFound model.now (obligations model.now (ctl_of formula.now)
         (over_states (S.seen sets.old) (pinned table.now proof.now)))) }

@@ -102,7 +102,7 @@ one_held m limit held full one is = record {
 
 undecides_end : (job : Job) (m : System) (limit : ℕ) (r : Reply) → Undecides job m limit r → IsWorkEnding m limit r.ending
 undecides_end (Decide proofs) m limit r u = subst (IsWorkEnding m limit) (sym u.ends) (one_held m limit u.held u.full u.one u.of_limit.0)
-undecides_end (Recheck proofs) m limit r (u, below) = subst (IsWorkEnding m limit) (sym u.ends) (one_held m limit u.held u.full u.one u.of_limit)
+undecides_end (Recheck proofs) m limit r u = subst (IsWorkEnding m limit) (sym u.ends) (one_held m limit u.held u.full u.one u.of_limit.0)
 
 checked_end : (m : System) (limit : ℕ) (fs : List Finding) (e : Ending) → EndsWith m limit fs e → IsWorkEnding m limit e
 checked_end m limit fs endings.Clear ends = tt

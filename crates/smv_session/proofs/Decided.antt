@@ -1,17 +1,25 @@
 -- What is promised of the jobs over a model.
-use Rattle.std.proofs.Common.{◌≡◌, ◌<◌, ◌≤◌, inl, inr, ℕ, List, [], ◌∷◌, length, replicate}
+use Rattle.std.proofs.Common.{◌≡◌, ◌⊎◌, ◌<◌, ◌≤◌, inl, inr, ℕ, List, [], ◌∷◌, length, replicate}
 use Rattle.std.proofs.Common.{Option, Some, None, refl, sym, subst, arith}
-use Rattle.std.specs.Prelude.{All, count_by}
+use Rattle.std.specs.Prelude.{All, IfSome, count_by}
 use Rattle.std.proofs.lemmas.List.Elements.{All-head}
 use Rattle.bdd_nodes.specs.declared.refusal.Held.{Held}
 use Rattle.command_words.specs.Words.{Job, Work, Decide, Recheck}
 use Rattle.kripke_model.specs.Faults.{IsFaultless}
 use Rattle.kripke_model.specs.System.{System, Condition}
-use Rattle.smv_outside.specs.Contents.{Contents}
+use Rattle.proof_answers.proofs.Accepting.{all_accepted}
+use Rattle.proof_answers.specs.Answers.{Answer, AreAccepted}
+use Rattle.proof_answers.specs.Rechecked.{LeavesUnanswered}
+use Rattle.proof_answers.specs.Report.{answers_report}
+use Rattle.proof_text.specs.File.{File}
+use Rattle.proof_text.specs.Refuses.{Refuses as RefusesText}
+use Rattle.proof_text.specs.Spells.{Spells}
+use Rattle.proof_text.specs.declared.refusals.TextRefusal.{TextRefusal}
+use Rattle.smv_outside.specs.Contents.{Contents, bytes_under}
 use Rattle.smv_session.specs.Answers.{Takes}
 use Rattle.smv_session.specs.Commands.{AreFoundIn, DecidesAll, ExportsProofs, IsOfVerdicts}
 use Rattle.smv_session.specs.Commands.{IsRechecked, RechecksProofs, ReportsVerdicts, ShowsStates}
-use Rattle.smv_session.specs.Commands.{TellsOfProofs}
+use Rattle.smv_session.specs.Commands.{AcceptsProved, TellsOfProofs}
 use Rattle.smv_session.specs.Jobs.{Does, IsSecond, Undecides}
 use Rattle.smv_session.specs.Session.{Leaves, Puts, RefusesModels, Session, Shows, TakesModels}
 use Rattle.smv_session.proofs.Tried.{names_any}
@@ -135,7 +143,7 @@ rechecked s takes = record {
       elim taken.1 [
         | inl u ↦
             let left = subst (λ (job : Job). Undecides job m w.limit taken.0) is u in
-            inl (taken.0, left.0, left.1, taken.2)
+            inl (taken.0, left, taken.2)
         | inr done ↦ inr (second_of s m w.limit proofs taken.0 done.second done.faultless taken.2
             (subst (λ (job : Job). IsSecond job s.contents done.second) is done.loaded) (subst (λ (job : Job). Does job m w.limit done.second taken.0) is done.does))
       ];
@@ -168,4 +176,40 @@ decides_all s refuses takes = record {
       let other = refuses.never quiet w bytes m asks accepted (names_any w m) in
       let taken = takes.takes quiet w bytes m asks accepted.has other in
       all_of s w m taken.0 proofs is le taken.1 taken.2;
+}
+
+-- what was put for a proof file of this text
+AcceptsText : Session → System → ℕ → List ℕ → Type 0
+AcceptsText s m limit proofs = (text : List ℕ) × IfSome s.contents (λ files. bytes_under files proofs ≡ Some text)
+    × (((refusal : TextRefusal) × RefusesText m text refusal)
+    ⊎ ((file : File) × Spells m file text × ((answers : List Answer)
+    × Puts s (answers_report file.blocks answers) × AreAccepted m limit file.order file.blocks answers)))
+
+text_accepted : (s : Session) (m : System) (limit : ℕ) (proofs : List ℕ) (r : Reply) (second : Option (List ℕ)) → Shows s r → IsSecond (Recheck proofs) s.contents second → Does (Recheck proofs) m limit second r
+    → AcceptsText s m limit proofs
+unfolding AcceptsText
+text_accepted s m limit proofs r None shows there does = absurd does
+text_accepted s m limit proofs r (Some text) shows there (inl refused) = (text, there, inl (refused.refusal, refused.applies))
+text_accepted s m limit proofs r (Some text) shows there (inr a) =
+    (text, there, inr (a.file, a.spelled, (a.answers, subst (Puts s) a.text shows.text, all_accepted m limit a.file.order a.file.blocks a.answers a.answered)))
+
+accepted_of : (s : Session) (w : Work) (m : System) (r : Reply) (proofs : List ℕ)
+    → w.job ≡ Recheck proofs → enough m ≤ w.limit → Takes w s.contents m r → Shows s r
+    → AcceptsText s m w.limit proofs
+accepted_of s w m r proofs is le (inl u) shows =
+    let left : LeavesUnanswered m w.limit r = subst (λ (job : Job). Undecides job m w.limit r) is u in
+    let below = left.of_limit.1 in
+    absurd (omega (arith, le, below))
+accepted_of s w m r proofs is le (inr done) shows =
+    text_accepted s m w.limit proofs r done.second shows
+    (subst (λ (job : Job). IsSecond job s.contents done.second) is done.loaded)
+    (subst (λ (job : Job). Does job m w.limit done.second r) is done.does)
+
+pub accepts_proved : (s : Session) → RefusesModels s → TakesModels s → AcceptsProved s
+unfolding AcceptsText
+accepts_proved s refuses takes = record {
+  accepts = λ quiet w bytes m proofs asks is accepted le.
+      let other = refuses.never quiet w bytes m asks accepted (names_any w m) in
+      let taken = takes.takes quiet w bytes m asks accepted.has other in
+      accepted_of s w m taken.0 proofs is le taken.1 taken.2;
 }

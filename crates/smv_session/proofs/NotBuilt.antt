@@ -12,7 +12,7 @@ use Rattle.trans_parts.specs.declared.parts.Parts.{Parts}
 use Rattle.smv_session.specs.Source.{most_state_bits}
 use Rattle.smv_session.specs.Relation.{IsNotBuilt}
 use Rattle.smv_session.proofs.BitCounts.{few_bits, told_count}
-use Rattle.smv_session.proofs.Budget.{build_fits}
+use Rattle.diagram_sets.proofs.Budgets.{build_fits}
 
 module _ (m : System) (order : List ℕ) (limit : ℕ) (few : length m.vars ≤ 256) (short : All (λ v. length v.values ≤ 1024) m.vars) (ordered : IsOrder (length m.vars) order) where
   refused : (r : BuildRefusal) → Refuses m order limit r → IsNotBuilt m limit r

@@ -1,11 +1,13 @@
 -- Sets that are ready for the next specification.
 use Rattle.std.proofs.Common.{◌≡◌, ◌∙◌, inl, inr, ℕ, ◌+◌, ◌*◌, ◌^◌, ◌≤◌, [], Result, Some, Err}
-use Rattle.std.proofs.Common.{cond, sym, ap, subst, arith, length}
-use Rattle.std.proofs.lemmas.Bool.{cases_lt, le-leb}
+use Rattle.std.proofs.Common.{sym, ap, subst, arith, length}
+use Rattle.std.proofs.lemmas.Bool.{cases_lt}
+use Rattle.std.proofs.lemmas.Nat.{mul-le}
 use Rattle.std.proofs.lemmas.List.{length-map}
 use Rattle.bdd_nodes.specs.Store.{levels_of, limit_of}
 use Rattle.bdd_nodes.specs.declared.refusal.Held.{Held}
 use Rattle.bit_encode.specs.Code.{bit_count, state_bits, types_of}
+use Rattle.diagram_sets.proofs.Budgets.{once}
 use Rattle.diagram_sets.specs.Kept.{room_in}
 use Rattle.fair_fixpoint.specs.SatSets.{pin_bound}
 use Rattle.fair_rules.specs.FreePart.{constraint_nodes}
@@ -24,7 +26,7 @@ use Rattle.region_sets.proofs.Calls.{let_go, then_call}
 use Rattle.smv_session.specs.Relation.{AreOver, IsReady, trial_pins}
 use Rattle.smv_session.proofs.Budget.{trial_fits}
 use Rattle.smv_texts.specs.Evidence.{IsMet}
-use Rattle.bit_encode.specs.Enough.{enough}
+use Rattle.bit_encode.specs.Enough.{enough, times_enough}
 use Rattle.trans_parts.specs.Budget.{room}
 use Rattle.trans_parts.specs.Parts.{coding_of, model_of, store_of}
 use Rattle.trans_parts.specs.declared.parts.Parts.{Parts}
@@ -32,8 +34,7 @@ use Rattle.trans_parts.specs.declared.parts.Parts.{Parts}
 -- where the limit is enough there is room
 room_there : (m : System) (limit : ℕ) → enough m ≤ limit → room m ≤ room_in m limit
 room_there m limit le =
-    let is : room_in m limit ≡ room m = ap (λ b. cond b (room m) 0) (le-leb (enough m) limit le) in
-    omega (arith, is)
+    omega (arith, mul-le (room m) 1 (room m) (times_enough m limit) (omega arith) (once m limit le))
 
 -- new sets over the relation are ready
 pub ready_new : (m : System) (limit : ℕ) (p : Parts) (s : Sets) → AreOver m limit p

@@ -35,7 +35,7 @@ of_proofs m (Some name) fs saves is = inr (is.0, is.1)
 
 undecided_saves : (job : Job) (m : System) (limit : ℕ) (r : Reply) → Undecides job m limit r → JobSaves job r.saves
 undecided_saves (Decide proofs) m limit r u = of_proofs m proofs _ r.saves u.saves
-undecided_saves (Recheck proofs) m limit r u = u.0.saves
+undecided_saves (Recheck proofs) m limit r u = u.saves
 
 rechecked_saves : (m : System) (limit : ℕ) (bytes : List ℕ) (r : Reply) → Rechecked m limit bytes r → r.saves ≡ None
 rechecked_saves m limit bytes r (inl refused) = refused.saves
@@ -142,7 +142,7 @@ loud m limit fs endings.Usage ends quiet = ends
 
 undecided_quiet : (job : Job) (m : System) (limit : ℕ) (r : Reply) → Undecides job m limit r → IsQuiet r.ending → r.saves ≡ None
 undecided_quiet (Decide proofs) m limit r u quiet = absurd (subst IsQuiet u.ends quiet)
-undecided_quiet (Recheck proofs) m limit r u quiet = u.0.saves
+undecided_quiet (Recheck proofs) m limit r u quiet = u.saves
 
 done_quiet : (job : Job) (m : System) (limit : ℕ) (second : Option (List ℕ)) (r : Reply) → Does job m limit second r → IsQuiet r.ending → r.saves ≡ None
 done_quiet (Decide proofs) m limit second r does quiet = absurd (loud m limit does.findings r.ending does.ends quiet)

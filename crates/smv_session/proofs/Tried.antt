@@ -18,7 +18,6 @@ use Rattle.smv_session.specs.declared.session.Foreseen.TheVariants as foreseen
 use Rattle.smv_texts.specs.Replies.{IsReply}
 use Rattle.smv_texts.specs.declared.reply.Reply.{Reply}
 use Rattle.spec_verdicts.specs.Checked.{Checked, LeavesUnknown}
-use Rattle.bit_encode.specs.Enough.{enough}
 
 pub checked_decides : (m : System) (limit : ℕ) (proofs : Option (List ℕ)) (reply : Reply) → IsFaultless m → IsReply (Checked m limit proofs) reply → IsReply (Decides m limit proofs) reply
 checked_decides m limit proofs reply faultless is = (is.0, is.1, inr (faultless, is.2))
@@ -53,10 +52,10 @@ module _ (w : Work) (contents : Option Contents) (bytes : List ℕ) (m : System)
   )
 
   -- the limit was met before its proofs were looked at
-  pub unanswered_reply : (proofs : List ℕ) → w.job ≡ Recheck proofs → w.limit < enough m
+  pub unanswered_reply : (proofs : List ℕ) → w.job ≡ Recheck proofs
       → IsReply (LeavesUnanswered m w.limit) reply → IsReply (IsModelReply w contents bytes) reply
-  unanswered_reply proofs is below (r, gives, left) =
-      taken_reply (r, gives, inl (subst (λ job. Undecides job m w.limit r) (sym is) (left, below)))
+  unanswered_reply proofs is (r, gives, left) =
+      taken_reply (r, gives, inl (subst (λ job. Undecides job m w.limit r) (sym is) left))
 
   -- its proofs were tested
   pub rechecked_reply : (proofs file : List ℕ) → w.job ≡ Recheck proofs → IsFaultless m → IfSome contents (λ files. bytes_under files proofs ≡ Some file) → IsReply (Rechecked m w.limit file) reply

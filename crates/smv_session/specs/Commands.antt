@@ -6,7 +6,13 @@ use Rattle.command_words.specs.Words.{Work, Decide, Recheck, Print, command_of}
 use Rattle.kripke_model.specs.Faults.{IsFaultless}
 use Rattle.kripke_model.specs.System.{System}
 use Rattle.smv_rings.specs.Rings.{ring_text}
+use Rattle.proof_answers.specs.Answers.{Answer, AreAccepted}
 use Rattle.proof_answers.specs.Rechecked.{Rechecked, LeavesUnanswered}
+use Rattle.proof_answers.specs.Report.{answers_report}
+use Rattle.proof_text.specs.File.{File}
+use Rattle.proof_text.specs.Refuses.{Refuses as RefusesText}
+use Rattle.proof_text.specs.Spells.{Spells}
+use Rattle.proof_text.specs.declared.refusals.TextRefusal.{TextRefusal}
 use Rattle.smv_outside.specs.Contents.{bytes_under}
 use Rattle.smv_texts.specs.Replies.{Reply}
 use Rattle.smv_texts.specs.Report.{Finding, is_unknown, report}
@@ -81,8 +87,18 @@ pub record IsRechecked (s : Session) (m : System) (limit : ℕ) (proofs : List �
 pub record RechecksProofs (s : Session) : Type 0 where
   pub rechecks : IsUndisturbed s → (w : Work) (bytes : List ℕ) (m : System) (proofs : List ℕ)
       → Asks s w bytes → w.job ≡ Recheck proofs → HasModel bytes m → s.status ≢ ModelRefused
-      → ((r : Reply) × LeavesUnanswered m w.limit r × (w.limit < enough m) × Shows s r)
+      → ((r : Reply) × LeavesUnanswered m w.limit r × Shows s r)
       ⊎ IsRechecked s m w.limit proofs
+
+-- Where the limit is enough for each line of a block that proves its claim, the block is accepted.
+pub record AcceptsProved (s : Session) : Type 0 where
+  pub accepts : IsUndisturbed s → (w : Work) (bytes : List ℕ) (m : System) (proofs : List ℕ)
+      → Asks s w bytes → w.job ≡ Recheck proofs → IsAccepted bytes m → enough m ≤ w.limit
+      → (text : List ℕ) × IfSome s.contents (λ files. bytes_under files proofs ≡ Some text)
+      × (((refusal : TextRefusal) × RefusesText m text refusal)
+      ⊎ ((file : File) × Spells m file text × ((answers : List Answer)
+      × Puts s (answers_report file.blocks answers)
+      × AreAccepted m w.limit file.order file.blocks answers)))
 
 -- the statuses of reports in which each specification has a verdict
 abbrev pub IsOfVerdicts : Status → Type 0

@@ -1,12 +1,11 @@
 -- What each job asks, by cases: a new job is a line in each of these.
-use Rattle.std.specs.Prelude.{◌≡◌, ◌<◌, ℕ, List, Option, Some, None, IfSome}
+use Rattle.std.specs.Prelude.{◌≡◌, ℕ, List, Option, Some, None, IfSome}
 use Rattle.command_words.specs.Words.{Job, Decide, Recheck}
 use Rattle.kripke_model.specs.System.{System}
 use Rattle.proof_answers.specs.Rechecked.{Rechecked, LeavesUnanswered}
 use Rattle.smv_outside.specs.Contents.{AreTold, Contents, LeavesOthers, bytes_under}
 use Rattle.smv_texts.specs.Replies.{Reply}
 use Rattle.spec_verdicts.specs.Checked.{Checked, LeavesUnknown}
-use Rattle.bit_encode.specs.Enough.{enough}
 
 -- the specifications whose numbers the job names are formulas without path operators
 abbrev pub NamesLeaves : Job → System → Type 0
@@ -29,7 +28,7 @@ IsSecond (Recheck proofs) contents (Some bytes) =
 -- where the limit is below what is enough
 abbrev pub Undecides : Job → System → ℕ → Reply → Type 0
 Undecides (Decide proofs) m limit r = LeavesUnknown m limit proofs r
-Undecides (Recheck proofs) m limit r = LeavesUnanswered m limit r × (limit < enough m)
+Undecides (Recheck proofs) m limit r = LeavesUnanswered m limit r
 
 -- the reply of the job for a model without faults, and for the bytes of its second file
 abbrev pub Does : Job → System → ℕ → Option (List ℕ) → Reply → Type 0

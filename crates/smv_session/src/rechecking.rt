@@ -1,4 +1,4 @@
-// The blocks of a proof file are tested, each in a store of its own.
+// The blocks of a proof file are tested, one after another over one relation.
 ghost use Rattle.std.specs.Prelude.{◌≡◌, ◌≤◌, ◌<◌, ◌++◌, ◌∷◌, [], ◌^◌, ℕ, IfOk, List, OnOk};
 ghost use Rattle.bit_encode.specs.Code.{state_bits};
 ghost use Rattle.kripke_model.specs.Faults.{IsFaultless};
@@ -7,21 +7,25 @@ ghost use Rattle.proof_answers.specs.Answered.{AreAnswered};
 ghost use Rattle.proof_answers.specs.Rechecked.{Rechecked};
 ghost use Rattle.proof_checker.specs.Answers.{IsAnswerTo};
 ghost use Rattle.proof_checker.specs.Reads.{IsRead};
+ghost use Rattle.proof_checker.specs.Ready.{IsKept};
 ghost use Rattle.proof_text.specs.File.{Block};
 ghost use Rattle.proof_text.specs.Spells.{Spells};
+ghost use Rattle.smv_session.specs.Relation.{AreOver};
 ghost use Rattle.smv_session.specs.Source.{most_state_bits};
 ghost use Rattle.smv_texts.specs.Replies.{IsReply};
 
 use bdd_nodes::Steps;
 use kripke_model::models::Ruled;
 use proof_answers::{Answers, rechecked, refuse_proofs};
-use proof_checker::checking::{Answer, check_block};
+use proof_checker::checking::{Answer, check_next};
+use proof_checker::kept::KeptSets;
 use proof_text::file::{Block, ProofFile};
 use proof_text::reading::read_file;
 use smv_texts::Reply;
 use std::alloc::{AllocError, Global};
 use std::marker::Brand;
 use std::sync::ledger::{Blank, Ledger};
+use trans_parts::Parts;
 
 /// What is found of a block.
 fn test_in_steps<L: Ledger>(
@@ -30,6 +34,7 @@ fn test_in_steps<L: Ledger>(
     limit: u32,
     order: &[u32],
     block: &Block,
+    kept: &mut KeptSets,
     blank: Blank,
 ) -> Result<Answer, AllocError>
     requires name { blank.name ≡ L.name }
@@ -39,10 +44,12 @@ fn test_in_steps<L: Ledger>(
     requires faultless { IsFaultless model.now }
     requires few { state_bits model.now ≤ most_state_bits }
     requires read { IsRead model.now order.now block.now }
-    ensures { IfOk result (IsAnswerTo model.now order.now block.now limit) }
+    requires kept { IsKept model.now order.now limit kept.old }
+    ensures kept { IsKept model.now order.now limit kept.new }
+    ensures answer { IfOk result (IsAnswerTo model.now order.now block.now limit) }
 {
     let mut steps = Steps::<L>::new(blank);
-    check_block(alloc, model, order, block, limit, &mut steps)
+    check_next(alloc, model, order, block, limit, kept, &mut steps)
 }
 
 /// The same, where the steps are not counted.
@@ -52,14 +59,17 @@ fn test(
     limit: u32,
     order: &[u32],
     block: &Block,
+    kept: &mut KeptSets,
 ) -> Result<Answer, AllocError>
     requires limit { limit < 2 ^ 31 }
     requires faultless { IsFaultless model.now }
     requires few { state_bits model.now ≤ most_state_bits }
     requires read { IsRead model.now order.now block.now }
-    ensures { IfOk result (IsAnswerTo model.now order.now block.now limit) }
+    requires kept { IsKept model.now order.now limit kept.old }
+    ensures kept { IsKept model.now order.now limit kept.new }
+    ensures answer { IfOk result (IsAnswerTo model.now order.now block.now limit) }
 {
-    test_in_steps::<Brand>(alloc, model, limit, order, block, Blank::new(1))
+    test_in_steps::<Brand>(alloc, model, limit, order, block, kept, Blank::new(1))
 }
 
 /// Adds what is found of one more block.
@@ -80,17 +90,20 @@ fn test_all(
     alloc: Global,
     model: &Ruled,
     limit: u32,
+    parts: Parts,
     file: &ProofFile,
 ) -> Result<Answers, AllocError>
     requires limit { limit < 2 ^ 31 }
     requires faultless { IsFaultless model.now }
     requires few { state_bits model.now ≤ most_state_bits }
+    requires parts { AreOver model.now limit parts }
     requires spelled { (bytes : List ℕ) × Spells model.now file.now bytes }
     ensures { IfOk result (AreAnswered model.now limit file.now.order file.now.blocks) }
 {
     let mut answers = Answers::new(alloc);
+    let mut kept = KeptSets::over(alloc, model, parts, &file.order);
     for block in file.blocks.iter() {
-        let answer = test(alloc, model, limit, &file.order, block)?;
+        let answer = test(alloc, model, limit, &file.order, block, &mut kept)?;
         add(&mut answers, limit, answer)?;
     }
     Ok(answers)
@@ -101,34 +114,39 @@ fn recheck_file<'a>(
     alloc: Global,
     model: &Ruled,
     limit: u32,
+    parts: Parts,
     file: &ProofFile,
 ) -> Result<Reply<'a>, AllocError>
     requires limit { limit < 2 ^ 31 }
     requires faultless { IsFaultless model.now }
     requires few { state_bits model.now ≤ most_state_bits }
+    requires parts { AreOver model.now limit parts }
     requires spelled { (bytes : List ℕ) × Spells model.now file.now bytes }
     ensures { (bytes : List ℕ) → Spells model.now file.now bytes
         → IfOk result (IsReply (Rechecked model.now limit bytes)) }
 {
-    let answers = test_all(alloc, model, limit, file)?;
+    let answers = test_all(alloc, model, limit, parts, file)?;
     rechecked(alloc, file, answers)
 }
 
-/// The reply to the bytes of a proof file, of a model without faults. Each block is tested in a
-/// store of at most `limit` nodes, which is below 2^31.
+/// The reply to the bytes of a proof file, of a model without faults, whose parts with the variables
+/// in declared order serve a file in this order. The blocks are tested in a store of at most
+/// `limit` nodes, which is below 2^31.
 pub(crate) fn recheck<'a>(
     alloc: Global,
     model: &Ruled,
     limit: u32,
+    parts: Parts,
     bytes: &[u8],
 ) -> Result<Reply<'a>, AllocError>
     requires limit { limit < 2 ^ 31 }
     requires faultless { IsFaultless model.now }
     requires few { state_bits model.now ≤ most_state_bits }
+    requires parts { AreOver model.now limit parts }
     ensures { IfOk result (IsReply (Rechecked model.now limit bytes.now)) }
 {
     match read_file(alloc, model, bytes) {
-        Ok(file) => recheck_file(alloc, model, limit, &file),
+        Ok(file) => recheck_file(alloc, model, limit, parts, &file),
         Err(refusal) => refuse_proofs(alloc, refusal),
     }
 }

@@ -102,17 +102,3 @@ pub(crate) fn held_of(model: &Ruled, limit: u32, refusal: BuildRefusal) -> Resul
         BuildRefusal::Memory => Err(Stop::Memory),
     }
 }
-
-/// Whether no item of the model faults: a full store, where the limit is met before that is known.
-pub(crate) fn find_fault(alloc: Global, model: &Ruled, limit: u32) -> Result<Option<Held>, Stop>
-    requires { limit < 2 ^ 31 }
-    ensures few { OnOk result (state_bits model.now ≤ most_state_bits) }
-    ensures faultless { IfOk result (λ held.
-        MatchOption held (IsFaultless model.now) (IsMet model.now limit)) }
-    ensures stops { IfErr result (Stops model.now) }
-{
-    match relation(alloc, model, limit) {
-        Ok(_) => Ok(None),
-        Err(refusal) => Ok(Some(held_of(model, limit, refusal)?)),
-    }
-}

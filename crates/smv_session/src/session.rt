@@ -1,6 +1,7 @@
 // The program, over any files and any sink.
 ghost use Rattle.std.specs.Prelude.{◌≡◌, IfOk, map, string_bytes};
 ghost use Rattle.command_words.specs.Words.{command_of};
+ghost use Rattle.smv_session.specs.Commands.{AcceptsProved};
 ghost use Rattle.smv_session.specs.Commands.{DecidesAll, ExportsProofs, GeneratesText};
 ghost use Rattle.smv_session.specs.Commands.{RechecksProofs};
 ghost use Rattle.smv_session.specs.Commands.{ReportsVerdicts, ShowsStates};
@@ -66,6 +67,8 @@ pub fn run<F: Files, S: Sink>(alloc: Global, words: &[String], files: &mut F, ou
     ensures rechecked { RechecksProofs (session F.contents F.faults
         S.written S.faults words.now files.old files.new out.old out.new result) }
     ensures enough { DecidesAll (session F.contents F.faults
+        S.written S.faults words.now files.old files.new out.old out.new result) }
+    ensures proved { AcceptsProved (session F.contents F.faults
         S.written S.faults words.now files.old files.new out.old out.new result) }
 {
     one_answer();

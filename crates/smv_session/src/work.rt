@@ -9,7 +9,7 @@ ghost use Rattle.smv_outside.specs.Contents.{Contents};
 ghost use Rattle.smv_session.specs.Answers.{IsModelReply};
 ghost use Rattle.smv_session.specs.Foreseen.{Foresees, ForeseesProofs, ForeseesText, IsForeseenAs};
 ghost use Rattle.smv_session.specs.Foreseen.{RefusesLongProofs};
-ghost use Rattle.smv_session.specs.Relation.{Stops};
+ghost use Rattle.smv_session.specs.Relation.{AreOver, Stops};
 ghost use Rattle.smv_session.specs.Source.{HasRuled, most_state_bits};
 ghost use Rattle.smv_texts.specs.Refusals as too_long;
 ghost use Rattle.smv_texts.specs.Replies.{IsReply};
@@ -17,7 +17,7 @@ ghost use Rattle.smv_texts.specs.Told.{TellsRefusal};
 
 use crate::decision::decide;
 use crate::rechecking::recheck;
-use crate::relation::{Stop, find_fault};
+use crate::relation::{Stop, held_of, relation};
 use crate::session::Foreseen;
 use crate::source::read_model;
 use command_words::{Job, Source, Work};
@@ -28,6 +28,7 @@ use smv_outside::{Files, LoadFault};
 use smv_rings::gen_text;
 use smv_texts::{Fault, Refusal, Reply, refuse, refuse_fault};
 use std::alloc::{AllocError, Global};
+use trans_parts::Parts;
 
 /// The greatest number of bytes of a model's text.
 const MOST_MODEL_BYTES: usize = 1 << 20;
@@ -162,10 +163,12 @@ fn answer_rechecked<'a, F: Files>(
         → IfOk result (ForeseesText (work_asked work.entry) (F.contents files.old) bytes
         (F.faults files.old) (F.faults files.new)) }
 {
-    match find_fault(alloc, model, work.limit) {
-        Ok(None) => answer_proofs(alloc, work.limit, model, proofs, files),
-        Ok(Some(held)) => Ok(Foreseen::Reply(unanswered_model(alloc, work.limit, held)?)),
-        Err(stop) => Ok(Foreseen::Reply(answer_stop(alloc, work, model, stop)?)),
+    match relation(alloc, model, work.limit) {
+        Ok(parts) => answer_proofs(alloc, work.limit, model, parts, proofs, files),
+        Err(refusal) => match held_of(model, work.limit, refusal) {
+            Ok(held) => Ok(Foreseen::Reply(unanswered_model(alloc, work.limit, held)?)),
+            Err(stop) => Ok(Foreseen::Reply(answer_stop(alloc, work, model, stop)?)),
+        },
     }
 }
 
@@ -174,10 +177,12 @@ fn answer_proofs<'a, F: Files>(
     alloc: Global,
     limit: u32,
     model: &Ruled,
+    parts: Parts,
     proofs: &str,
     files: &mut F,
 ) -> Result<Foreseen<'a>, AllocError>
     requires limit { limit < 2 ^ 31 }
+    requires parts { AreOver model.now limit parts }
     requires faultless { IsFaultless model.now }
     requires few { state_bits model.now ≤ most_state_bits }
     ensures contents { F.contents files.new ≡ F.contents files.old }
@@ -186,7 +191,7 @@ fn answer_proofs<'a, F: Files>(
         (F.faults files.old) (F.faults files.new)) }
 {
     match files.load(proofs, MOST_PROOF_BYTES) {
-        Ok(bytes) => Ok(Foreseen::Reply(recheck(alloc, model, limit, &bytes)?)),
+        Ok(bytes) => Ok(Foreseen::Reply(recheck(alloc, model, limit, parts, &bytes)?)),
         Err(fault) => answer_proof_fault(alloc, fault),
     }
 }

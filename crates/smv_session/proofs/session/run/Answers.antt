@@ -101,6 +101,11 @@ returns-in-Ok-clause-enough g c =
     (put (session g.F.Files.contents g.F.Files.faults g.S.Sink.written g.S.Sink.faults c.args.words.now c.args.files.now c.finish.new.files c.args.out.now c.finish.new.out c.finish.result)
     c.in-Ok.foreseen (g.F.Files.contents c.foresee.new.files) (g.F.Files.faults c.foresee.new.files) c.one_answer.ensures c.in-Ok.ensures.contents c.in-Ok.ensures.foreseen c.finish.ensures).enough
 
+pub returns-in-Ok-clause-proved : goal.returns-in-Ok-clause-proved
+returns-in-Ok-clause-proved g c =
+    (put (session g.F.Files.contents g.F.Files.faults g.S.Sink.written g.S.Sink.faults c.args.words.now c.args.files.now c.finish.new.files c.args.out.now c.finish.new.out c.finish.result)
+    c.in-Ok.foreseen (g.F.Files.contents c.foresee.new.files) (g.F.Files.faults c.foresee.new.files) c.one_answer.ensures c.in-Ok.ensures.contents c.in-Ok.ensures.foreseen c.finish.ensures).proved
+
 -- ---- memory ran out
 
 pub returns-in-Err-clause-answer : goal.returns-in-Err-clause-answer
@@ -197,3 +202,8 @@ pub returns-in-Err-clause-enough : goal.returns-in-Err-clause-enough
 returns-in-Err-clause-enough g c =
     (gone (session g.F.Files.contents g.F.Files.faults g.S.Sink.written g.S.Sink.faults c.args.words.now c.args.files.now c.foresee.new.files c.args.out.now c.args.out.now Memory)
     c.one_answer.ensures c.in-Err.ensures.contents c.in-Err.ensures.unsaved refl refl refl).enough
+
+pub returns-in-Err-clause-proved : goal.returns-in-Err-clause-proved
+returns-in-Err-clause-proved g c =
+    (gone (session g.F.Files.contents g.F.Files.faults g.S.Sink.written g.S.Sink.faults c.args.words.now c.args.files.now c.foresee.new.files c.args.out.now c.args.out.now Memory)
+    c.one_answer.ensures c.in-Err.ensures.contents c.in-Err.ensures.unsaved refl refl refl).proved

@@ -1,4 +1,6 @@
-use Rattle.std.proofs.Common.{Err, ap}
+use Rattle.std.proofs.Common.{Err, ap, subst}
+use Rattle.proof_answers.specs.Rechecked.{Rechecked}
+use Rattle.smv_texts.specs.Replies.{IsReply}
 use Rattle.std.proofs.lemmas.Result.{IfOk-weaker}
 use Rattle.smv_session.proofs.Heard.{told_proofs}
 use Rattle.smv_session.proofs.work.answer_proofs.Goals as goal
@@ -10,3 +12,11 @@ returns-in-Err-clause-foreseen g c =
     (λ foreseen told. told_proofs c.args.model.now c.args.limit c.args.proofs.now _ _ _ foreseen c.in-Err.fault load.counts
     (λ taken is. load.too_long taken (ap Err is)) (λ taken is. load.was_there taken (ap Err is)) (λ is. load.not_there (ap Err is)) told)
     c.answer_proof_fault.ensures
+
+pub returns-in_ok-recheck-in-Ok-clause-foreseen : goal.returns-in_ok-recheck-in-Ok-clause-foreseen
+returns-in_ok-recheck-in-Ok-clause-foreseen g c = record {
+  bytes = c.in-Ok.bytes.items;
+  there = c.in-Ok.ensures.loaded;
+  answer = subst (λ bytes. IsReply (Rechecked c.args.model.now c.args.limit bytes) c.in_ok-recheck-in-Ok.field-0) c.deref.ensures.value c.in_ok-recheck-in-Ok.ensures;
+  quiet = c.in-Ok.ensures.counts;
+}

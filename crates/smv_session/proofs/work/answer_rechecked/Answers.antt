@@ -3,7 +3,7 @@ use Rattle.command_words.specs.Asked.{job_asked, work_asked}
 use Rattle.smv_session.proofs.Tried.{proofs_result}
 use Rattle.smv_session.proofs.work.answer_rechecked.Goals as goal
 
-pub returns-in-Ok-None-clause-foreseen : goal.returns-in-Ok-None-clause-foreseen
-returns-in-Ok-None-clause-foreseen g c = λ bytes ruled.
-    let faultless = rw c.in-Ok-None.field-0-is at c.in-Ok-None.ensures.faultless in
-    proofs_result (work_asked c.args.work) _ bytes c.args.model.now c.args.proofs.now _ _ c.answer_proofs.result ruled c.in-Ok-None.ensures.few faultless (ap job_asked c.requires.job) c.answer_proofs.ensures.foreseen
+pub returns-in-Ok-clause-foreseen : goal.returns-in-Ok-clause-foreseen
+returns-in-Ok-clause-foreseen g c = λ bytes ruled.
+    proofs_result (work_asked c.args.work) _ bytes c.args.model.now c.args.proofs.now _ _ c.answer_proofs.result ruled
+    c.in-Ok.ensures.few c.in-Ok.ensures.faultless (ap job_asked c.requires.job) c.answer_proofs.ensures.foreseen
