@@ -4,4 +4,6 @@
 #![tactic(auto)]
 
 #[cfg(test)]
+mod collect_tests;
+#[cfg(test)]
 mod export_tests;
