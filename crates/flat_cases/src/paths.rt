@@ -9,11 +9,11 @@ use crate::refusals::push_refusal;
 use crate::words::{push_gap, push_none, push_number, push_word};
 use case_text::fault::Fault;
 use smv_instances::Instances;
+use smv_names::resolving::Targets;
+use smv_names::tables::{ends_of, numbers_of, sizes_of};
+use smv_names::targets::Target;
+use smv_names::uses::order_of_uses;
 use smv_parser::{Condition, Expr, ExprKind, Path, Program, SectionKind};
-use smv_paths::resolving::Targets;
-use smv_paths::tables::{ends_of, numbers_of, sizes_of};
-use smv_paths::targets::Target;
-use smv_paths::uses::order_of_uses;
 use std::alloc::Global;
 
 /// The expression of the last section of the last module, which is a specification.

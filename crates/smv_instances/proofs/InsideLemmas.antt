@@ -18,7 +18,7 @@ use Rattle.smv_instances.specs.Instances.{Scope, module_of, depth, is_process, c
 use Rattle.smv_instances.specs.Declarations.{body, declaration, entries_of}
 use Rattle.smv_instances.specs.Counting.{IsCounts}
 use Rattle.smv_instances.specs.Tables.{Pairs}
-use Rattle.smv_instances.specs.Walk.{AreRows, IsRow, Reaches, Visited, updated, inside}
+use Rattle.smv_instances.specs.Walk.{AreRows, IsRow, HasWalked, Visited, updated, inside}
 use Rattle.smv_instances.proofs.RowLemmas.{slice_get_left, slice_get_seam}
 use Rattle.smv_instances.proofs.WalkLemmas.{below_or, pairs_weaken, instances_inside, visited_more, updated_get, updated_at, updated_past, take-updated, length-updated, kept_less}
 use Rattle.smv_instances.proofs.FirstSteps.{first_append, first_front}
@@ -63,9 +63,9 @@ front_rest p s i le =
 -- ---- the walk
 
 module _ (ms : Modules) (p : Program) where
-  pub visited_none : (w : Walk) (done : List Scope) → Reaches ms w done done → Visited ms p w w done [] (length done)
+  pub visited_none : (w : Walk) (done : List Scope) → HasWalked ms w done done → Visited ms p w w done [] (length done)
   visited_none w done reaches = record {
-    reaches = subst (λ xs. Reaches ms w xs xs) (sym (append-nil done)) reaches;
+    reaches = subst (λ xs. HasWalked ms w xs xs) (sym (append-nil done)) reaches;
     linked = λ k row s from at_row at_s. absurd (past k s from (ap (λ xs. slice_get xs k) (sym (append-nil done)) ∙ at_s));
     kept = refl;
     silent = λ r h. h;
@@ -95,7 +95,7 @@ module _ (ms : Modules) (p : Program) where
       → Visited ms p old new before (s ∷ added) (length before)
   visited_body old mid after new before added s number f keeps noted numbered same silent went rows processes counts =
       let assoc : (before ++ (s ∷ [])) ++ added ≡ before ++ (s ∷ added) = append_assoc before (s ∷ []) added in
-      let reached : Reaches ms after (before ++ (s ∷ added)) (before ++ (s ∷ added)) = subst (λ xs. Reaches ms after xs xs) assoc went.reaches in
+      let reached : HasWalked ms after (before ++ (s ∷ added)) (before ++ (s ∷ added)) = subst (λ xs. HasWalked ms after xs xs) assoc went.reaches in
       record {
         reaches = record {
           rows = subst (λ rs. AreRows ms rs (before ++ (s ∷ added))) (sym rows) (rows_updated after.rows.items (before ++ (s ∷ added)) number f keeps reached.rows);

@@ -8,7 +8,7 @@ use Rattle.smv_instances.specs.Program.{Program}
 use Rattle.smv_instances.specs.Instances.{Scope, children, instances_from}
 use Rattle.smv_instances.specs.Declarations.{body}
 use Rattle.smv_instances.specs.Tables.{Pairs}
-use Rattle.smv_instances.specs.Walk.{Reaches, Visited, updated, inside}
+use Rattle.smv_instances.specs.Walk.{HasWalked, Visited, updated, inside}
 use Rattle.smv_instances.proofs.FirstSteps.{silent_append}
 use Rattle.smv_instances.proofs.RowLemmas.{slice_get_left}
 
@@ -91,7 +91,7 @@ updated_past (x ∷ xs) (suc n) f (suc k) lt = updated_past xs n f k (omega arit
 module _ (ms : Modules) (p : Program) where
   pub visited_more : (old mid new : Walk) (done added more : List Scope) → Visited ms p old mid done added (length done) → Visited ms p mid new (done ++ added) more (length (done ++ added)) → Visited ms p old new done (added ++ more) (length done)
   visited_more old mid new done added more first second = record {
-    reaches = subst (λ xs. Reaches ms new xs xs) (append_assoc done added more) second.reaches;
+    reaches = subst (λ xs. HasWalked ms new xs xs) (append_assoc done added more) second.reaches;
     linked = λ k row s from at_row at_s. ⊎_elim
         (λ (lt : k < length (done ++ added)).
         let here : slice_get (done ++ added) k ≡ Some s = front_get (done ++ added) more k s lt (ap (λ xs. slice_get xs k) (append_assoc done added more) ∙ at_s) in

@@ -50,7 +50,7 @@ pub record AreRows (ms : Modules) (rows : List Row) (numbering : List Scope) : T
   pub each : (k : ℕ) (row : Row) (s : Scope) → slice_get rows k ≡ Some row → slice_get numbering k ≡ Some s → IsRow ms numbering k row s
 
 -- the walk has come to these instances, and has counted the bodies of some of them
-pub record Reaches (ms : Modules) (w : Walk) (done counted : List Scope) : Type 0 where
+pub record HasWalked (ms : Modules) (w : Walk) (done counted : List Scope) : Type 0 where
   pub rows : AreRows ms w.rows.items done
   pub processes : Pairs (λ n c. slice_get done n ≡ Some c) w.processes.items (filter is_process done)
   pub counts : IsCounts w.counts (entries_of counted)
@@ -68,13 +68,13 @@ updated (x ∷ xs) (suc k) f = x ∷ updated xs k f
 -- one instance more, with this number
 pub record Adds (ms : Modules) (old new : Walk) (done counted : List Scope) (s : Scope) (number : ℕ) : Type 0 where
   pub numbered : number ≡ length done
-  pub reaches : Reaches ms new (done ++ (s ∷ [])) counted
+  pub reaches : HasWalked ms new (done ++ (s ∷ [])) counted
   pub row : Row
   pub kept : new.rows.items ≡ old.rows.items ++ (row ∷ [])
 
 -- the walk went on over these instances, with the rows from this one on
 pub record Visited (ms : Modules) (p : Program) (old new : Walk) (before added : List Scope) (from : ℕ) : Type 0 where
-  pub reaches : Reaches ms new (before ++ added) (before ++ added)
+  pub reaches : HasWalked ms new (before ++ added) (before ++ added)
   pub linked : AreLinked p new.rows.items (before ++ added) from
   pub kept : take from new.rows.items ≡ take from old.rows.items
   pub silent : Silent (First (body p) before added)
@@ -112,7 +112,7 @@ pub record Leads (ms : Modules) (p : Program) (s : Scope) (e : Entry) (number : 
 -- the walk has come to these instances; one that s declares comes next, and may have so many levels inside it
 pub record Enters (ms : Modules) (p : Program) (w : Walk) (done : List Scope) (s : Scope) (m : Module) (around table left : ℕ) : Type 0 where
   pub mods : AreModules ms p
-  pub reaches : Reaches ms w done done
+  pub reaches : HasWalked ms w done done
   pub numbered : slice_get done around ≡ Some s
   pub stands : Stands ms table m
   pub deep : depth s + 1 + left ≡ 32
@@ -120,7 +120,7 @@ pub record Enters (ms : Modules) (p : Program) (w : Walk) (done : List Scope) (s
 -- the walk has come to these instances, s among them; those inside s come next
 pub record Goes (ms : Modules) (p : Program) (w : Walk) (done : List Scope) (s : Scope) (number left : ℕ) : Type 0 where
   pub mods : AreModules ms p
-  pub reaches : Reaches ms w done done
+  pub reaches : HasWalked ms w done done
   pub numbered : slice_get done number ≡ Some s
   pub deep : depth s + left ≡ 32
   pub bottom : left ≡ 0 → children p s ≡ []
@@ -128,7 +128,7 @@ pub record Goes (ms : Modules) (p : Program) (w : Walk) (done : List Scope) (s :
 -- the walk has come to these instances and to s, whose body comes next
 pub record Begins (ms : Modules) (p : Program) (w : Walk) (before : List Scope) (s : Scope) (number left : ℕ) : Type 0 where
   pub mods : AreModules ms p
-  pub reaches : Reaches ms w (before ++ (s ∷ [])) before
+  pub reaches : HasWalked ms w (before ++ (s ∷ [])) before
   pub numbered : number ≡ length before
   pub deep : depth s + left ≡ 32
 

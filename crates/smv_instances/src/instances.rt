@@ -10,7 +10,7 @@ ghost use Rattle.smv_instances.specs.Declarations.{declarations, refused_declara
 ghost use Rattle.smv_instances.specs.Numbered.{IsActual, IsFound, IsProcess, actuals_of, plain_entry, scope_at};
 ghost use Rattle.smv_instances.specs.Answers.{Answers, Refused};
 ghost use Rattle.smv_instances.specs.Tables.{IsTable, Pairs};
-ghost use Rattle.smv_instances.specs.Walk.{AreLinked, AreRows, IsInside, IsStep, Reaches, Starts};
+ghost use Rattle.smv_instances.specs.Walk.{AreLinked, AreRows, IsInside, IsStep, HasWalked, Starts};
 ghost use Rattle.smv_instances.specs.Built.{AreInstances, HasEntry, HasInstance, IsEntryOf};
 
 use crate::constants::{check_constants, symbols_of};
@@ -33,7 +33,7 @@ pub fn walk_of<'p>(
     main: usize,
 ) -> Result<Walk<'p>, FlatRefusal>
     requires { (p : Plain) × Starts modules.now p main }
-    ensures { (p : Plain) → Starts modules.now p main → MatchResult result (λ w. Reaches modules.now w (instances p) (instances p) × AreLinked p w.rows.items (instances p) 0 × Silent (declarations p)) (Refused (declarations p)) }
+    ensures { (p : Plain) → Starts modules.now p main → MatchResult result (λ w. HasWalked modules.now w (instances p) (instances p) × AreLinked p w.rows.items (instances p) 0 × Silent (declarations p)) (Refused (declarations p)) }
 {
     let mut walk = main_alone(alloc, main)?;
     visit_body(alloc, modules, &mut walk, 0, MOST_DEPTH)?;

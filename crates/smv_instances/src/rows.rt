@@ -6,7 +6,7 @@ ghost use Rattle.smv_instances.specs.Plain.{plain_expr};
 ghost use Rattle.smv_instances.specs.Instances.{Scope, depth as depth_of};
 ghost use Rattle.smv_instances.specs.declared.modules.Modules.{Modules as Tables};
 ghost use Rattle.smv_instances.specs.declared.rows.Row.{Row as Rows};
-ghost use Rattle.smv_instances.specs.Walk.{Adds, Reaches, Stands, updated};
+ghost use Rattle.smv_instances.specs.Walk.{Adds, HasWalked, Stands, updated};
 
 use crate::counts::Counts;
 use kripke_model::Name;
@@ -48,7 +48,7 @@ pub struct Walk<'p> {
 
 /// The instance `main` alone, of the module at this place.
 pub fn main_alone<'p>(alloc: Global, table: usize) -> Result<Walk<'p>, AllocError>
-    ensures { (ms : Tables) (m : Source) → Stands ms table m → IfOk result (λ w. Reaches ms w (Scope.Main m ∷ []) []) }
+    ensures { (ms : Tables) (m : Source) → Stands ms table m → IfOk result (λ w. HasWalked ms w (Scope.Main m ∷ []) []) }
 {
     let mut rows = Vec::new(alloc);
     rows.push(Row {
@@ -97,7 +97,7 @@ pub fn push_child<'p>(
     depth: usize,
 ) -> Result<usize, AllocError>
     requires { step.around < length walk.old.rows.items }
-    ensures { (ms : Tables) (done counted : List Scope) (s : Scope) (m : Source) → Reaches ms walk.old done counted → slice_get done step.entry.around ≡ Some s → Stands ms table m → depth ≡ depth_of s + 1 → IfOk result (λ n. Adds ms walk.old walk.new done counted (Scope.Inside s step.entry.name.now step.entry.process (map plain_expr step.entry.actuals.now) m) n) }
+    ensures { (ms : Tables) (done counted : List Scope) (s : Scope) (m : Source) → HasWalked ms walk.old done counted → slice_get done step.entry.around ≡ Some s → Stands ms table m → depth ≡ depth_of s + 1 → IfOk result (λ n. Adds ms walk.old walk.new done counted (Scope.Inside s step.entry.name.now step.entry.process (map plain_expr step.entry.actuals.now) m) n) }
 {
     let number = walk.rows.len();
     let process = enter_process(walk, &step)?;

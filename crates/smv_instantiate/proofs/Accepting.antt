@@ -8,11 +8,11 @@ use Rattle.kripke_model.specs.Size.{node_count, nesting}
 use Rattle.kripke_model.proofs.FirstLemmas.{silent_refuse, silent_then}
 use Rattle.smv_instances.specs.Program.{Expr, Path, Plain, Program}
 use Rattle.smv_instances.specs.Instances.{Scope, main_scope}
-use Rattle.smv_paths.specs.Denotes.{Target, Denotes, Finds}
-use Rattle.smv_paths.specs.Expands.{Expands, Selects, AreIndexes}
+use Rattle.smv_names.specs.Denotes.{Target, Denotes, Finds}
+use Rattle.smv_names.specs.Expands.{Expands, Selects, AreIndexes}
 use Rattle.smv_instantiate.specs.Flattens.{Placed, all_items}
 use Rattle.smv_instantiate.specs.Refuses.{Refuses, AreTerms}
-use Rattle.smv_paths.proofs.Once.{expands_one}
+use Rattle.smv_names.proofs.Once.{expands_one}
 use Rattle.smv_instantiate.proofs.OneAnswer.{matches_one}
 use Rattle.smv_instantiate.proofs.Samples.{accepted, name_x}
 

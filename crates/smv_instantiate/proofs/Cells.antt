@@ -9,8 +9,8 @@ use Rattle.kripke_model.specs.Term.{Term}
 use Rattle.kripke_model.specs.System.{System}
 use Rattle.smv_instances.specs.Program.{Path, Plain}
 use Rattle.smv_instances.specs.Instances.{Scope, instances}
-use Rattle.smv_paths.specs.Denotes.{Target, Denotes, Finds}
-use Rattle.smv_paths.specs.Expands.{Expands, Selects, AreIndexes}
+use Rattle.smv_names.specs.Denotes.{Target, Denotes, Finds}
+use Rattle.smv_names.specs.Expands.{Expands, Selects, AreIndexes}
 use Rattle.smv_instantiate.specs.Flattens.{Flattens}
 use Rattle.smv_instantiate.proofs.Samples.{cells, name_p, name_q, name_v, name_main, name_other}
 

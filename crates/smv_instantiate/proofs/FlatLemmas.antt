@@ -8,7 +8,7 @@ use Rattle.kripke_model.specs.Refusing.{Silent}
 use Rattle.kripke_model.specs.Term.{Term}
 use Rattle.kripke_model.specs.Names.{IsAtom, IsVariableName, IsProcessName}
 use Rattle.kripke_model.specs.System.{System, Variable, Assignment, Condition}
-use Rattle.smv_paths.specs.Expands.{Expands}
+use Rattle.smv_names.specs.Expands.{Expands}
 use Rattle.kripke_model.specs.Flat.{IsSound, AreDistinct, expressions, IsWithinLimits, IsWellTyped, HasNumbers, HasSelector, plain_variables, IsFlat}
 use Rattle.kripke_model.specs.Size.{nesting}
 use Rattle.smv_instances.specs.Program.{Name, Kind, Assigned, Section, Program}

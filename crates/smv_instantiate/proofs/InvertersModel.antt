@@ -10,8 +10,8 @@ use Rattle.kripke_model.specs.Term.{Term}
 use Rattle.kripke_model.specs.System.{System}
 use Rattle.smv_instances.specs.Program.{Name, Expr, Path, Plain, Form, Kind, Section, Program}
 use Rattle.smv_instances.specs.Instances.{Scope, instances}
-use Rattle.smv_paths.specs.Denotes.{Denotes, Finds}
-use Rattle.smv_paths.specs.Expands.{Expands, Selects, AreIndexes}
+use Rattle.smv_names.specs.Denotes.{Denotes, Finds}
+use Rattle.smv_names.specs.Expands.{Expands, Selects, AreIndexes}
 use Rattle.smv_instantiate.specs.Flattens.{Flattens}
 
 -- the k-th of a list of instances

@@ -5,8 +5,8 @@ use Rattle.std.proofs.lemmas.List.{length-map}
 use Rattle.kripke_model.specs.Refusing.{Silent, First, first_of}
 use Rattle.kripke_model.proofs.FirstLemmas.{silent_then}
 use Rattle.kripke_model.specs.System.{Variable}
-use Rattle.smv_paths.specs.declared.paths.Paths.{Paths}
-use Rattle.smv_paths.specs.Paths.{ArePaths}
+use Rattle.smv_names.specs.declared.paths.Paths.{Paths}
+use Rattle.smv_names.specs.Paths.{ArePaths}
 use Rattle.smv_instances.specs.declared.instances.Instances.{Instances}
 use Rattle.kripke_model.specs.declared.refusals.FlatRefusal.{FlatRefusal}
 use Rattle.smv_instances.specs.declared.rows.Row.{Row}
@@ -17,10 +17,10 @@ use Rattle.smv_instances.specs.Instances.{all_entries, instances, is_process, pr
 use Rattle.smv_instances.specs.Program.{Name, Program}
 use Rattle.smv_instances.specs.Walk.{AreRows, AreLinked}
 use Rattle.smv_instances.proofs.TableLemmas.{length_pairs}
-use Rattle.smv_paths.specs.Abbreviations.{definition}
+use Rattle.smv_names.specs.Abbreviations.{definition}
 use Rattle.smv_instantiate.specs.Bodies.{AreBodies}
 use Rattle.smv_instantiate.specs.Flattens.{Placed, all_items, section_items}
-use Rattle.smv_instantiate.specs.Passes.{AreTables, IsExpandable, IsReady}
+use Rattle.smv_instantiate.specs.Passes.{AreTables, IsExpandable, HasTerm}
 use Rattle.smv_instantiate.specs.Refuses.{Refuses, expression, item}
 use Rattle.smv_instantiate.specs.Written.{IsWritten, IsWrittenExpr, IsWrittenSection}
 use Rattle.smv_instantiate.proofs.Members.{In, all_from, all_in, in_flat_back, in_map_back}
@@ -58,8 +58,8 @@ item_written p silent written x i =
     let same : x.1 ≡ c.0 = ap (λ (y : Placed). y.1) c.2 in
     subst (λ y. IsWrittenExpr (expression y)) (sym same) (item_in_section d.0 (all_in IsWrittenSection (module_of b.0).sections (module_written p (kept p silent written) b.0 b.1).sections d.1) c.0 d.2)
 
-pub all_expandable : (p : Program) → Silent (refused_declarations p) → IsWritten p → All (IsReady p) (all_items p) → All (IsExpandable p) (all_items p)
-all_expandable p silent written all = all_from (IsExpandable p) (all_items p) (λ x i. record { ready = all_in (IsReady p) (all_items p) all i; written = item_written p silent written x i })
+pub all_expandable : (p : Program) → Silent (refused_declarations p) → IsWritten p → All (HasTerm p) (all_items p) → All (IsExpandable p) (all_items p)
+all_expandable p silent written all = all_from (IsExpandable p) (all_items p) (λ x i. record { ready = all_in (HasTerm p) (all_items p) all i; written = item_written p silent written x i })
 
 -- ---- the passes
 

@@ -8,8 +8,8 @@ use Rattle.smv_instances.specs.Entries.{Entity, Entry, entries}
 use Rattle.smv_instantiate.specs.Flattens.{Item, Placed, Matches, IsAssignment, IsCondition, Flattens, assignments, items_of}
 use Rattle.smv_instances.specs.Declarations.{nothing, entries_of, declaration_rows, refused_declarations}
 use Rattle.smv_instantiate.specs.Refuses.{Refuses, size_rows, count_rows, item_rows}
-use Rattle.smv_paths.specs.Abbreviations.{Mention, mentions, index_mentions, path_rows, definition_rows}
-use Rattle.smv_paths.proofs.Once.{expands_one, selects_one}
+use Rattle.smv_names.specs.Abbreviations.{Mention, mentions, index_mentions, path_rows, definition_rows}
+use Rattle.smv_names.proofs.Once.{expands_one, selects_one}
 
 -- ---- refusals
 

@@ -5,7 +5,7 @@ use Rattle.std.proofs.lemmas.List.Elements.{filter-append}
 use Rattle.kripke_model.specs.System.{Assignment, Condition}
 use Rattle.smv_instances.specs.Instances.{Scope}
 use Rattle.smv_instances.specs.Program.{Assigned, Kind, Stated, Program}
-use Rattle.smv_instantiate.specs.declared.parts.Parts.{Parts}
+use Rattle.smv_instantiate.specs.declared.parts.FlatParts.{FlatParts}
 use Rattle.smv_instantiate.specs.Flattens.{Item, Placed, Matches, IsAssignment, IsCondition, is_assignment, is_of, same_kind}
 use Rattle.smv_instantiate.specs.Parts.{AreParts}
 use Rattle.smv_instantiate.proofs.SizeLemmas.{matched_append}
@@ -20,7 +20,7 @@ module _ {A B : Type 0} (R : A → B → Type 0) (f : A → Bool) (items : List 
   matched_still ys zs is m e = subst (λ us. Matches R (filter f (items ++ (x ∷ []))) us) (sym e)
       (subst (λ us. Matches R us ys) (sym (filter-append f items (x ∷ []) ∙ ap (λ b. filter f items ++ cond b (x ∷ []) []) is ∙ append-nil (filter f items))) m)
 
-module _ (p : Program) (items : List Placed) (s : Scope) (old new : Parts) (are : AreParts p items old) where
+module _ (p : Program) (items : List Placed) (s : Scope) (old new : FlatParts) (are : AreParts p items old) where
   pub assignment_added : (a : Assigned) (b : Assignment) → IsAssignment p (s, Item.Assigns a) b → new.assigns.items ≡ old.assigns.items ++ (b ∷ [])
       → new.inits.items ≡ old.inits.items → new.invars.items ≡ old.invars.items → new.trans.items ≡ old.trans.items → new.constraints.items ≡ old.constraints.items → new.specs.items ≡ old.specs.items
       → AreParts p (items ++ ((s, Item.Assigns a) ∷ [])) new

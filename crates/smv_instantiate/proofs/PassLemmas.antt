@@ -13,16 +13,16 @@ use Rattle.smv_instances.specs.Declarations.{one_if}
 use Rattle.smv_instances.specs.Instances.{Scope, instances}
 use Rattle.smv_instances.specs.Numbered.{scope_at}
 use Rattle.smv_instances.specs.Program.{Kind, Stated, Program}
-use Rattle.smv_paths.specs.Abbreviations.{mentions, path_rows}
-use Rattle.smv_paths.specs.Sound.{IsSound, AreSound}
-use Rattle.smv_paths.proofs.AnyLemmas.{all_right}
-use Rattle.smv_paths.specs.Expands.{Expands}
-use Rattle.smv_paths.proofs.Once.{expands_one}
+use Rattle.smv_names.specs.Abbreviations.{mentions, path_rows}
+use Rattle.smv_names.specs.Sound.{IsSound, AreSound}
+use Rattle.smv_names.proofs.AnyLemmas.{all_right}
+use Rattle.smv_names.specs.Expands.{Expands}
+use Rattle.smv_names.proofs.Once.{expands_one}
 use Rattle.smv_instantiate.specs.declared.totals.Totals.{Totals}
 use Rattle.smv_instantiate.specs.Flattens.{Item, Placed, is_of}
 use Rattle.smv_instantiate.specs.Items.{item_mentions, left_mentions}
 use Rattle.smv_instantiate.specs.Refuses.{AreTerms, count_of, count_rows, expression, item, item_line, size_rows}
-use Rattle.smv_instantiate.specs.Passes.{AddsSize, AreCounts, Counts, CountsItem, HasLeft, IsPassed, IsReady, PassesItem, own_rows}
+use Rattle.smv_instantiate.specs.Passes.{AddsSize, AreCounts, Counts, CountsItem, HasLeft, IsPassed, HasTerm, PassesItem, own_rows}
 use Rattle.smv_instantiate.proofs.Members.{each_of_all, all_of_each, each_append}
 use Rattle.smv_instantiate.proofs.CountLemmas.{total, sum_is_total, total-append}
 use Rattle.smv_instantiate.proofs.OneAnswer.{matches_one}
@@ -127,7 +127,7 @@ module _ (p : Program) (before : List Placed) (s : Scope) (i : Item) (old : Tota
           are = terms_more;
           nodes = omega (arith, same, nodes_more);
           few_nodes = h.1;
-          ready = all_of_each (IsReady p) (before ++ ((s, i) ∷ [])) (each_append (IsReady p) before ((s, i) ∷ []) (each_of_all (IsReady p) before passed.ready) (record { left = left; term = t; expands = expands; deep = h.2 }, tt));
+          ready = all_of_each (HasTerm p) (before ++ ((s, i) ∷ [])) (each_append (HasTerm p) before ((s, i) ∷ []) (each_of_all (HasTerm p) before passed.ready) (record { left = left; term = t; expands = expands; deep = h.2 }, tt));
         }),
         item_silent p before s i first second (sizes_silent few h.2),
       )
@@ -153,7 +153,7 @@ nothing_passed p totals counts none = record {
   are = tt;
   nodes = none;
   few_nodes = omega (arith, none);
-  ready = all_of_each (IsReady p) [] tt;
+  ready = all_of_each (HasTerm p) [] tt;
 }
 
 pub scope_there : (p : Program) (n : ℕ) → n < length (instances p) → (s : Scope) × (scope_at p n ≡ Some s)

@@ -9,7 +9,7 @@ use Rattle.smv_instances.specs.Instances.{Scope, instances, module_of}
 use Rattle.smv_instances.specs.Program.{Module, Program}
 use Rattle.smv_instances.proofs.FirstSteps.{first_append, first_front, silent_append, silent_one}
 use Rattle.smv_instances.proofs.ListSteps.{take_map, split_map, take_whole}
-use Rattle.smv_paths.proofs.WrittenLemmas.{split_at}
+use Rattle.smv_names.proofs.WrittenLemmas.{split_at}
 use Rattle.smv_instantiate.specs.declared.items.Item.{Item as Held}
 use Rattle.smv_instantiate.specs.declared.totals.Totals.{Totals}
 use Rattle.smv_instantiate.specs.Flattens.{Placed, all_items, section_items}

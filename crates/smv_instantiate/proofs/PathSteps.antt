@@ -13,20 +13,20 @@ use Rattle.smv_instances.specs.Plain.{plain_expr, plain_type}
 use Rattle.smv_instances.specs.Program.{Name, Expr, Path, Plain, Program}
 use Rattle.smv_instances.specs.Instances.{Scope, instances, all_entries, indexed, spelled, place_of, variable_names, symbols}
 use Rattle.smv_instances.specs.Numbered.{scope_at}
-use Rattle.smv_paths.specs.declared.targets.Bracket.{Bracket as Held_bracket}
-use Rattle.smv_paths.specs.declared.targets.Target.{Target as Code}
-use Rattle.smv_paths.specs.declared.targets.Target.TheVariants as held
-use Rattle.smv_paths.specs.declared.tables.End.{End}
-use Rattle.smv_paths.specs.Abbreviations.{Abbreviation}
-use Rattle.smv_paths.specs.Denotes.{Bracket, Target, Denotes, bare}
-use Rattle.smv_paths.specs.Expands.{is_array, element_name, Expands, Selects, AreIndexes}
-use Rattle.smv_paths.specs.Ends.{IsEndOf, AreEnds}
-use Rattle.smv_paths.specs.Nodes.{abbreviation_at}
-use Rattle.smv_paths.specs.Sound.{AreDefined}
-use Rattle.smv_paths.specs.Targets.{AreBrackets, IsText, IsTarget, Resolves}
+use Rattle.smv_names.specs.declared.targets.Bracket.{Bracket as Held_bracket}
+use Rattle.smv_names.specs.declared.targets.Target.{Target as Code}
+use Rattle.smv_names.specs.declared.targets.Target.TheVariants as held
+use Rattle.smv_names.specs.declared.tables.End.{End}
+use Rattle.smv_names.specs.Abbreviations.{Abbreviation}
+use Rattle.smv_names.specs.Denotes.{Bracket, Target, Denotes, bare}
+use Rattle.smv_names.specs.Expands.{is_array, element_name, Expands, Selects, AreIndexes}
+use Rattle.smv_names.specs.Ends.{IsEndOf, AreEnds}
+use Rattle.smv_names.specs.Nodes.{abbreviation_at}
+use Rattle.smv_names.specs.Sound.{AreDefined}
+use Rattle.smv_names.specs.Targets.{AreBrackets, IsText, IsTarget, Resolves}
 use Rattle.smv_instances.proofs.ListSteps.{take_map}
-use Rattle.smv_paths.proofs.NamedLemmas.{reading_expands, to_bare}
-use Rattle.smv_paths.proofs.Once.{denotes_one}
+use Rattle.smv_names.proofs.NamedLemmas.{reading_expands, to_bare}
+use Rattle.smv_names.proofs.Once.{denotes_one}
 use Rattle.smv_instantiate.specs.Expansion.{IsSelected, DenotesNoText, IsWrittenAt, EndsPath, IsNodeOf}
 use Rattle.smv_instantiate.proofs.Members.{In, not_some}
 use Rattle.smv_instantiate.proofs.NameLemmas.{names_same}

@@ -13,12 +13,12 @@ use Rattle.kripke_model.specs.declared.refusals.FlatRefusal.{FlatRefusal}
 use Rattle.smv_instances.specs.Program.{Name, Expr, Path, Plain, Program}
 use Rattle.smv_instances.specs.Entries.{Entry}
 use Rattle.smv_instances.specs.Instances.{Scope, is_symbol, main_scope, all_entries}
-use Rattle.smv_paths.specs.Denotes.{Target, Denotes, Finds, meaning, Meaning}
-use Rattle.smv_paths.specs.Expands.{HasValue, Expands, Selects, IsIndex}
+use Rattle.smv_names.specs.Denotes.{Target, Denotes, Finds, meaning, Meaning}
+use Rattle.smv_names.specs.Expands.{HasValue, Expands, Selects, IsIndex}
 use Rattle.smv_instances.specs.Declarations.{second_module, no_main, declarations, named_constant}
 use Rattle.smv_instantiate.specs.Flattens.{all_items}
 use Rattle.smv_instantiate.specs.Refuses.{Refuses, item}
-use Rattle.smv_paths.specs.Abbreviations.{definition, Abbreviation, Leads, Uses, Names, text_of, fronts, mentions, Mention}
+use Rattle.smv_names.specs.Abbreviations.{definition, Abbreviation, Leads, Uses, Names, text_of, fronts, mentions, Mention}
 use Rattle.smv_instantiate.proofs.Samples.{declared_twice, unknown, contains_itself, one_argument_more, outside, reversed, assigned_definition, circular, constant_name, empty, too_many_variables, too_many_values, second_main, name_x, name_d, name_a}
 
 -- ---- silence

@@ -12,7 +12,7 @@ use Rattle.kripke_model.specs.declared.refusals.Which.{Which}
 use Rattle.smv_instances.specs.Program.{Expr, Kind, Assigned, Program}
 use Rattle.smv_instances.specs.Instances.{Scope}
 use Rattle.smv_instances.specs.Declarations.{one_if}
-use Rattle.smv_paths.specs.Expands.{Expands}
+use Rattle.smv_names.specs.Expands.{Expands}
 use Rattle.smv_instantiate.specs.Flattens.{Item, Placed, all_items, is_assignment, is_of, Matches, IsAssignment, IsCondition, Flattens}
 use Rattle.smv_instantiate.specs.Refuses.{expression, item_line, count_of, AreTerms, size_rows, item}
 use Rattle.smv_instantiate.proofs.Members.{Each, In}

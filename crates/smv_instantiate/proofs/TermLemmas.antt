@@ -9,17 +9,17 @@ use Rattle.smv_instances.specs.Program.{Expr, Path, Program}
 use Rattle.smv_instances.specs.Entries.{Entity, Entry, entries, entity_in}
 use Rattle.smv_instances.specs.Instances.{Scope, module_of, instances, all_entries, rising}
 use Rattle.smv_instances.specs.Declarations.{refused_declarations}
-use Rattle.smv_paths.specs.Denotes.{Meaning, Target, meaning}
-use Rattle.smv_paths.specs.Expands.{Expands}
-use Rattle.smv_paths.specs.Abbreviations.{Mention, mentions, Abbreviation, text_of, fronts, Names, Uses, Leads, IsCircular}
-use Rattle.smv_paths.specs.Naming.{InFronts, NamedIn}
-use Rattle.smv_paths.specs.Nodes.{abbreviation_at, placed_entries}
-use Rattle.smv_paths.specs.Sound.{AreSound, AreDefined}
-use Rattle.smv_paths.proofs.AnyLemmas.{no_any, any_case}
-use Rattle.smv_paths.proofs.NamedLemmas.{IsText, text_means, bare_means, IsBare}
-use Rattle.smv_paths.proofs.GroundLemmas.{IsGrounded}
-use Rattle.smv_paths.proofs.ExistLemmas.{IsGood, AllGood, term_exists}
-use Rattle.smv_paths.proofs.DefinedLemmas.{AreNumbered, grounded_good}
+use Rattle.smv_names.specs.Denotes.{Meaning, Target, meaning}
+use Rattle.smv_names.specs.Expands.{Expands}
+use Rattle.smv_names.specs.Abbreviations.{Mention, mentions, Abbreviation, text_of, fronts, Names, Uses, Leads, IsCircular}
+use Rattle.smv_names.specs.Naming.{InFronts, NamedIn}
+use Rattle.smv_names.specs.Nodes.{abbreviation_at, placed_entries}
+use Rattle.smv_names.specs.Sound.{AreSound, AreDefined}
+use Rattle.smv_names.proofs.AnyLemmas.{no_any, any_case}
+use Rattle.smv_names.proofs.NamedLemmas.{IsText, text_means, bare_means, IsBare}
+use Rattle.smv_names.proofs.GroundLemmas.{IsGrounded}
+use Rattle.smv_names.proofs.ExistLemmas.{IsGood, AllGood, term_exists}
+use Rattle.smv_names.proofs.DefinedLemmas.{AreNumbered, grounded_good}
 use Rattle.smv_instantiate.specs.Written.{IsWritten}
 use Rattle.smv_instantiate.proofs.Members.{some_same, not_some, In, Distinct, find_in, in_flat, in_flat_back, in_map, in_map_back}
 use Rattle.smv_instantiate.proofs.NameLemmas.{names_same, rising_has}

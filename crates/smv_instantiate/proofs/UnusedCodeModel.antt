@@ -8,8 +8,8 @@ use Rattle.kripke_model.specs.Term.{Term, Terms}
 use Rattle.kripke_model.specs.System.{System}
 use Rattle.smv_instances.specs.Program.{Name, Expr, Exprs, Path, Constant, Plain, Form, Kind, Section, Program}
 use Rattle.smv_instances.specs.Instances.{Scope, instances}
-use Rattle.smv_paths.specs.Denotes.{Denotes, Finds}
-use Rattle.smv_paths.specs.Expands.{Expands, ExpandElements, Selects, AreIndexes}
+use Rattle.smv_names.specs.Denotes.{Denotes, Finds}
+use Rattle.smv_names.specs.Expands.{Expands, ExpandElements, Selects, AreIndexes}
 use Rattle.smv_instantiate.specs.Flattens.{Flattens}
 
 -- the k-th of a list of instances

@@ -3,7 +3,7 @@ use Rattle.std.specs.Prelude.{◌≡◌, Bool, true, false, List, [], ◌∷◌,
 use Rattle.kripke_model.specs.System.{System, Assignment, Condition}
 use Rattle.smv_instances.specs.Program.{Assigned, Kind, Stated, Section, Program}
 use Rattle.smv_instances.specs.Instances.{Scope, module_of, instances, processes, process_name, place_of, symbols, variables, has_selector}
-use Rattle.smv_paths.specs.Expands.{Expands, Selects}
+use Rattle.smv_names.specs.Expands.{Expands, Selects}
 
 -- ---- items
 

@@ -6,7 +6,7 @@ use Rattle.smv_parser.specs.ProgramView as programs
 use Rattle.smv_parser.specs.View.{tree_of}
 use Rattle.smv_instances.specs.Abstract as plain
 use Rattle.smv_instances.specs.Program.{Assigned, Kind, Path}
-use Rattle.smv_paths.specs.Abbreviations.{Mention, mentions, index_mentions}
+use Rattle.smv_names.specs.Abbreviations.{Mention, mentions, index_mentions}
 use Rattle.smv_instantiate.specs.declared.items.Item.{Item as Held}
 use Rattle.smv_instantiate.specs.declared.items.Item.TheVariants as held
 use Rattle.smv_instantiate.specs.Flattens.{Item}

@@ -1,11 +1,11 @@
 -- The items of the flat model, by their kinds.
 use Rattle.std.specs.Prelude.{List, filter}
 use Rattle.smv_instances.specs.Program.{Kind, Program}
-use Rattle.smv_instantiate.specs.declared.parts.Parts.{Parts}
+use Rattle.smv_instantiate.specs.declared.parts.FlatParts.{FlatParts}
 use Rattle.smv_instantiate.specs.Flattens.{Placed, Matches, IsAssignment, IsCondition, is_assignment, is_of}
 
 -- they are those of these items, in order
-pub record AreParts (p : Program) (items : List Placed) (parts : Parts) : Type 0 where
+pub record AreParts (p : Program) (items : List Placed) (parts : FlatParts) : Type 0 where
   pub assigns : Matches (IsAssignment p) (filter (λ i. is_assignment i.1) items) parts.assigns.items
   pub inits : Matches (IsCondition p) (filter (λ i. is_of Kind.Init i.1) items) parts.inits.items
   pub invars : Matches (IsCondition p) (filter (λ i. is_of Kind.Invar i.1) items) parts.invars.items

@@ -12,8 +12,8 @@ use Rattle.smv_instances.specs.Declarations.{Refusal}
 use Rattle.smv_instances.specs.Instances.{Scope}
 use Rattle.smv_instances.specs.Numbered.{scope_at}
 use Rattle.smv_instances.specs.Program.{Kind, Name, Path, Program}
-use Rattle.smv_paths.specs.declared.paths.Paths.{Paths}
-use Rattle.smv_paths.specs.Expands.{Expands, Selects}
+use Rattle.smv_names.specs.declared.paths.Paths.{Paths}
+use Rattle.smv_names.specs.Expands.{Expands, Selects}
 use Rattle.smv_instantiate.specs.declared.items.Item.{Item as Held}
 use Rattle.smv_instantiate.specs.declared.totals.Totals.{Totals}
 use Rattle.smv_instantiate.specs.Flattens.{Item, Placed}
@@ -51,7 +51,7 @@ HasLeft p s (Item.Assigns a) = (x : ℕ) × Selects p s a.left x
 HasLeft p s (Item.States c) = Unit {0}
 
 -- it can be expanded
-pub record IsReady (p : Program) (i : Placed) : Type 0 where
+pub record HasTerm (p : Program) (i : Placed) : Type 0 where
   pub left : HasLeft p i.0 i.1
   pub term : Term
   pub expands : Expands p i.0 (expression i.1) term
@@ -59,7 +59,7 @@ pub record IsReady (p : Program) (i : Placed) : Type 0 where
 
 -- it is written, so that it is expanded
 pub record IsExpandable (p : Program) (i : Placed) : Type 0 where
-  pub ready : IsReady p i
+  pub ready : HasTerm p i
   pub written : IsWrittenExpr (expression i.1)
 
 -- ---- all items so far
@@ -77,7 +77,7 @@ pub record IsPassed (p : Program) (items : List Placed) (totals : Totals) : Type
   pub are : AreTerms p items terms
   pub nodes : totals.nodes ≡ sum_by node_count terms
   pub few_nodes : totals.nodes ≤ 200000
-  pub ready : All (IsReady p) items
+  pub ready : All (HasTerm p) items
 
 -- ---- answers
 

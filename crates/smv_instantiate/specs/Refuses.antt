@@ -7,10 +7,10 @@ use Rattle.kripke_model.specs.declared.refusals.Which.{Which}
 use Rattle.kripke_model.specs.declared.refusals.FlatRefusal.{FlatRefusal}
 use Rattle.smv_instances.specs.Program.{Expr, Program, Kind, Stated}
 use Rattle.smv_instances.specs.Instances.{Scope, all_entries}
-use Rattle.smv_paths.specs.Expands.{Expands, Selects}
+use Rattle.smv_names.specs.Expands.{Expands, Selects}
 use Rattle.smv_instantiate.specs.Flattens.{Item, Placed, all_items, is_of, Matches}
 use Rattle.smv_instances.specs.Declarations.{Refusal, one_if, nothing, above, refused_declarations}
-use Rattle.smv_paths.specs.Abbreviations.{mentions, index_mentions, path_rows, definition}
+use Rattle.smv_names.specs.Abbreviations.{mentions, index_mentions, path_rows, definition}
 
 -- ---- items
 

@@ -6,10 +6,10 @@ ghost use Rattle.smv_instances.specs.Program.{Program as Plain};
 ghost use Rattle.smv_instances.specs.Instances.{Scope};
 ghost use Rattle.smv_instances.specs.Numbered.{scope_at};
 ghost use Rattle.smv_instances.specs.Answers.{Refused};
-ghost use Rattle.smv_paths.specs.Abbreviations.{path_rows};
-ghost use Rattle.smv_paths.specs.Expands.{Selects};
-ghost use Rattle.smv_paths.specs.Sound.{AreSound};
-ghost use Rattle.smv_paths.specs.Written.{plain_path};
+ghost use Rattle.smv_names.specs.Abbreviations.{path_rows};
+ghost use Rattle.smv_names.specs.Expands.{Selects};
+ghost use Rattle.smv_names.specs.Sound.{AreSound};
+ghost use Rattle.smv_names.specs.Written.{plain_path};
 ghost use Rattle.smv_instantiate.specs.Flattens.{Placed};
 ghost use Rattle.smv_instantiate.specs.Items.{item_mentions, plain_item};
 ghost use Rattle.smv_instantiate.specs.Passes.{AreCounts, AreTables, CountsItem, HasTables, IsPassed, PassesItem, left_row};
@@ -20,10 +20,10 @@ use crate::names::VariableNames;
 use crate::totals::{Totals, add_size, count_condition};
 use kripke_model::refusals::FlatRefusal;
 use smv_instances::Instances;
+use smv_names::Paths;
+use smv_names::checks::check_paths;
+use smv_names::measures::size;
 use smv_parser::Left;
-use smv_paths::Paths;
-use smv_paths::checks::check_paths;
-use smv_paths::measures::size;
 use std::alloc::Global;
 
 /// Refuses an item for its paths.

@@ -9,12 +9,12 @@ ghost use Rattle.smv_instances.specs.Program.{Expr as Body, Path as Written, Pro
 ghost use Rattle.smv_instances.specs.Plain.{plain_expr, plain_type};
 ghost use Rattle.smv_instances.specs.Instances.{Scope, all_entries, truth_value as value_of_truth};
 ghost use Rattle.smv_instances.specs.Numbered.{scope_at};
-ghost use Rattle.smv_paths.specs.Expands.{Expands, element_name, is_array as is_array_type};
-ghost use Rattle.smv_paths.specs.Ends.{AreEnds};
-ghost use Rattle.smv_paths.specs.Paths.{ArePaths};
-ghost use Rattle.smv_paths.specs.Sound.{AreDefined};
-ghost use Rattle.smv_paths.specs.Targets.{Resolves};
-ghost use Rattle.smv_paths.specs.Written.{plain_path};
+ghost use Rattle.smv_names.specs.Expands.{Expands, element_name, is_array as is_array_type};
+ghost use Rattle.smv_names.specs.Ends.{AreEnds};
+ghost use Rattle.smv_names.specs.Paths.{ArePaths};
+ghost use Rattle.smv_names.specs.Sound.{AreDefined};
+ghost use Rattle.smv_names.specs.Targets.{Resolves};
+ghost use Rattle.smv_names.specs.Written.{plain_path};
 ghost use Rattle.smv_instantiate.specs.Expansion.{ArmsStandFor, CanExpand, DenotesNoText, ElementsStandFor, EndsPath, IsNode, IsNodeOf, IsSelected, StandsFor, plain_arms, plain_exprs};
 ghost use Rattle.smv_instantiate.specs.Written.{IsWrittenExpr};
 
@@ -25,11 +25,11 @@ use crate::types::{indexed_name, number_value};
 use kripke_model::Name;
 use kripke_model::expressions::{Arm as FlatArm, Expr as FlatExpr, Value};
 use smv_instances::Instances;
+use smv_names::checks::index_values;
+use smv_names::tables::End;
+use smv_names::walk::{bare_of, path_of};
+use smv_names::{Paths, Target};
 use smv_parser::{Arm, Expr, ExprKind, Path, Plain as Type, PlainKind};
-use smv_paths::checks::index_values;
-use smv_paths::tables::End;
-use smv_paths::walk::{bare_of, path_of};
-use smv_paths::{Paths, Target};
 use std::alloc::{AllocError, Global};
 
 // ---- variables

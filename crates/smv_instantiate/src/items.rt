@@ -2,15 +2,15 @@
 
 ghost use Rattle.std.specs.Prelude.{◌≡◌, ◌++◌, map, flat_map, IfOk};
 ghost use Rattle.smv_instances.specs.Plain.{plain_expr, plain_module, plain_section};
-ghost use Rattle.smv_paths.specs.Mentions.{plain_mention};
-ghost use Rattle.smv_paths.specs.Written.{plain_path};
+ghost use Rattle.smv_names.specs.Mentions.{plain_mention};
+ghost use Rattle.smv_names.specs.Written.{plain_path};
 ghost use Rattle.smv_instantiate.specs.Flattens.{section_items};
 ghost use Rattle.smv_instantiate.specs.Flattens.Item.{Assigns};
 ghost use Rattle.smv_instantiate.specs.Items.{item_mentions, left_mentions, plain_assigned, plain_item, stated_line};
 ghost use Rattle.smv_instantiate.specs.Refuses.{expression, item_line};
 
+use smv_names::mentions::{Mention, push_index_mentions, push_mentions};
 use smv_parser::{Assignment, Condition, Expr, Module, Path, Section, SectionKind};
-use smv_paths::mentions::{Mention, push_index_mentions, push_mentions};
 use std::alloc::{AllocError, Global};
 
 /// An assignment, or the expression of an `INIT`, `INVAR`, `TRANS`, `SPEC` or `FAIRNESS`.

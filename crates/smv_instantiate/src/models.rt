@@ -9,7 +9,7 @@ ghost use Rattle.smv_instances.specs.Built.{AreInstances};
 ghost use Rattle.smv_instances.specs.Instances.{variables as variables_in};
 ghost use Rattle.smv_instances.specs.Plain.{plain_program};
 ghost use Rattle.smv_instances.specs.Program.{Program as Plain};
-ghost use Rattle.smv_paths.specs.Paths.{ArePaths};
+ghost use Rattle.smv_names.specs.Paths.{ArePaths};
 ghost use Rattle.smv_instantiate.specs.Flattens.{Flattens, all_items};
 ghost use Rattle.smv_instantiate.specs.Parsed.{IsParsed};
 ghost use Rattle.smv_instantiate.specs.Parts.{AreParts};
@@ -18,7 +18,7 @@ ghost use Rattle.smv_instantiate.specs.Written.{IsWritten};
 
 use crate::bodies::variables_of;
 use crate::names::VariableNames;
-use crate::parts::{Parts, parts_of};
+use crate::parts::{FlatParts, parts_of};
 use crate::passes::check_items;
 use crate::processes::processes_of;
 use kripke_model::Name;
@@ -26,8 +26,8 @@ use kripke_model::models::{FlatModel, FlatVar};
 use kripke_model::refusals::FlatRefusal;
 use smv_instances::Instances;
 use smv_instances::names::Names;
+use smv_names::Paths;
 use smv_parser::Program;
-use smv_paths::Paths;
 use std::alloc::{AllocError, Global};
 
 /// The symbolic constants once more.
@@ -61,7 +61,7 @@ fn checked_parts<'p>(
     instances: &Instances<'p>,
     paths: &Paths<'p>,
     variables: &[FlatVar],
-) -> Result<Parts, FlatRefusal>
+) -> Result<FlatParts, FlatRefusal>
     requires { (p : Plain) × AreInstances p instances.now × ArePaths p instances.now paths.now × IsWritten p × (variables.now ≡ variables_in p) }
     ensures { (p : Plain) → AreInstances p instances.now → ArePaths p instances.now paths.now → IsWritten p → variables.now ≡ variables_in p → MatchResult result (λ parts. AreParts p (all_items p) parts × Silent (First (item p) [] (all_items p))) (Refused (First (item p) [] (all_items p))) }
 {
@@ -76,14 +76,14 @@ fn model_of<'p>(
     alloc: Global,
     instances: &Instances<'p>,
     variables: Vec<FlatVar>,
-    parts: Parts,
+    parts: FlatParts,
 ) -> Result<FlatModel, AllocError>
     requires { (p : Plain) × AreInstances p instances.now }
     ensures { (p : Plain) → AreInstances p instances.now → variables.items ≡ variables_in p → AreParts p (all_items p) parts → IfOk result (Flattens p) }
 {
     let symbols = copied_symbols(alloc, &instances.symbols)?;
     let processes = processes_of(alloc, &instances.rows, &instances.processes)?;
-    let Parts {
+    let FlatParts {
         assigns,
         inits,
         invars,

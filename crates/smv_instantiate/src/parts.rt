@@ -8,7 +8,7 @@ ghost use Rattle.smv_instances.specs.Instances.{Scope};
 ghost use Rattle.smv_instances.specs.Numbered.{scope_at};
 ghost use Rattle.smv_instances.specs.Plain.{plain_expr};
 ghost use Rattle.smv_instances.specs.Program.{Program as Plain, Stated};
-ghost use Rattle.smv_paths.specs.Expands.{Expands};
+ghost use Rattle.smv_names.specs.Expands.{Expands};
 ghost use Rattle.smv_instantiate.specs.Flattens.{IsAssignment, IsCondition, Placed, all_items};
 ghost use Rattle.smv_instantiate.specs.Flattens.Item.{Assigns, States};
 ghost use Rattle.smv_instantiate.specs.Items.{kind_of, plain_assigned, plain_item};
@@ -22,13 +22,13 @@ use crate::names::VariableNames;
 use crate::totals::MOST_NESTING;
 use kripke_model::models::{Assign, Item as FlatItem, Part};
 use smv_instances::Instances;
+use smv_names::Paths;
 use smv_parser::{Assignment, Condition, Expr, LeftKind};
-use smv_paths::Paths;
 use std::alloc::{AllocError, Global};
 
 /// The items of a flat model, each list in instantiation order.
 #[derive(Drop)]
-pub struct Parts {
+pub struct FlatParts {
     pub assigns: Vec<Assign>,
     pub inits: Vec<FlatItem>,
     pub invars: Vec<FlatItem>,
@@ -100,7 +100,11 @@ fn flat_condition<'p>(
 }
 
 /// Adds a flat condition to those of its kind.
-fn push_condition(condition: Condition, flat: FlatItem, parts: &mut Parts) -> Result<(), AllocError>
+fn push_condition(
+    condition: Condition,
+    flat: FlatItem,
+    parts: &mut FlatParts,
+) -> Result<(), AllocError>
     ensures { (p : Plain) (items : List Placed) (s : Scope) (c : Stated) → c.kind ≡ kind_of condition → IsCondition p (s, States c) flat → AreParts p items parts.old → IfOk result (λ _. AreParts p (items ++ (s, States c) ∷ []) parts.new) }
 {
     match condition {
@@ -135,7 +139,7 @@ fn push_item<'p>(
     names: &VariableNames<'_>,
     i: usize,
     item: &Item<'p>,
-    parts: &mut Parts,
+    parts: &mut FlatParts,
 ) -> Result<(), AllocError>
     requires { (p : Plain) × (s : Scope) × AreTables p instances.now paths.now names.now × (scope_at p i ≡ Some s) × IsExpandable p (s, plain_item item.now) }
     ensures { (p : Plain) (s : Scope) (before : List Placed) → AreTables p instances.now paths.now names.now → scope_at p i ≡ Some s → IsExpandable p (s, plain_item item.now) → AreParts p before parts.old → IfOk result (λ _. AreParts p (before ++ (s, plain_item item.now) ∷ []) parts.new) }
@@ -166,7 +170,7 @@ fn push_body<'p>(
     names: &VariableNames<'_>,
     i: usize,
     items: &[Item<'p>],
-    parts: &mut Parts,
+    parts: &mut FlatParts,
 ) -> Result<(), AllocError>
     requires { (p : Plain) × (s : Scope) × AreTables p instances.now paths.now names.now × (scope_at p i ≡ Some s) × All (IsExpandable p) (placed s items.now) }
     ensures { (p : Plain) (s : Scope) (before : List Placed) → AreTables p instances.now paths.now names.now → scope_at p i ≡ Some s → All (IsExpandable p) (placed s items.now) → AreParts p before parts.old → IfOk result (λ _. AreParts p (before ++ placed s items.now) parts.new) }
@@ -177,10 +181,10 @@ fn push_body<'p>(
     Ok(())
 }
 
-fn no_parts(alloc: Global) -> Parts
+fn no_parts(alloc: Global) -> FlatParts
     ensures { (p : Plain) → AreParts p [] result }
 {
-    Parts {
+    FlatParts {
         assigns: Vec::new(alloc),
         inits: Vec::new(alloc),
         invars: Vec::new(alloc),
@@ -196,7 +200,7 @@ pub fn parts_of<'p>(
     instances: &Instances<'p>,
     paths: &Paths<'p>,
     names: &VariableNames<'_>,
-) -> Result<Parts, AllocError>
+) -> Result<FlatParts, AllocError>
     requires { (p : Plain) × AreTables p instances.now paths.now names.now × All (IsExpandable p) (all_items p) }
     ensures { (p : Plain) → AreTables p instances.now paths.now names.now → All (IsExpandable p) (all_items p) → IfOk result (AreParts p (all_items p)) }
 {

@@ -7,7 +7,7 @@ ghost use Rattle.smv_instances.specs.Instances.{Scope};
 ghost use Rattle.smv_instances.specs.Numbered.{scope_at};
 ghost use Rattle.smv_instances.specs.Answers.{Refused};
 ghost use Rattle.smv_instantiate.specs.Flattens.{Placed, all_items};
-ghost use Rattle.smv_instantiate.specs.Passes.{AreTables, IsPassed, IsReady, PassesAll, placed};
+ghost use Rattle.smv_instantiate.specs.Passes.{AreTables, IsPassed, HasTerm, PassesAll, placed};
 ghost use Rattle.smv_instantiate.specs.Refuses.{item as item_rule};
 
 use crate::checks::check_item;
@@ -16,7 +16,7 @@ use crate::names::VariableNames;
 use crate::totals::{Totals, no_totals};
 use kripke_model::refusals::FlatRefusal;
 use smv_instances::Instances;
-use smv_paths::Paths;
+use smv_names::Paths;
 use std::alloc::Global;
 
 /// Goes over the items of an instance.
@@ -47,7 +47,7 @@ pub fn check_items<'p>(
     names: &VariableNames<'_>,
 ) -> Result<(), FlatRefusal>
     requires { (p : Plain) × AreTables p instances.now paths.now names.now }
-    ensures { (p : Plain) → AreTables p instances.now paths.now names.now → MatchResult result (λ _. All (IsReady p) (all_items p) × Silent (First (item_rule p) [] (all_items p))) (Refused (First (item_rule p) [] (all_items p))) }
+    ensures { (p : Plain) → AreTables p instances.now paths.now names.now → MatchResult result (λ _. All (HasTerm p) (all_items p) × Silent (First (item_rule p) [] (all_items p))) (Refused (First (item_rule p) [] (all_items p))) }
 {
     let mut totals = no_totals();
     for i in 0..instances.len() {

@@ -3,7 +3,7 @@
 ghost use Rattle.std.specs.Prelude.{◌≡◌, ◌≤◌, ◌++◌, ◌∷◌, ℕ, [], List};
 ghost use Rattle.smv_instances.specs.Instances.{Scope};
 ghost use Rattle.smv_instances.specs.Program.{Kind, Stated};
-ghost use Rattle.smv_paths.specs.Values.{IsSize};
+ghost use Rattle.smv_names.specs.Values.{IsSize};
 ghost use Rattle.smv_instantiate.specs.Flattens.{Placed};
 ghost use Rattle.smv_instantiate.specs.Flattens.Item.{States};
 ghost use Rattle.smv_instantiate.specs.Items.{kind_of};
@@ -11,8 +11,8 @@ ghost use Rattle.smv_instantiate.specs.Refuses.{count_rows};
 ghost use Rattle.smv_instantiate.specs.Passes.{AddsSize, AreCounts, Counts};
 
 use kripke_model::refusals::{FlatRefusal, Which};
+use smv_names::sizes::Size;
 use smv_parser::Condition;
-use smv_paths::sizes::Size;
 
 /// The most specifications that a program has.
 pub const MOST_SPECIFICATIONS: u32 = 256;

@@ -1,9 +1,9 @@
 -- One step of the code each, in terms of reading.
 use Rattle.std.proofs.Common.{◌≡◌, ℕ, zero, suc, ◌+◌, ◌-◌, ◌≤◌, ◌<◌, Bool, true, false, List, [], ◌∷◌, length, refl, sym, ◌∙◌, ap, subst, arith, le-leb, Option, Some, None}
 use Rattle.std.proofs.lemmas.Bool.{lt-leb}
-use Rattle.token_readers.specs.Reading.{Reading, ◌>>=◌, accept, accepted, expect, enclosed, headed, both, switch, after_first, many, first_is}
-use Rattle.token_readers.specs.Reading.Reading.{found, syntax_error, too_deep}
-use Rattle.token_readers.proofs.Readers.{found-then}
+use Rattle.reader_laws.specs.Reading.{Reading, ◌>>=◌, accept, accepted, expect, enclosed, headed, both, switch, after_first, many, first_is}
+use Rattle.reader_laws.specs.Reading.Reading.{found, syntax_error, too_deep}
+use Rattle.reader_laws.proofs.Readers.{found-then}
 use Rattle.smv_lexer.specs.declared.keyword.Keyword.{Keyword}
 use Rattle.smv_lexer.specs.declared.sign.Sign.{Sign}
 use Rattle.smv_lexer.specs.declared.token.Token.{Token}

@@ -1,8 +1,8 @@
 -- What may follow an expression, and how levels go together.
 use Rattle.std.proofs.Common.{◌≡◌, ℕ, ◌+◌, ◌≤◌, ◌<◌, nat_le, leb, Bool, true, false, cond, ◌||◌, ◌⊎◌, List, [], ◌∷◌, ◌++◌, Some, refl, sym, ◌∙◌, ap, subst, arith, le-leb, inl, inr}
 use Rattle.std.proofs.lemmas.Bool.Decides.{leb_tells}
-use Rattle.token_readers.specs.Reading.{first_is}
-use Rattle.token_readers.proofs.Readers.{SameHead}
+use Rattle.reader_laws.specs.Reading.{first_is}
+use Rattle.reader_laws.proofs.Readers.{SameHead}
 use Rattle.smv_lexer.specs.Text.{Kind, Placed}
 use Rattle.smv_parser.specs.declared.expressions.BinaryOperator.{BinaryOperator}
 use Rattle.smv_parser.specs.Tree.{Tree, Form, PathTree, on_line, depth, form_depth}

@@ -1,8 +1,8 @@
 -- Declarations, assignments and definitions are read exactly.
 use Rattle.std.proofs.Common.{◌≡◌, ℕ, zero, suc, ◌+◌, ◌≤◌, cond, Bool, true, false, ◌⊎◌, inl, inr, List, [], ◌∷◌, ◌++◌, max, Option, Some, None, refl, sym, ◌∙◌, ap, subst, arith, append_assoc}
-use Rattle.token_readers.specs.Reading.{Reading, ◌>>=◌, accept, after_first, enclosed, headed, both, switch, first_is}
-use Rattle.token_readers.proofs.Readers.{Reads, EachOf, EachFits, ManyEnds}
-use Rattle.token_readers.proofs.More.{Headed, Enclosed, Both, BothFit, AnyOf, Alternative, map_reads, renamed_reads, headed_reads, enclosed_reads, both_reads, reads_alternative, no_alternative, switch_reads, all_end}
+use Rattle.reader_laws.specs.Reading.{Reading, ◌>>=◌, accept, after_first, enclosed, headed, both, switch, first_is}
+use Rattle.reader_laws.proofs.Readers.{Reads, EachOf, EachFits, ManyEnds}
+use Rattle.reader_laws.proofs.More.{Headed, Enclosed, Both, BothFit, AnyOf, Alternative, map_reads, renamed_reads, headed_reads, enclosed_reads, both_reads, reads_alternative, no_alternative, switch_reads, all_end}
 use Rattle.smv_lexer.specs.declared.keyword.Keyword.{Keyword}
 use Rattle.smv_lexer.specs.declared.sign.Sign.{Sign}
 use Rattle.smv_lexer.specs.Text.{Kind, Placed}

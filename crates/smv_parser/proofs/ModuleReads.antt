@@ -1,14 +1,14 @@
 -- Modules and programs are read exactly.
 use Rattle.std.proofs.Common.{◌≡◌, ℕ, ◌+◌, ◌-◌, ◌≤◌, max, Bool, true, false, ◌⊎◌, inl, inr, List, [], ◌∷◌, ◌++◌, map, length, Option, Some, None, refl, sym, ◌∙◌, ap, subst, arith, append_assoc}
-use Rattle.token_readers.specs.Places as place
-use Rattle.token_readers.specs.Reading.{Reading, ◌>>=◌, accept, both, many, first_is}
-use Rattle.token_readers.specs.Reading.Reading.{found, syntax_error, too_deep}
-use Rattle.token_readers.proofs.Readers.{Reads, EachOf, EachFits, ManyEnds, many_reads}
-use Rattle.token_readers.proofs.More.{Both, BothFit, AnyOf, map_reads, both_reads, all_end, decide_both, decide_each}
-use Rattle.token_readers.proofs.Optional.{OptionFits, OptionEnds, decide_option}
-use Rattle.token_readers.proofs.Mapped.{Makes, all_made, both_made, same_made, found_made, failed_made, deep_reading_made, then_made, syntax_made, deep_made}
-use Rattle.token_readers.proofs.Places as places
-use Rattle.token_readers.proofs.OnePlace as one
+use Rattle.reader_laws.specs.Places as place
+use Rattle.reader_laws.specs.Reading.{Reading, ◌>>=◌, accept, both, many, first_is}
+use Rattle.reader_laws.specs.Reading.Reading.{found, syntax_error, too_deep}
+use Rattle.reader_laws.proofs.Readers.{Reads, EachOf, EachFits, ManyEnds, many_reads}
+use Rattle.reader_laws.proofs.More.{Both, BothFit, AnyOf, map_reads, both_reads, all_end, decide_both, decide_each}
+use Rattle.reader_laws.proofs.Optional.{OptionFits, OptionEnds, decide_option}
+use Rattle.reader_laws.proofs.Mapped.{Makes, all_made, both_made, same_made, found_made, failed_made, deep_reading_made, then_made, syntax_made, deep_made}
+use Rattle.reader_laws.proofs.Places as places
+use Rattle.reader_laws.proofs.OnePlace as one
 use Rattle.smv_lexer.specs.declared.keyword.Keyword.{Keyword}
 use Rattle.smv_lexer.specs.declared.sign.Sign.{Sign}
 use Rattle.smv_lexer.specs.Text.{Kind, Placed}

@@ -1,9 +1,9 @@
 -- Each operand is read exactly, where its parts are.
 use Rattle.std.proofs.Common.{◌≡◌, ℕ, suc, ◌≤◌, ◌<◌, cond, leb, Bool, true, false, ◌⊎◌, List, [], ◌∷◌, ◌++◌, None, refl, sym, ◌∙◌, ap, subst, arith, inl, inr, ⊎_elim}
 use Rattle.std.proofs.lemmas.Bool.Decides.{leb_tells}
-use Rattle.token_readers.specs.Reading.{Reading, accept, after_first, headed, enclosed, both, first_is}
-use Rattle.token_readers.proofs.Readers.{Reads, EachOf, EachFits, ManyEnds, many_reads}
-use Rattle.token_readers.proofs.More.{map_reads, accept_reads, IsKnown, Headed, Enclosed, Both, BothFit, headed_reads, enclosed_reads, both_reads, list_reads, AnyOf, Alternative, give_reads, all_end, decide_both, decide_each, no_alternative, tail_alternative, deep_alternative, switch_reads, line_reads}
+use Rattle.reader_laws.specs.Reading.{Reading, accept, after_first, headed, enclosed, both, first_is}
+use Rattle.reader_laws.proofs.Readers.{Reads, EachOf, EachFits, ManyEnds, many_reads}
+use Rattle.reader_laws.proofs.More.{map_reads, accept_reads, IsKnown, Headed, Enclosed, Both, BothFit, headed_reads, enclosed_reads, both_reads, list_reads, AnyOf, Alternative, give_reads, all_end, decide_both, decide_each, no_alternative, tail_alternative, deep_alternative, switch_reads, line_reads}
 use Rattle.smv_lexer.specs.declared.keyword.Keyword.{Keyword}
 use Rattle.smv_lexer.specs.declared.sign.Sign.{Sign}
 use Rattle.smv_lexer.specs.Text.{Kind, Placed}

@@ -1,10 +1,10 @@
 -- Operands with operators between them, read by levels.
 use Rattle.std.proofs.Common.{◌≡◌, ℕ, zero, suc, ◌+◌, ◌≤◌, ◌<◌, leb, nat_le, Bool, true, false, ◌||◌, ◌⊎◌, List, [], ◌∷◌, ◌++◌, length, Option, Some, None, refl, sym, ◌∙◌, ap, subst, arith, append_assoc, append-nil, length-append, le-leb, ⊎_elim}
 use Rattle.std.proofs.lemmas.Bool.Decides.{leb_tells}
-use Rattle.token_readers.specs.Reading.{Reading, ◌>>=◌}
-use Rattle.token_readers.specs.Reading.Reading.{found, syntax_error, too_deep}
-use Rattle.token_readers.proofs.Readers.{IsDeep, deep-then, found-then, Outcome, Completes, Reads}
-use Rattle.token_readers.proofs.More.{prefixed}
+use Rattle.reader_laws.specs.Reading.{Reading, ◌>>=◌}
+use Rattle.reader_laws.specs.Reading.Reading.{found, syntax_error, too_deep}
+use Rattle.reader_laws.proofs.Readers.{IsDeep, deep-then, found-then, Outcome, Completes, Reads}
+use Rattle.reader_laws.proofs.More.{prefixed}
 use Rattle.smv_lexer.specs.Text.{Placed}
 use Rattle.smv_lexer.specs.Text.Kind.{word}
 use Rattle.smv_parser.specs.declared.expressions.BinaryOperator.{BinaryOperator}

@@ -1,11 +1,11 @@
 -- Lists between commas, and parameters in parentheses, are read exactly.
 use Rattle.std.proofs.Common.{◌≡◌, ℕ, Bool, true, false, ◌⊎◌, inl, inr, ⊎_elim, List, [], ◌∷◌, ◌++◌, length, Option, Some, None, refl, sym, ◌∙◌, ap, subst, append_assoc}
-use Rattle.token_readers.specs.Optional.{optional}
-use Rattle.token_readers.specs.Reading.{Reading, ◌>>=◌, expect, many, headed, enclosed, both, choose, first_is}
-use Rattle.token_readers.specs.Reading.Reading.{found}
-use Rattle.token_readers.proofs.Readers.{Reads, EachOf, EachFits, ManyEnds, IsToken, expect_reads, choose_reads}
-use Rattle.token_readers.proofs.More.{Headed, Enclosed, Both, BothFit, map_reads, headed_reads, enclosed_reads, list_reads, all_end, decide_each}
-use Rattle.token_readers.proofs.Optional.{OptionIs, OptionFits, OptionEnds, optional_reads}
+use Rattle.reader_laws.specs.Optional.{optional}
+use Rattle.reader_laws.specs.Reading.{Reading, ◌>>=◌, expect, many, headed, enclosed, both, choose, first_is}
+use Rattle.reader_laws.specs.Reading.Reading.{found}
+use Rattle.reader_laws.proofs.Readers.{Reads, EachOf, EachFits, ManyEnds, IsToken, expect_reads, choose_reads}
+use Rattle.reader_laws.proofs.More.{Headed, Enclosed, Both, BothFit, map_reads, headed_reads, enclosed_reads, list_reads, all_end, decide_each}
+use Rattle.reader_laws.proofs.Optional.{OptionIs, OptionFits, OptionEnds, optional_reads}
 use Rattle.smv_lexer.specs.declared.sign.Sign.{Sign}
 use Rattle.smv_lexer.specs.Text.{Kind, Placed}
 use Rattle.smv_lexer.specs.Text.Kind.{mark}

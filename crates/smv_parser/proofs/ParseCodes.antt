@@ -1,16 +1,16 @@
 -- What the reader of programs says of all the tokens.
 use Rattle.std.proofs.Common.{◌≡◌, ℕ, zero, suc, ◌+◌, ◌-◌, ◌≤◌, List, [], ◌∷◌, length, refl, sym, ◌∙◌, ap, subst, arith, false}
 use Rattle.std.specs.Prelude.{◌==◌}
-use Rattle.token_readers.specs.Reading.{Reading}
-use Rattle.token_readers.specs.Reading.Reading.{found, syntax_error, too_deep}
-use Rattle.token_readers.specs.Reading.{many}
+use Rattle.reader_laws.specs.Reading.{Reading}
+use Rattle.reader_laws.specs.Reading.Reading.{found, syntax_error, too_deep}
+use Rattle.reader_laws.specs.Reading.{many}
 use Rattle.smv_lexer.specs.Text.{Placed}
 use Rattle.smv_parser.specs.Gives.{IsSyntaxError, IsTooDeep}
 use Rattle.smv_parser.specs.Openings.{begins_module}
 use Rattle.smv_parser.specs.Program.{Program, program_depth}
 use Rattle.smv_parser.specs.ProgramReading.{read_module, read_program}
 use Rattle.smv_parser.specs.Programs.{DerivesProgram, IsSyntaxPlace, IsTooDeepPlace, IsWithin, greatest_depth}
-use Rattle.token_readers.proofs.OnePlace as one
+use Rattle.reader_laws.proofs.OnePlace as one
 use Rattle.smv_parser.proofs.ModuleReads.{program_deep, program_deep_short, program_derived, program_found, program_leftover, program_short, program_syntax}
 
 abbrev reading : List Placed → Reading Placed Program

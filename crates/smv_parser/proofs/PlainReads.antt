@@ -1,9 +1,9 @@
 -- Plain types are read exactly.
 use Rattle.std.proofs.Common.{◌≡◌, ℕ, zero, suc, ℤ, ◌+◌, ◌≤◌, ◌<◌, true, false, ◌⊎◌, inl, inr, List, [], ◌∷◌, ◌++◌, refl, sym, ◌∙◌, ap, subst, arith, append_assoc}
-use Rattle.token_readers.specs.Reading.{Reading, ◌>>=◌, accept, after_first, enclosed, both, switch}
-use Rattle.token_readers.specs.Reading.Reading.{found}
-use Rattle.token_readers.proofs.Readers.{Reads, EachFits, ManyEnds}
-use Rattle.token_readers.proofs.More.{Enclosed, Both, BothFit, AnyOf, Alternative, line_reads, map_reads, renamed_reads, give_reads, enclosed_reads, both_reads, reads_alternative, no_alternative, switch_reads, decide_both, decide_each}
+use Rattle.reader_laws.specs.Reading.{Reading, ◌>>=◌, accept, after_first, enclosed, both, switch}
+use Rattle.reader_laws.specs.Reading.Reading.{found}
+use Rattle.reader_laws.proofs.Readers.{Reads, EachFits, ManyEnds}
+use Rattle.reader_laws.proofs.More.{Enclosed, Both, BothFit, AnyOf, Alternative, line_reads, map_reads, renamed_reads, give_reads, enclosed_reads, both_reads, reads_alternative, no_alternative, switch_reads, decide_both, decide_each}
 use Rattle.smv_lexer.specs.declared.keyword.Keyword.{Keyword}
 use Rattle.smv_lexer.specs.declared.sign.Sign.{Sign}
 use Rattle.smv_lexer.specs.Text.{Kind, Placed}

@@ -1,10 +1,10 @@
 -- One step each of the code of sections and modules, in terms of reading.
 use Rattle.std.proofs.Common.{◌≡◌, ℕ, zero, suc, ◌+◌, ◌-◌, Bool, true, false, List, [], ◌∷◌, map, length, refl, sym, ◌∙◌, ap, subst, arith, Option, Some, None}
-use Rattle.token_readers.specs.Optional.{optional}
-use Rattle.token_readers.specs.Reading.{Reading, ◌>>=◌, accept, after_first, enclosed, expect, first_is, headed, both, many, switch}
-use Rattle.token_readers.specs.Reading.Reading.{found, syntax_error, too_deep}
-use Rattle.token_readers.proofs.Readers.{found-then}
-use Rattle.token_readers.proofs.Mapped.{then_made}
+use Rattle.reader_laws.specs.Optional.{optional}
+use Rattle.reader_laws.specs.Reading.{Reading, ◌>>=◌, accept, after_first, enclosed, expect, first_is, headed, both, many, switch}
+use Rattle.reader_laws.specs.Reading.Reading.{found, syntax_error, too_deep}
+use Rattle.reader_laws.proofs.Readers.{found-then}
+use Rattle.reader_laws.proofs.Mapped.{then_made}
 use Rattle.smv_lexer.specs.declared.keyword.Keyword.{Keyword}
 use Rattle.smv_lexer.specs.declared.sign.Sign.{Sign}
 use Rattle.smv_lexer.specs.Text.{Placed}

@@ -1,10 +1,10 @@
 -- Sections are read exactly.
 use Rattle.std.proofs.Common.{◌≡◌, ℕ, ◌+◌, ◌≤◌, cond, Bool, true, false, ◌⊎◌, inl, inr, List, [], ◌∷◌, ◌++◌, length, Option, Some, None, refl, sym, ◌∙◌, ap, subst, arith, append-nil}
-use Rattle.token_readers.specs.Optional.{optional}
-use Rattle.token_readers.specs.Reading.{Reading, ◌>>=◌, after_first, both, expect, many, switch, first_is}
-use Rattle.token_readers.proofs.Readers.{Reads, EachOf, EachFits, ManyEnds, expect_reads, many_reads}
-use Rattle.token_readers.proofs.More.{Both, BothFit, AnyOf, Alternative, map_reads, both_reads, no_alternative, switch_reads, all_end}
-use Rattle.token_readers.proofs.Optional.{OptionIs, OptionFits, OptionEnds, optional_reads}
+use Rattle.reader_laws.specs.Optional.{optional}
+use Rattle.reader_laws.specs.Reading.{Reading, ◌>>=◌, after_first, both, expect, many, switch, first_is}
+use Rattle.reader_laws.proofs.Readers.{Reads, EachOf, EachFits, ManyEnds, expect_reads, many_reads}
+use Rattle.reader_laws.proofs.More.{Both, BothFit, AnyOf, Alternative, map_reads, both_reads, no_alternative, switch_reads, all_end}
+use Rattle.reader_laws.proofs.Optional.{OptionIs, OptionFits, OptionEnds, optional_reads}
 use Rattle.smv_lexer.specs.declared.keyword.Keyword.{Keyword}
 use Rattle.smv_lexer.specs.declared.sign.Sign.{Sign}
 use Rattle.smv_lexer.specs.Text.{Kind, Placed}

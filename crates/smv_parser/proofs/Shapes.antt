@@ -1,8 +1,8 @@
 -- The grammar's operands are those that are read after their first token.
 use Rattle.std.proofs.Common.{◌≡◌, ℕ, suc, pos, ◌≤◌, cond, Bool, true, false, List, [], ◌∷◌, ◌++◌, Some, refl, sym, ◌∙◌, ap, subst, arith, append_assoc}
-use Rattle.token_readers.proofs.Readers.{EachOf, Reads}
-use Rattle.token_readers.proofs.More.{AnyOf, Headed, renamed_reads}
-use Rattle.token_readers.specs.Reading.{Reading}
+use Rattle.reader_laws.proofs.Readers.{EachOf, Reads}
+use Rattle.reader_laws.proofs.More.{AnyOf, Headed, renamed_reads}
+use Rattle.reader_laws.specs.Reading.{Reading}
 use Rattle.smv_lexer.specs.declared.keyword.Keyword.{Keyword}
 use Rattle.smv_lexer.specs.declared.sign.Sign.{Sign}
 use Rattle.smv_lexer.specs.Text.{Kind, Placed}

@@ -1,9 +1,9 @@
 -- Single tokens, and what two of them enclose, are read exactly.
 use Rattle.std.proofs.Common.{◌≡◌, ℕ, ℤ, pos, neg_ℤ, ◌≤◌, leb, ◌<◌, Bool, true, false, ◌⊎◌, inl, inr, ⊎_elim, List, [], ◌∷◌, ◌++◌, max, Some, refl, sym, ◌∙◌, ap, subst, arith, append_assoc}
 use Rattle.std.proofs.lemmas.Bool.Decides.{leb_tells}
-use Rattle.token_readers.specs.Reading.{Reading, accept, choose, enclosed, first_is, headed, both}
-use Rattle.token_readers.proofs.Readers.{Reads, EachFits, choose_reads}
-use Rattle.token_readers.proofs.More.{IsKnown, Headed, Enclosed, Both, BothFit, accept_reads, headed_reads, enclosed_reads, both_reads, map_reads, renamed_reads}
+use Rattle.reader_laws.specs.Reading.{Reading, accept, choose, enclosed, first_is, headed, both}
+use Rattle.reader_laws.proofs.Readers.{Reads, EachFits, choose_reads}
+use Rattle.reader_laws.proofs.More.{IsKnown, Headed, Enclosed, Both, BothFit, accept_reads, headed_reads, enclosed_reads, both_reads, map_reads, renamed_reads}
 use Rattle.smv_lexer.specs.declared.keyword.Keyword.{Keyword}
 use Rattle.smv_lexer.specs.declared.sign.Sign.{Sign}
 use Rattle.smv_lexer.specs.Text.{Kind, Placed}

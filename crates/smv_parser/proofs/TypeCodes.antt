@@ -1,10 +1,10 @@
 -- One step each of the code of types, in terms of reading.
 use Rattle.std.proofs.Common.{◌≡◌, ℕ, zero, suc, pos, neg_ℤ, ◌+◌, ◌-◌, ◌≤◌, ◌<◌, Bool, true, false, List, [], ◌∷◌, map, length, refl, sym, ◌∙◌, ap, subst, arith, le-leb, Option, Some, None}
 use Rattle.std.proofs.lemmas.Bool.{lt-leb}
-use Rattle.token_readers.specs.Reading.{Reading, ◌>>=◌, accept, accepted, after_first, choose, enclosed, first_is, headed, both, switch}
-use Rattle.token_readers.specs.Reading.Reading.{found, syntax_error, too_deep}
-use Rattle.token_readers.proofs.Readers.{found-then}
-use Rattle.token_readers.proofs.Mapped.{then_made, then_then, then_same}
+use Rattle.reader_laws.specs.Reading.{Reading, ◌>>=◌, accept, accepted, after_first, choose, enclosed, first_is, headed, both, switch}
+use Rattle.reader_laws.specs.Reading.Reading.{found, syntax_error, too_deep}
+use Rattle.reader_laws.proofs.Readers.{found-then}
+use Rattle.reader_laws.proofs.Mapped.{then_made, then_then, then_same}
 use Rattle.smv_lexer.specs.declared.keyword.Keyword.{Keyword}
 use Rattle.smv_lexer.specs.declared.sign.Sign.{Sign}
 use Rattle.smv_lexer.specs.Text.{Placed}

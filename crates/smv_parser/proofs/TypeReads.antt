@@ -1,11 +1,11 @@
 -- Types are read exactly.
 use Rattle.std.proofs.Common.{◌≡◌, ℕ, ◌+◌, ◌≤◌, Bool, true, false, ◌⊎◌, inl, inr, List, [], ◌∷◌, ◌++◌, Option, Some, None, refl, sym, ◌∙◌, ap, subst, arith}
-use Rattle.token_readers.specs.Reading.{Reading, ◌>>=◌, accept, after_first, enclosed, both, switch, first_is}
-use Rattle.token_readers.specs.Reading.Reading.{found}
-use Rattle.token_readers.proofs.Readers.{Reads, EachFits}
-use Rattle.token_readers.proofs.More.{Enclosed, Both, BothFit, AnyOf, Alternative, map_reads, enclosed_reads, both_reads, reads_alternative, no_alternative, switch_reads}
-use Rattle.token_readers.proofs.Optional.{OptionFits, decide_option}
-use Rattle.token_readers.proofs.Mapped.{reads_same, enclosed_made}
+use Rattle.reader_laws.specs.Reading.{Reading, ◌>>=◌, accept, after_first, enclosed, both, switch, first_is}
+use Rattle.reader_laws.specs.Reading.Reading.{found}
+use Rattle.reader_laws.proofs.Readers.{Reads, EachFits}
+use Rattle.reader_laws.proofs.More.{Enclosed, Both, BothFit, AnyOf, Alternative, map_reads, enclosed_reads, both_reads, reads_alternative, no_alternative, switch_reads}
+use Rattle.reader_laws.proofs.Optional.{OptionFits, decide_option}
+use Rattle.reader_laws.proofs.Mapped.{reads_same, enclosed_made}
 use Rattle.smv_lexer.specs.declared.keyword.Keyword.{Keyword}
 use Rattle.smv_lexer.specs.declared.sign.Sign.{Sign}
 use Rattle.smv_lexer.specs.Text.{Kind, Placed}

@@ -1,18 +1,18 @@
 -- The reader of expressions reads exactly the grammar's expressions.
 use Rattle.std.proofs.Common.{◌≡◌, ℕ, zero, suc, ◌-◌, ◌≤◌, ◌<◌, max, leb, ◌⊎◌, inl, inr, true, false, List, [], ◌∷◌, length, refl, arith}
 use Rattle.std.proofs.lemmas.Bool.Decides.{leb_tells}
-use Rattle.token_readers.specs.Reading.{◌>>=◌, switch, after_first, many, enclosed, both, expect}
-use Rattle.token_readers.specs.Reading.Reading.{found, syntax_error, too_deep}
-use Rattle.token_readers.specs.Places.{IsSyntaxPlace, IsTooDeepPlace}
-use Rattle.token_readers.proofs.Places as places
-use Rattle.token_readers.proofs.Places.{one_tree}
+use Rattle.reader_laws.specs.Reading.{◌>>=◌, switch, after_first, many, enclosed, both, expect}
+use Rattle.reader_laws.specs.Reading.Reading.{found, syntax_error, too_deep}
+use Rattle.reader_laws.specs.Places.{IsSyntaxPlace, IsTooDeepPlace}
+use Rattle.reader_laws.proofs.Places as places
+use Rattle.reader_laws.proofs.Places.{one_tree}
 use Rattle.smv_lexer.specs.declared.keyword.Keyword.{Keyword}
 use Rattle.smv_lexer.specs.declared.sign.Sign.{Sign}
 use Rattle.smv_lexer.specs.Text.{Kind}
 use Rattle.smv_lexer.specs.Text.Kind.{word, key, mark}
 use Rattle.smv_parser.specs.declared.expressions.PrefixOperator.{PrefixOperator}
 use Rattle.smv_parser.specs.Tests.{sign_number}
-use Rattle.token_readers.proofs.Readers.{Reads}
+use Rattle.reader_laws.proofs.Readers.{Reads}
 use Rattle.smv_lexer.specs.Text.{Placed}
 use Rattle.smv_parser.specs.Tree.{Tree, Form, on_line, path_on, no_parts, depth, path_depth}
 use Rattle.smv_parser.specs.Grammar.{Derives, DerivesPath}

@@ -1,6 +1,6 @@
 -- What a reader of the code returned is what reading gives.
 use Rattle.std.specs.Prelude.{◌≡◌, ℕ, List, length, Result, Ok, Err}
-use Rattle.token_readers.specs.Reading.{Reading}
+use Rattle.reader_laws.specs.Reading.{Reading}
 use Rattle.smv_lexer.specs.Text.{Placed}
 use Rattle.smv_parser.specs.declared.reader.Failure.{Failure}
 use Rattle.smv_parser.specs.declared.reader.Failure.TheVariants as failures

@@ -1,8 +1,8 @@
 -- Reading what stands above expressions from left to right, within a depth.
 use Rattle.std.specs.Prelude.{◌≡◌, ℕ, zero, suc, ℤ, pos, neg_ℤ, Bool, true, false, length, List, [], ◌∷◌, Option, Some, None, map}
-use Rattle.token_readers.specs.Optional.{optional}
-use Rattle.token_readers.specs.Reading.{Reading, ◌>>=◌, accept, expect, switch, choose, many, after_first, headed, enclosed, both}
-use Rattle.token_readers.specs.Reading.Reading.{found, syntax_error, too_deep}
+use Rattle.reader_laws.specs.Optional.{optional}
+use Rattle.reader_laws.specs.Reading.{Reading, ◌>>=◌, accept, expect, switch, choose, many, after_first, headed, enclosed, both}
+use Rattle.reader_laws.specs.Reading.Reading.{found, syntax_error, too_deep}
 use Rattle.smv_lexer.specs.declared.keyword.Keyword.{Keyword}
 use Rattle.smv_lexer.specs.declared.sign.Sign.{Sign}
 use Rattle.smv_lexer.specs.Text.{Kind, Placed}

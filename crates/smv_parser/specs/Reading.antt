@@ -1,7 +1,7 @@
 -- Reading an expression from left to right, within a depth.
 use Rattle.std.specs.Prelude.{◌≡◌, ◌<◌, ℕ, zero, suc, ◌+◌, cond, nat_le, Bool, true, false, length, List, [], ◌∷◌, Option, Some, None}
-use Rattle.token_readers.specs.Reading.{Reading, ◌>>=◌, accept, switch, many, first_line, after_first, headed, enclosed, both}
-use Rattle.token_readers.specs.Reading.Reading.{found, syntax_error, too_deep}
+use Rattle.reader_laws.specs.Reading.{Reading, ◌>>=◌, accept, switch, many, first_line, after_first, headed, enclosed, both}
+use Rattle.reader_laws.specs.Reading.Reading.{found, syntax_error, too_deep}
 use Rattle.smv_lexer.specs.declared.keyword.Keyword.{Keyword}
 use Rattle.smv_lexer.specs.declared.sign.Sign.{Sign}
 use Rattle.smv_lexer.specs.Text.{Placed}

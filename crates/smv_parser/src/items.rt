@@ -7,7 +7,7 @@ ghost use Rattle.smv_lexer.specs.View.{views};
 ghost use Rattle.smv_parser.specs.Gives.{Gives};
 ghost use Rattle.smv_parser.specs.ProgramReading.{commas, inside, parameters};
 ghost use Rattle.smv_parser.specs.Tests.{is_sign};
-ghost use Rattle.token_readers.specs.Reading.{Reading, both, enclosed, first_is, many};
+ghost use Rattle.reader_laws.specs.Reading.{Reading, both, enclosed, first_is, many};
 
 use crate::reader::{Failure, after_sign, begins_with_sign};
 use smv_lexer::{Sign, Token};

@@ -11,7 +11,7 @@ ghost use Rattle.smv_parser.specs.Program.{Lined};
 ghost use Rattle.smv_parser.specs.ProgramReading as reading;
 ghost use Rattle.smv_parser.specs.ProgramView as view;
 ghost use Rattle.smv_parser.specs.Programs.{greatest_depth};
-ghost use Rattle.token_readers.specs.Reading.{Reading};
+ghost use Rattle.reader_laws.specs.Reading.{Reading};
 
 use crate::items::{Item, Led, read_items, read_parameters};
 use crate::program::Module;

@@ -1,7 +1,7 @@
 //! What readers of tokens share.
 
 ghost use Rattle.std.specs.Prelude.{◌≡◌, ◌<◌, length, map, IfOk};
-ghost use Rattle.token_readers.specs.Reading.{accept, expect, first_is};
+ghost use Rattle.reader_laws.specs.Reading.{accept, expect, first_is};
 ghost use Rattle.smv_lexer.specs.View as tokens;
 ghost use Rattle.smv_lexer.specs.View.{views};
 ghost use Rattle.smv_parser.specs.Gives.{Gives, GivesRest};
@@ -63,7 +63,7 @@ pub fn token_is_key(token: &Token, key: Keyword) -> bool
 }
 
 /// The tokens after a sign.
-#[tactic(auto, unfolding(token_readers::specs::Reading::expect))]
+#[tactic(auto, unfolding(reader_laws::specs::Reading::expect))]
 pub fn after_sign(tokens: &[Token], sign: Sign) -> Result<&[Token], Failure>
     ensures reads { GivesRest (λ r. views r.now) result (expect (is_sign sign) (views tokens.now)) }
     ensures shorter { IfOk result (λ r. length r.now < length tokens.now) }
@@ -81,7 +81,7 @@ pub fn after_sign(tokens: &[Token], sign: Sign) -> Result<&[Token], Failure>
 }
 
 /// The tokens after a reserved word.
-#[tactic(auto, unfolding(token_readers::specs::Reading::expect))]
+#[tactic(auto, unfolding(reader_laws::specs::Reading::expect))]
 pub fn after_key(tokens: &[Token], key: Keyword) -> Result<&[Token], Failure>
     ensures reads { GivesRest (λ r. views r.now) result (expect (is_key key) (views tokens.now)) }
     ensures shorter { IfOk result (λ r. length r.now < length tokens.now) }
@@ -99,7 +99,7 @@ pub fn after_key(tokens: &[Token], key: Keyword) -> Result<&[Token], Failure>
 }
 
 /// The name that comes first, with the tokens after it.
-#[tactic(auto, unfolding(token_readers::specs::Reading::accept, token_readers::specs::Reading::accepted))]
+#[tactic(auto, unfolding(reader_laws::specs::Reading::accept, reader_laws::specs::Reading::accepted))]
 pub fn after_name(alloc: Global, tokens: &[Token]) -> Result<(Name, &[Token]), Failure>
     ensures reads { Gives (λ x. x.0) (λ x. views x.1.now) result (accept name_of (views tokens.now)) }
     ensures shorter { IfOk result (λ x. length x.1.now < length tokens.now) }

@@ -1,7 +1,7 @@
 //! The reader of expressions.
 
 ghost use Rattle.std.specs.Prelude.{◌≡◌, ◌≤◌, ◌<◌, ◌+◌, ◌∷◌, ℕ, List, length, map, max, IfOk, IfSome, IfNone, Some, None, true};
-ghost use Rattle.token_readers.specs.Reading.{both, enclosed, first_is};
+ghost use Rattle.reader_laws.specs.Reading.{both, enclosed, first_is};
 ghost use Rattle.smv_lexer.specs.Text.{Placed};
 ghost use Rattle.smv_lexer.specs.View.{views};
 ghost use Rattle.smv_parser.specs.Gives.{Gives};

@@ -12,7 +12,7 @@ ghost use Rattle.smv_parser.specs.ProgramReading as reading;
 ghost use Rattle.smv_parser.specs.ProgramView as view;
 ghost use Rattle.smv_parser.specs.Programs.{greatest_depth};
 ghost use Rattle.smv_parser.specs.View.{tree_of};
-ghost use Rattle.token_readers.specs.Reading.{Reading};
+ghost use Rattle.reader_laws.specs.Reading.{Reading};
 
 use crate::expressions::Expr;
 use crate::items::{Item, Led, read_both, read_items};

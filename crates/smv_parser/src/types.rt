@@ -15,7 +15,7 @@ ghost use Rattle.smv_parser.specs.Reading.{read};
 ghost use Rattle.smv_parser.specs.Tests.{number_of};
 ghost use Rattle.smv_parser.specs.Tree.{Tree};
 ghost use Rattle.smv_parser.specs.View.{tree_of};
-ghost use Rattle.token_readers.specs.Reading.{Reading, accept};
+ghost use Rattle.reader_laws.specs.Reading.{Reading, accept};
 
 use crate::expressions::Expr;
 use crate::items::{Item, read_commas, read_parameters};
@@ -120,7 +120,7 @@ impl Item for Constant {
 }
 
 /// The number that comes first, with the tokens after it.
-#[tactic(auto, unfolding(token_readers::specs::Reading::accept, token_readers::specs::Reading::accepted))]
+#[tactic(auto, unfolding(reader_laws::specs::Reading::accept, reader_laws::specs::Reading::accepted))]
 fn after_number(tokens: &[Token]) -> Result<(u32, &[Token]), Failure>
     ensures reads { Gives (λ x. x.0) (λ x. views x.1.now) result (accept number_of (views tokens.now)) }
     ensures small { IfOk result (λ x. x.0 ≤ 2147483647) }

@@ -3,7 +3,7 @@ use Rattle.std.proofs.lemmas.Result.{err_from_is_err_and}
 use Rattle.kripke_model.specs.Refusing.{Silent, First}
 use Rattle.smv_instances.specs.Instances.{Scope}
 use Rattle.smv_instances.specs.Declarations.{body}
-use Rattle.smv_instances.specs.Walk.{AreLinked, Reaches}
+use Rattle.smv_instances.specs.Walk.{AreLinked, HasWalked}
 use Rattle.smv_instances.proofs.BuildLemmas.{instances_main}
 use Rattle.smv_instances.proofs.instances.walk_of.Goals as goal
 
@@ -22,7 +22,7 @@ pub returns : goal.returns
 returns c = λ p starts.
     let visited = c.in_ok-visit_body.ensures p [] (Scope.Main starts.m) (record { mods = starts.mods; reaches = c.in_ok-walk.ensures c.args.modules.now starts.m starts.stands; numbered = refl; deep = refl }) in
     let all = sym (instances_main p starts.m starts.is) in (
-      subst (λ xs. Reaches c.args.modules.now c.visit_body.new.walk xs xs) all visited.reaches,
+      subst (λ xs. HasWalked c.args.modules.now c.visit_body.new.walk xs xs) all visited.reaches,
       subst (λ xs. AreLinked p c.visit_body.new.walk.rows.items xs 0) all visited.linked,
       subst (λ xs. Silent (First (body p) [] xs)) all visited.silent,
     )

@@ -1,9 +1,9 @@
 use Rattle.std.proofs.Common.{sym, ◌∙◌, ap, subst, ◌≤◌, arith, length, List}
 use Rattle.std.proofs.lemmas.Result.{err_from_is_err_and}
 use Rattle.kripke_model.specs.Size.{node_count, nesting}
-use Rattle.smv_paths.specs.declared.sizes.Size.{Size}
-use Rattle.smv_paths.specs.Known.{AreSizes}
-use Rattle.smv_paths.specs.Expands.{Expands}
+use Rattle.smv_names.specs.declared.sizes.Size.{Size}
+use Rattle.smv_names.specs.Known.{AreSizes}
+use Rattle.smv_names.specs.Expands.{Expands}
 use Rattle.smv_instantiate.specs.Items.{plain_item}
 use Rattle.smv_instantiate.specs.Refuses.{expression}
 use Rattle.smv_instantiate.proofs.BodySteps.{slice_in}

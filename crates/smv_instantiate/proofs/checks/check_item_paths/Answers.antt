@@ -2,10 +2,10 @@ use Rattle.std.proofs.Common.{sym, ◌∙◌, ap, subst, List, length, map}
 use Rattle.std.specs.Prelude.{MatchResult}
 use Rattle.kripke_model.specs.Refusing.{Silent}
 use Rattle.smv_instances.specs.Answers.{Refused}
-use Rattle.smv_paths.specs.Abbreviations.{Mention, path_rows}
-use Rattle.smv_paths.specs.Known.{AreNumbers}
-use Rattle.smv_paths.specs.Mentions.{plain_mention}
-use Rattle.smv_paths.specs.Sound.{AreSound}
+use Rattle.smv_names.specs.Abbreviations.{Mention, path_rows}
+use Rattle.smv_names.specs.Known.{AreNumbers}
+use Rattle.smv_names.specs.Mentions.{plain_mention}
+use Rattle.smv_names.specs.Sound.{AreSound}
 use Rattle.smv_instantiate.proofs.PassLemmas.{paths_checked, scope_below}
 use Rattle.smv_instantiate.proofs.checks.check_item_paths.Goals as goal
 

@@ -1,6 +1,6 @@
 use Rattle.std.proofs.Common.{refl, subst, inr}
 use Rattle.kripke_model.proofs.FirstLemmas.{silent_refuse}
-use Rattle.smv_paths.specs.Written.{plain_path}
+use Rattle.smv_names.specs.Written.{plain_path}
 use Rattle.smv_instantiate.specs.Expansion.{IsSelected}
 use Rattle.smv_instantiate.proofs.checks.check_left.Goals as goal
 

@@ -11,7 +11,7 @@ use Rattle.smv_instances.specs.Abstract as abstract
 use Rattle.smv_instances.specs.Instances.{instances}
 use Rattle.smv_instances.specs.Plain.{plain_expr}
 use Rattle.smv_instances.specs.Program.{Expr}
-use Rattle.smv_paths.specs.Written.{plain_path}
+use Rattle.smv_names.specs.Written.{plain_path}
 use Rattle.smv_instantiate.specs.Expanded.{prefix_term}
 use Rattle.smv_instantiate.specs.Expansion.{plain_arms, plain_exprs}
 use Rattle.smv_instantiate.proofs.ProcessSteps.{process_few, process_place}

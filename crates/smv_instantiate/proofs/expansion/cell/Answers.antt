@@ -5,11 +5,11 @@ use Rattle.std.specs.Str.{bytes_eq}
 use Rattle.std.proofs.lemmas.Option.{slice_get_within}
 use Rattle.smv_instances.specs.Instances.{instances, place_of, spelled}
 use Rattle.smv_instances.specs.Walk.{AreRows}
-use Rattle.smv_paths.specs.declared.targets.Target.{Target}
-use Rattle.smv_paths.specs.Expands.{AreIndexes, element_name}
-use Rattle.smv_paths.specs.Known.{AreNumbers, SomeBad}
-use Rattle.smv_paths.specs.Targets.{AreBrackets, Resolves}
-use Rattle.smv_paths.proofs.PairLemmas.{bad_not_indexes}
+use Rattle.smv_names.specs.declared.targets.Target.{Target}
+use Rattle.smv_names.specs.Expands.{AreIndexes, element_name}
+use Rattle.smv_names.specs.Known.{AreNumbers, SomeBad}
+use Rattle.smv_names.specs.Targets.{AreBrackets, Resolves}
+use Rattle.smv_names.proofs.PairLemmas.{bad_not_indexes}
 use Rattle.smv_instantiate.proofs.BodySteps.{slice_in}
 use Rattle.smv_instantiate.proofs.ExpandLemmas.{are_instances, is_kept}
 use Rattle.smv_instantiate.proofs.PathSteps.{array_selects, named_selects, other_selects, stored_at, stored_or_other, unvalued_selects}

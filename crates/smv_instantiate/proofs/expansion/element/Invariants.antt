@@ -1,5 +1,5 @@
 use Rattle.std.proofs.Common.{◌≡◌, take, reverse}
-use Rattle.smv_paths.specs.Expands.{element_name}
+use Rattle.smv_names.specs.Expands.{element_name}
 use Rattle.smv_instantiate.proofs.expansion.element.Given as goal
 
 -- the name by the values so far

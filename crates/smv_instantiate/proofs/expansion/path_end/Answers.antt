@@ -1,8 +1,8 @@
 use Rattle.std.proofs.Common.{sym, ◌∙◌, ap, subst, length, Option}
-use Rattle.smv_paths.specs.declared.targets.Target.{Target}
-use Rattle.smv_paths.specs.Ends.{AreEnds}
-use Rattle.smv_paths.specs.Targets.{Resolves}
-use Rattle.smv_paths.specs.Written.{plain_path}
+use Rattle.smv_names.specs.declared.targets.Target.{Target}
+use Rattle.smv_names.specs.Ends.{AreEnds}
+use Rattle.smv_names.specs.Targets.{Resolves}
+use Rattle.smv_names.specs.Written.{plain_path}
 use Rattle.smv_instantiate.proofs.expansion.path_end.Goals as goal
 
 pub target_end-requires : goal.target_end-requires

@@ -1,7 +1,7 @@
 use Rattle.std.proofs.Common.{subst, Option}
-use Rattle.smv_paths.specs.declared.targets.Target.{Target}
-use Rattle.smv_paths.specs.Targets.{Resolves}
-use Rattle.smv_paths.specs.Written.{plain_path}
+use Rattle.smv_names.specs.declared.targets.Target.{Target}
+use Rattle.smv_names.specs.Targets.{Resolves}
+use Rattle.smv_names.specs.Written.{plain_path}
 use Rattle.smv_instantiate.proofs.PathSteps.{nothing_selects}
 use Rattle.smv_instantiate.proofs.expansion.selected.Goals as goal
 

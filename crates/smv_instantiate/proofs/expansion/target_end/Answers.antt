@@ -1,6 +1,6 @@
 use Rattle.std.proofs.Common.{◌<◌, length, ap, subst, arith, Some}
-use Rattle.smv_paths.specs.declared.targets.Target.{Target}
-use Rattle.smv_paths.specs.Targets.{Resolves}
+use Rattle.smv_names.specs.declared.targets.Target.{Target}
+use Rattle.smv_names.specs.Targets.{Resolves}
 use Rattle.smv_instantiate.proofs.PathSteps.{end_read, is_reading, not_reading, reading_at, reading_below, reading_end}
 use Rattle.smv_instantiate.proofs.expansion.target_end.Goals as goal
 

@@ -2,10 +2,10 @@ use Rattle.std.proofs.Common.{◌<◌, ◌≤◌, length, ◌∙◌, ap, subst, 
 use Rattle.kripke_model.specs.declared.expressions.Value.TheVariants.{Symbol}
 use Rattle.kripke_model.specs.Term.{Term}
 use Rattle.smv_instances.specs.Instances.{instances, place_of, symbols}
-use Rattle.smv_paths.specs.declared.targets.Target.{Target}
-use Rattle.smv_paths.specs.Expands.{Expands}
-use Rattle.smv_paths.specs.Targets.{Resolves}
-use Rattle.smv_paths.proofs.Once.{expands_one}
+use Rattle.smv_names.specs.declared.targets.Target.{Target}
+use Rattle.smv_names.specs.Expands.{Expands}
+use Rattle.smv_names.specs.Targets.{Resolves}
+use Rattle.smv_names.proofs.Once.{expands_one}
 use Rattle.smv_instantiate.specs.Expansion.{IsSelected}
 use Rattle.smv_instantiate.proofs.BodySteps.{slice_in}
 use Rattle.smv_instantiate.proofs.DeclaredLemmas.{few_symbols}

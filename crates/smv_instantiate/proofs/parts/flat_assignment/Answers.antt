@@ -1,7 +1,7 @@
 use Rattle.std.proofs.Common.{refl, sym, subst, ◌<◌, arith}
 use Rattle.smv_instances.specs.Plain.{plain_expr}
-use Rattle.smv_paths.specs.Expands.{Expands}
-use Rattle.smv_paths.specs.Written.{plain_path}
+use Rattle.smv_names.specs.Expands.{Expands}
+use Rattle.smv_names.specs.Written.{plain_path}
 use Rattle.smv_instantiate.specs.Expansion.{IsSelected}
 use Rattle.smv_instantiate.proofs.PassLemmas.{scope_below}
 use Rattle.smv_instantiate.proofs.ProcessSteps.{process_few, process_place}

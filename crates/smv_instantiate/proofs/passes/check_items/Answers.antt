@@ -3,7 +3,7 @@ use Rattle.std.specs.Prelude.{All, map}
 use Rattle.std.proofs.lemmas.Result.{err_from_is_err_and}
 use Rattle.kripke_model.specs.Refusing.{First, Silent}
 use Rattle.smv_instantiate.specs.Items.{plain_item}
-use Rattle.smv_instantiate.specs.Passes.{IsPassed, IsReady, placed}
+use Rattle.smv_instantiate.specs.Passes.{IsPassed, HasTerm, placed}
 use Rattle.smv_instantiate.specs.Refuses.{item}
 use Rattle.smv_instantiate.proofs.PassSteps.{all_before, body_items, body_passed, body_refused, items_before, placed_body}
 use Rattle.smv_instantiate.proofs.PassLemmas.{nothing_passed, scope_there}
@@ -45,4 +45,4 @@ pub returns : goal.returns
 returns c = λ p tables.
     let known = c.loop-i.invariant p tables in
     let all : items_before p c.loop-i.i ≡ _ = all_before p c.loop-i.i (omega (arith, c.loop-i-test.false, c.len-i-end.ensures p tables.instances_are)) in
-    (subst (λ ys. All (IsReady p) ys) all known.0.ready, subst (λ ys. Silent (First (item p) [] ys)) all known.1)
+    (subst (λ ys. All (HasTerm p) ys) all known.0.ready, subst (λ ys. Silent (First (item p) [] ys)) all known.1)

@@ -3,7 +3,7 @@ use Rattle.std.specs.Prelude.{filter}
 use Rattle.smv_instances.specs.Entries.{Entry}
 use Rattle.smv_instances.specs.Instances.{declares_process}
 use Rattle.smv_instances.specs.Numbered.{plain_entry}
-use Rattle.smv_paths.proofs.WrittenLemmas.{split_at}
+use Rattle.smv_names.proofs.WrittenLemmas.{split_at}
 use Rattle.smv_instantiate.proofs.Members.{map-append}
 use Rattle.smv_instantiate.proofs.ProcessSteps.{first_is}
 use Rattle.smv_instantiate.proofs.processes.body_line.Goals as goal

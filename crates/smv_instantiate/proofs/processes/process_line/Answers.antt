@@ -6,7 +6,7 @@ use Rattle.smv_instances.specs.Entries.{Entry}
 use Rattle.smv_instances.specs.Instances.{Scope, instances, declares_process}
 use Rattle.smv_instances.specs.Numbered.{plain_entry}
 use Rattle.smv_instances.proofs.RowLemmas.{row_at, scope_of, table_at, within_tables}
-use Rattle.smv_paths.proofs.WrittenLemmas.{split_at}
+use Rattle.smv_names.proofs.WrittenLemmas.{split_at}
 use Rattle.smv_instantiate.proofs.ProcessSteps.{placed, is_process_entry, line_found, no_line, take_at}
 use Rattle.smv_instantiate.proofs.processes.process_line.Goals as goal
 

@@ -2,8 +2,8 @@ use Rattle.std.proofs.Common.{◌≡◌, ◌≤◌, ◌<◌, ℕ, List, [], ◌�
 use Rattle.std.proofs.lemmas.Result.{err_from_is_err_and}
 use Rattle.smv_lexer.specs.declared.sign.Sign.{Sign}
 use Rattle.smv_lexer.specs.View.{views}
-use Rattle.token_readers.specs.Reading.{headed}
-use Rattle.token_readers.specs.Reading.Reading.{found}
+use Rattle.reader_laws.specs.Reading.{headed}
+use Rattle.reader_laws.specs.Reading.Reading.{found}
 use Rattle.smv_parser.specs.Tests.{is_sign}
 use Rattle.smv_parser.proofs.Codes.{first_some, headed_fails, headed_is, length-views, rest_fails, rest_more, rest_stops}
 use Rattle.smv_parser.proofs.ItemCodes.{commas_fail, commas_start, map-push}

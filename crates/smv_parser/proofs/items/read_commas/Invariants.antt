@@ -1,7 +1,7 @@
 use Rattle.std.proofs.Common.{◌≡◌, ◌≤◌, ◌<◌, ℕ, List, ◌++◌, length, map}
 use Rattle.smv_lexer.specs.declared.sign.Sign.{Sign}
 use Rattle.smv_lexer.specs.View.{views}
-use Rattle.token_readers.specs.Reading.{headed}
+use Rattle.reader_laws.specs.Reading.{headed}
 use Rattle.smv_parser.specs.ProgramReading.{commas}
 use Rattle.smv_parser.specs.Tests.{is_sign}
 use Rattle.smv_parser.proofs.Codes.{rest_of}

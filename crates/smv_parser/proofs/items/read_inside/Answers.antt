@@ -3,9 +3,9 @@ use Rattle.std.proofs.lemmas.Result.{err_from_is_err_and}
 use Rattle.smv_lexer.specs.declared.sign.Sign.{Sign}
 use Rattle.smv_lexer.specs.Text.{Placed}
 use Rattle.smv_lexer.specs.View.{views}
-use Rattle.token_readers.specs.Reading.{expect}
-use Rattle.token_readers.specs.Reading.Reading.{found}
-use Rattle.token_readers.proofs.Readers.{found-then}
+use Rattle.reader_laws.specs.Reading.{expect}
+use Rattle.reader_laws.specs.Reading.Reading.{found}
+use Rattle.reader_laws.proofs.Readers.{found-then}
 use Rattle.smv_parser.specs.ProgramReading.{commas}
 use Rattle.smv_parser.specs.Tests.{is_sign}
 use Rattle.smv_parser.proofs.Codes.{Fails-then, enclosed_fails, enclosed_fails_after, enclosed_found}

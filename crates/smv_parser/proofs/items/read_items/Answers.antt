@@ -1,7 +1,7 @@
 use Rattle.std.proofs.Common.{◌≡◌, ◌≤◌, ◌<◌, ℕ, List, [], ◌∷◌, ◌++◌, map, length, refl, sym, ◌∙◌, ap, arith, append-nil}
 use Rattle.std.proofs.lemmas.Result.{err_from_is_err_and}
 use Rattle.smv_lexer.specs.View.{views}
-use Rattle.token_readers.specs.Reading.Reading.{found}
+use Rattle.reader_laws.specs.Reading.Reading.{found}
 use Rattle.smv_parser.proofs.Codes.{first_some, length-views, rest_fails, rest_more, rest_stops}
 use Rattle.smv_parser.proofs.ItemCodes.{all_rest, map-push}
 use Rattle.smv_parser.proofs.items.read_items.Goals as goal

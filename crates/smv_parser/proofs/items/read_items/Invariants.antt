@@ -1,6 +1,6 @@
 use Rattle.std.proofs.Common.{◌≡◌, ◌≤◌, ℕ, List, ◌++◌, length, map}
 use Rattle.smv_lexer.specs.View.{views}
-use Rattle.token_readers.specs.Reading.{many}
+use Rattle.reader_laws.specs.Reading.{many}
 use Rattle.smv_parser.proofs.Codes.{rest_of}
 use Rattle.smv_parser.proofs.items.read_items.Given as goal
 

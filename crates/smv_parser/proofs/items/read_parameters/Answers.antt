@@ -2,7 +2,7 @@ use Rattle.std.proofs.Common.{◌≡◌, List, sym, ◌∙◌, ap, map}
 use Rattle.std.proofs.lemmas.Result.{err_from_is_err_and}
 use Rattle.smv_lexer.specs.declared.sign.Sign.{Sign}
 use Rattle.smv_lexer.specs.View.{views}
-use Rattle.token_readers.specs.Reading.Reading.{found}
+use Rattle.reader_laws.specs.Reading.Reading.{found}
 use Rattle.smv_parser.specs.ProgramReading.{inside}
 use Rattle.smv_parser.specs.Tests.{is_sign}
 use Rattle.smv_parser.proofs.Codes.{headed_fails, headed_is}

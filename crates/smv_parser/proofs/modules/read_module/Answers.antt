@@ -2,12 +2,12 @@ use Rattle.std.proofs.Common.{◌≡◌, ℕ, List, length, map, sym, ◌∙◌,
 use Rattle.std.proofs.lemmas.Result.{err_from_is_err_and}
 use Rattle.smv_lexer.specs.View as tokens
 use Rattle.smv_lexer.specs.View.{views}
-use Rattle.token_readers.proofs.Readers.{found-then}
+use Rattle.reader_laws.proofs.Readers.{found-then}
 use Rattle.smv_parser.specs.Programs.{greatest_depth}
 use Rattle.smv_parser.proofs.Codes.{Fails-then, both_fails, both_fails_after, both_found}
 use Rattle.smv_lexer.specs.declared.keyword.Keyword.{Keyword}
-use Rattle.token_readers.specs.Reading.{accept, both, many}
-use Rattle.token_readers.specs.Reading.Reading.{found}
+use Rattle.reader_laws.specs.Reading.{accept, both, many}
+use Rattle.reader_laws.specs.Reading.Reading.{found}
 use Rattle.smv_parser.specs.Openings.{begins_section, formal_of, key_line}
 use Rattle.smv_parser.specs.ProgramReading.{lined, parameters, read_section}
 use Rattle.smv_parser.specs.ProgramView as view

@@ -1,5 +1,5 @@
 use Rattle.std.proofs.Common.{◌≡◌, ◌-◌, ℕ, length, map, List, [], ◌∷◌, sym, ◌∙◌, ap, subst, arith, eqb-true}
-use Rattle.token_readers.specs.Reading.Reading.{found}
+use Rattle.reader_laws.specs.Reading.Reading.{found}
 use Rattle.smv_lexer.specs.Text.{Placed}
 use Rattle.smv_lexer.specs.View.{views}
 use Rattle.smv_parser.specs.Program.{Program}

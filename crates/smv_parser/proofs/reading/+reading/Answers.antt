@@ -4,10 +4,10 @@ use Rattle.std.proofs.lemmas.Result.{err_from_is_err_and}
 use Rattle.smv_lexer.specs.declared.sign.Sign.{Sign}
 use Rattle.smv_lexer.specs.View as tokens
 use Rattle.smv_lexer.specs.View.{views}
-use Rattle.token_readers.specs.Reading.Reading.{found}
-use Rattle.token_readers.specs.Reading.{enclosed, headed, both}
+use Rattle.reader_laws.specs.Reading.Reading.{found}
+use Rattle.reader_laws.specs.Reading.{enclosed, headed, both}
 use Rattle.smv_lexer.specs.declared.keyword.Keyword.{Keyword}
-use Rattle.token_readers.proofs.Readers.{found-then}
+use Rattle.reader_laws.proofs.Readers.{found-then}
 use Rattle.smv_parser.specs.Tests.{is_sign, is_key}
 use Rattle.smv_parser.specs.Tree.{Tree, Form, Part, parts_of, parts_depth, path_on, on_line, depth, trees_depth, trees_of, arms_depth, arms_of}
 use Rattle.smv_parser.specs.Reading.{opens, begins_part, read_part, read, read_until, read_list, pair_of, read_arm, read_arms, arms_pair_of, begins_expression}

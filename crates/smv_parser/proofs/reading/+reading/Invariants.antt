@@ -1,5 +1,5 @@
 use Rattle.std.proofs.Common.{◌≡◌, ◌≤◌, ◌<◌, ◌+◌, ◌*◌, ◌-◌, ◌++◌, ℕ, List, map, length}
-use Rattle.token_readers.specs.Reading.{both, headed}
+use Rattle.reader_laws.specs.Reading.{both, headed}
 use Rattle.smv_lexer.specs.declared.sign.Sign.{Sign}
 use Rattle.smv_lexer.specs.View.{views}
 use Rattle.smv_parser.specs.Reading.{begins_part, read_part, read_parts, read, more, read_list, pair_of, read_arm, read_arms, arms_pair_of, begins_expression}

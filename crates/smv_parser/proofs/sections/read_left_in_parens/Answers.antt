@@ -2,11 +2,11 @@ use Rattle.std.proofs.Common.{◌≡◌, ℕ, List, length, map, sym, ◌∙◌,
 use Rattle.std.proofs.lemmas.Result.{err_from_is_err_and}
 use Rattle.smv_lexer.specs.View as tokens
 use Rattle.smv_lexer.specs.View.{views}
-use Rattle.token_readers.proofs.Readers.{found-then}
+use Rattle.reader_laws.proofs.Readers.{found-then}
 use Rattle.smv_parser.specs.Programs.{greatest_depth}
 use Rattle.smv_parser.proofs.Codes.{Fails-then, enclosed_fails, enclosed_fails_after, enclosed_found, headed_fails, headed_is}
 use Rattle.smv_lexer.specs.declared.sign.Sign.{Sign}
-use Rattle.token_readers.specs.Reading.{enclosed}
+use Rattle.reader_laws.specs.Reading.{enclosed}
 use Rattle.smv_parser.specs.Reading.{read, read_path}
 use Rattle.smv_parser.specs.Tests.{is_sign}
 use Rattle.smv_parser.specs.View.{path_of}

@@ -6,9 +6,9 @@ use Rattle.smv_lexer.specs.declared.sign.Sign.{Sign}
 use Rattle.smv_lexer.specs.Text.{Placed}
 use Rattle.smv_lexer.specs.View as tokens
 use Rattle.smv_lexer.specs.View.{views}
-use Rattle.token_readers.specs.Reading.{accept, enclosed, both}
-use Rattle.token_readers.specs.Reading.Reading.{found}
-use Rattle.token_readers.proofs.Readers.{found-then}
+use Rattle.reader_laws.specs.Reading.{accept, enclosed, both}
+use Rattle.reader_laws.specs.Reading.Reading.{found}
+use Rattle.reader_laws.proofs.Readers.{found-then}
 use Rattle.smv_parser.specs.declared.openings.PlainLead.{PlainLead}
 use Rattle.smv_parser.specs.declared.openings.TypeLead.{TypeLead}
 use Rattle.smv_parser.specs.Openings.{constant_of}

@@ -3,7 +3,7 @@ use Rattle.std.proofs.Common.{◌≡◌, ℕ, ℤ, rules, arith, SFits, w32, to_
 use Rattle.smv_lexer.specs.declared.token.TokenKind.{TokenKind}
 use Rattle.smv_lexer.specs.View as tokens
 use Rattle.smv_lexer.specs.View.{views}
-use Rattle.token_readers.specs.Reading.Reading.{found}
+use Rattle.reader_laws.specs.Reading.Reading.{found}
 use Rattle.smv_parser.specs.Program.{Constant}
 use Rattle.smv_parser.specs.Openings.{constant_in, constant_of, number_constant, on_its_line, truth_in}
 use Rattle.smv_parser.specs.Tests.{natural}

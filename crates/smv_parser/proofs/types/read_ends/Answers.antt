@@ -3,7 +3,7 @@ use Rattle.std.proofs.Common.{rules, arith, SFits, w32, to_z, of_z, ◌≡◌, �
 use Rattle.std.proofs.lemmas.Result.{err_from_is_err_and}
 use Rattle.smv_lexer.specs.declared.sign.Sign.{Sign}
 use Rattle.smv_lexer.specs.View.{views}
-use Rattle.token_readers.specs.Reading.{enclosed}
+use Rattle.reader_laws.specs.Reading.{enclosed}
 use Rattle.smv_parser.specs.Tests.{is_sign}
 use Rattle.smv_parser.specs.ProgramReading.{read_end}
 use Rattle.smv_parser.proofs.Codes.{both_fails, both_fails_after, both_found, enclosed_fails, enclosed_fails_after, enclosed_found}

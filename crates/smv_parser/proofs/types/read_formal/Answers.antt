@@ -1,7 +1,7 @@
 use Rattle.std.proofs.Common.{◌≡◌, ℕ, sym, ◌∙◌, ap}
 use Rattle.std.proofs.lemmas.Result.{err_from_is_err_and}
 use Rattle.smv_lexer.specs.View.{views}
-use Rattle.token_readers.specs.Reading.Reading.{found}
+use Rattle.reader_laws.specs.Reading.Reading.{found}
 use Rattle.smv_parser.specs.ProgramReading.{lined}
 use Rattle.smv_parser.proofs.ItemCodes.{formal_fails, formal_found}
 use Rattle.smv_parser.proofs.types.read_formal.Goals as goal

@@ -1,9 +1,9 @@
 use Rattle.std.proofs.Common.{◌≡◌, List, map, ◌∙◌}
 use Rattle.std.proofs.lemmas.Result.{err_from_is_err_and}
 use Rattle.smv_lexer.specs.View.{views}
-use Rattle.token_readers.specs.Reading.{accept, both}
-use Rattle.token_readers.specs.Reading.Reading.{found}
-use Rattle.token_readers.proofs.Readers.{found-then}
+use Rattle.reader_laws.specs.Reading.{accept, both}
+use Rattle.reader_laws.specs.Reading.Reading.{found}
+use Rattle.reader_laws.proofs.Readers.{found-then}
 use Rattle.smv_parser.specs.Program.{TypeForm}
 use Rattle.smv_parser.specs.ProgramReading.{lined, parameters}
 use Rattle.smv_parser.specs.Programs.{greatest_depth}

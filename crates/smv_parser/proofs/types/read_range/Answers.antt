@@ -2,7 +2,7 @@ use Rattle.std.proofs.Common.{◌≡◌, ◌∙◌}
 use Rattle.std.proofs.lemmas.Result.{err_from_is_err_and}
 use Rattle.smv_lexer.specs.declared.sign.Sign.{Sign}
 use Rattle.smv_lexer.specs.View.{views}
-use Rattle.token_readers.specs.Reading.{accept, enclosed}
+use Rattle.reader_laws.specs.Reading.{accept, enclosed}
 use Rattle.smv_parser.specs.Tests.{is_sign, number_of}
 use Rattle.smv_parser.proofs.Codes.{both_fails, both_fails_after, both_found, enclosed_fails, enclosed_fails_after, enclosed_found}
 use Rattle.smv_parser.proofs.TypeCodes.{range_is}

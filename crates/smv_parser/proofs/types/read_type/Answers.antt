@@ -2,7 +2,7 @@ use Rattle.std.proofs.Common.{◌≡◌, ℕ, length, sym, ◌∙◌, ap}
 use Rattle.std.proofs.lemmas.Result.{err_from_is_err_and}
 use Rattle.smv_lexer.specs.View as tokens
 use Rattle.smv_lexer.specs.View.{views}
-use Rattle.token_readers.proofs.Readers.{found-then}
+use Rattle.reader_laws.proofs.Readers.{found-then}
 use Rattle.smv_parser.specs.Programs.{greatest_depth}
 use Rattle.smv_parser.proofs.Codes.{Fails-then, length-views}
 use Rattle.smv_parser.proofs.TypeCodes.{name_type_is, other_no_type, plain_type_is, process_type_is, type_empty}

@@ -1,0 +1,7 @@
+use Rattle.smv_instances.specs.Program.{Program}
+use Rattle.smv_names.specs.Nodes.{entries_before}
+use Rattle.smv_names.specs.Definitions.{AreDefinedUpTo, AreReady}
+use Rattle.smv_names.proofs.definitions.check_definitions.Given as goal
+
+abbrev pub invariant-loop-i : goal.invariant-loop-i
+invariant-loop-i l = (p : Program) → AreReady p l.instances l.targets l.order l.numbers → AreDefinedUpTo p (entries_before p l.i)

@@ -1,0 +1,12 @@
+use Rattle.smv_instances.specs.Program.{Program}
+use Rattle.graph_order.specs.Graphs.{IsStarted}
+use Rattle.smv_names.specs.Nodes.{entries_before}
+use Rattle.smv_names.specs.Ready.{AreTargets}
+use Rattle.smv_names.specs.Uses.{AreUses}
+use Rattle.smv_names.proofs.uses.graph_of.Given as goal
+
+abbrev pub invariant-loop-i : goal.invariant-loop-i
+invariant-loop-i l = record {
+  started : IsStarted l.graph.firsts.items l.graph.targets.items;
+  uses : (p : Program) → AreTargets p l.instances l.targets → AreUses p l.graph.firsts.items l.graph.targets.items (entries_before p l.i);
+}

@@ -1,0 +1,23 @@
+use Rattle.std.proofs.Common.{◌≡◌, ◌++◌, sym, ◌∙◌, ap, subst, List, map, take}
+use Rattle.smv_instances.specs.Plain.{plain_expr}
+use Rattle.smv_instances.proofs.ListSteps.{take_map, take_whole}
+use Rattle.smv_names.specs.Abbreviations.{Mention, mentions}
+use Rattle.smv_names.specs.Mentions.{plain_mention}
+use Rattle.smv_names.specs.Uses.{AreNamed}
+use Rattle.smv_names.proofs.uses.named_in.Goals as goal
+
+pub loop-mention-preserved : goal.loop-mention-preserved
+loop-mention-preserved c p s are at =
+    let items = c.deref-mention-items.result.now in
+    let k = c.loop-mention.mention-index in
+    subst (λ (ms : List Mention). AreNamed p s ms c.push_fronts.new.numbers.items) (sym (take_map plain_mention items k c.mention-item.result c.loop-mention-test.true c.mention-item.is))
+    (c.in_ok-push_fronts.ensures p s (map plain_mention (take k items)) are at (c.loop-mention.invariant p s are at))
+
+pub returns : goal.returns
+returns c p s are at =
+    let items = c.deref-mention-items.result.now in
+    let all : map plain_mention (take c.loop-mention.mention-index items) ≡ mentions (plain_expr c.args.expr.now) =
+    ap (map plain_mention) (take_whole items c.loop-mention.mention-index c.loop-mention-test.false ∙ c.deref-mention-items.ensures.value)
+    ∙ c.in_ok-push_mentions.ensures
+    ∙ ap (λ ms. map plain_mention ms ++ mentions (plain_expr c.args.expr.now)) c.new-mentions.ensures.items in
+    subst (λ (ms : List Mention). AreNamed p s ms c.loop-mention.numbers.items) all (c.loop-mention.invariant p s are at)

@@ -1,8 +1,0 @@
-use Rattle.std.proofs.Common.{◌+◌}
-use Rattle.smv_instances.specs.Program.{Program}
-use Rattle.smv_paths.specs.Nodes.{entries_before}
-use Rattle.smv_paths.specs.Definitions.{AreDefinedUpTo, AreReady}
-use Rattle.smv_paths.proofs.definitions.check_body.Given as goal
-
-abbrev pub invariant-loop-k : goal.invariant-loop-k
-invariant-loop-k l = (p : Program) → AreReady p l.instances l.targets l.order l.numbers → AreDefinedUpTo p (entries_before p l.i) → AreDefinedUpTo p (entries_before p l.i + l.k)

@@ -1,7 +1,0 @@
-use Rattle.std.proofs.Common.{subst, Option}
-use Rattle.smv_paths.specs.declared.targets.Target.{Target as Held}
-use Rattle.smv_paths.specs.Targets.{LeadsTo}
-use Rattle.smv_paths.proofs.walk.known_outcome.Goals as goal
-
-pub returns-in-None : goal.returns-in-None
-returns-in-None c p states s x leads = subst (λ (o : Option Held). LeadsTo p s x o) c.in-None.is leads
