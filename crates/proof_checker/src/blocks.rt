@@ -7,7 +7,7 @@ ghost use Rattle.proof_checker.specs.Givens.{IsGiven, given_lines};
 ghost use Rattle.proof_checker.specs.NoRoom.{IsNoRoom};
 ghost use Rattle.proof_checker.specs.Ready.{IsClear, IsKept, IsReady};
 
-use crate::counting::{Job, test_job};
+use crate::counting::{Job, Tested, test_job};
 use crate::importing::{Imported, import_numbers};
 use crate::kept::{KeptSets, keep, take};
 use bdd_nodes::{Steps, Triple};
@@ -29,9 +29,6 @@ pub(crate) struct Given<'a> {
     pub(crate) nodes: &'a [Triple],
     pub(crate) proof: &'a Proof<u32>,
 }
-
-/// The sets after a test, and what was found.
-type Tested = (DiagramSets, Result<Option<u64>, SetRefusal>);
 
 /// Tests the proof over these sets, and gives them back without the proof's pins.
 fn tested_over<L: Ledger>(

@@ -33,7 +33,7 @@ pub(crate) struct Job<'a> {
 }
 
 /// The sets after a test, and what was found.
-type Tested = (DiagramSets, Result<Option<u64>, SetRefusal>);
+pub(crate) type Tested = (DiagramSets, Result<Option<u64>, SetRefusal>);
 
 /// Tests the proof in steps that don't fall below the floor.
 fn tested_above<L: Ledger, F: Floor>(steps: Steps<L>, job: Job<'_>) -> (Steps<L>, Tested)

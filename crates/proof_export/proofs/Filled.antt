@@ -6,7 +6,7 @@ use Rattle.std.proofs.lemmas.List.Elements.{All-map}
 use Rattle.std.proofs.lemmas.List.FromFn.{get_or-range_with_len, length-range_with_len}
 use Rattle.proof_form.specs.Form.{Proof, sets_of}
 use Rattle.proof_form.specs.Pinned.{IsFilled}
-use Rattle.proof_export.proofs.Mapped.{sets_mapped}
+use Rattle.proof_form.proofs.Mapped.{sets_mapped}
 
 module _ {A : Type 0} (p : Proof A) (numbers : List ℕ) (q : Proof ℕ)
     (filled : IsFilled p numbers q) where

@@ -1,5 +1,3 @@
-pub mod Mapped
 pub mod Filled
 pub mod Proved
-pub mod DeclaredOrder
 pub mod Listed

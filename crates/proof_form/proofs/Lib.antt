@@ -16,3 +16,4 @@ pub mod Rising
 pub mod ShapeOrder
 pub mod Tables
 pub mod ShapeTests
+pub mod Mapped

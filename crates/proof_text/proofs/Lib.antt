@@ -57,4 +57,5 @@ pub mod FirstBlocks
 pub mod ReadFiles
 pub mod GoodLines
 pub mod FewLines
+pub mod DeclaredOrder
 pub mod WrittenFiles

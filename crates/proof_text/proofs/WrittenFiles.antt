@@ -1,33 +1,22 @@
 -- Blocks that are written one behind the other are spelled.
-use Rattle.std.proofs.Common.{◌≡◌, ℕ, zero, suc, ◌+◌, ◌≤◌, List, [], ◌∷◌, ◌++◌, length, flat_map, refl, sym, ◌∙◌, ap, subst, arith, length-append}
+use Rattle.std.proofs.Common.{◌≡◌, ℕ, ◌+◌, ◌≤◌, List, [], ◌∷◌, ◌++◌, length, flat_map, refl, sym, ◌∙◌, ap, subst, arith, length-append}
 use Rattle.std.specs.Prelude.{All}
 use Rattle.std.specs.List.{range_with_len}
 use Rattle.std.proofs.lemmas.List.Elements.{All-nil, All-cons, All-head, All-tail, All-weaker}
 use Rattle.bit_encode.proofs.Declared.{declared_names}
-use Rattle.bit_encode.specs.Code.{IsOrder, declared, state_bits}
+use Rattle.bit_encode.specs.Code.{IsOrder, state_bits}
 use Rattle.kripke_model.specs.Flat.{IsFlat}
 use Rattle.kripke_model.specs.System.{System}
 use Rattle.proof_text.specs.File.{Block}
 use Rattle.proof_text.specs.Lines.{text_of, header_lines, block_lines}
 use Rattle.proof_text.specs.Spells.{IsBlock, IsGoodLine, HasGoodNodes, most_bytes}
 use Rattle.proof_text.specs.Written.{IsWritable, AreSpelled, own_order}
+use Rattle.proof_text.proofs.DeclaredOrder.{declared_is}
 use Rattle.proof_text.proofs.FewLines.{written_block}
 use Rattle.proof_text.proofs.GoodLines.{blocks_lines_good}
 use Rattle.proof_text.proofs.WrittenLines.{text-append}
 
 -- the order of the variables as a header is written
-range_push : (a n : ℕ) → range_with_len a (suc n) ≡ range_with_len a n ++ (a + n) ∷ []
-range_push a zero = let here : a ≡ a + 0 = omega arith in ap (λ k. k ∷ []) here
-range_push a (suc n) =
-    let next : (a + 1) + n ≡ a + suc n = omega arith in
-    ap (λ xs. a ∷ xs) (range_push (a + 1) n) ∙ ap (λ k. a ∷ (range_with_len (a + 1) n ++ k ∷ [])) next
-
-declared_is : (n : ℕ) → declared n ≡ range_with_len 0 n
-declared_is zero = refl
-declared_is (suc n) =
-    let same : n ≡ 0 + n = omega arith in
-    ap (λ xs. xs ++ n ∷ []) (declared_is n) ∙ ap (λ k. range_with_len 0 n ++ k ∷ []) same ∙ sym (range_push 0 n)
-
 order_is : (n : ℕ) → IsOrder n (range_with_len 0 n)
 order_is n = subst (IsOrder n) (declared_is n) (declared_names n)
 

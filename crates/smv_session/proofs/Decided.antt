@@ -28,7 +28,7 @@ use Rattle.smv_texts.specs.Report.{Finding, Unknown, is_unknown, report}
 use Rattle.smv_texts.specs.Statuses.{status_of}
 use Rattle.smv_texts.specs.declared.ending.Ending.{Ending}
 use Rattle.smv_texts.specs.declared.ending.Ending.TheVariants as endings
-use Rattle.spec_verdicts.specs.Checked.{Checked, EndsWith, LeavesUnknown, SavesProofs, all_unknown}
+use Rattle.spec_verdicts.specs.Checked.{IsChecked, EndsWith, LeavesUnknown, SavesProofs, all_unknown}
 use Rattle.smv_texts.specs.Evidence.{IsMet}
 use Rattle.bit_encode.specs.Enough.{enough}
 use Rattle.spec_verdicts.specs.Verdicts.{EachFinding, IsVerdict, ShowsState, ShowStates}
@@ -98,7 +98,7 @@ module _ (w : Work) (contents : Option Contents) (m : System) (r : Reply) (proof
   finds : Takes w contents m r → Finds m w.limit proofs r
   finds (inl u) = undecided m w.limit proofs r (subst (λ job. Undecides job m w.limit r) is u)
   finds (inr done) =
-      let does : Checked m w.limit proofs r = subst (λ job. Does job m w.limit done.second r) is done.does in
+      let does : IsChecked m w.limit proofs r = subst (λ job. Does job m w.limit done.second r) is done.does in
       record { findings = does.findings; text = does.text; found = record { verdicts = does.verdicts; known = inl done.faultless; told = told_of m proofs does.findings r.saves does.saves; below = below_of m w.limit does.findings r.ending does.ends }; states = does.states; saves = does.saves }
 
 pub verdicts : (s : Session) → TakesModels s → ReportsVerdicts s
@@ -162,7 +162,7 @@ all_of s w m r proofs is le (inl u) shows =
     let below = left.of_limit.1 in
     absurd (omega (arith, le, below))
 all_of s w m r proofs is le (inr done) shows =
-    let does : Checked m w.limit proofs r =
+    let does : IsChecked m w.limit proofs r =
     subst (λ job. Does job m w.limit done.second r) is done.does in
     let found = finds w s.contents m r proofs is (inr done) in
     let ends = enough_ends m w.limit does.findings r.ending le does.ends in (

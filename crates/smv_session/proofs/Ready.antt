@@ -23,7 +23,7 @@ use Rattle.region_sets.specs.declared.pins.Pin.{Pin}
 use Rattle.region_sets.specs.declared.pins.SetRefusal.{SetRefusal}
 use Rattle.region_sets.specs.declared.pins.SetRefusal.TheVariants.{Full}
 use Rattle.region_sets.proofs.Calls.{let_go, then_call}
-use Rattle.smv_session.specs.Relation.{AreOver, IsReady, trial_pins}
+use Rattle.smv_session.specs.Relation.{AreOver, IsBuiltFor, trial_pins}
 use Rattle.smv_session.proofs.Budget.{trial_fits}
 use Rattle.smv_texts.specs.Evidence.{IsMet}
 use Rattle.bit_encode.specs.Enough.{enough, times_enough}
@@ -45,7 +45,7 @@ pub ready_new : (m : System) (limit : ℕ) (p : Parts) (s : Sets) → AreOver m 
       order = (coding_of p).order;
     }
     → s.live ≡ 0 → s.room ≡ room_in (model_of p) (limit_of (store_of p)) → s.fulls ≡ 0
-    → IsReady m limit s
+    → IsBuiltFor m limit s
 ready_new m limit p s are over gauge live spare fulls =
     let levels : levels_of (store_of p) ≡ 2 * state_bits m =
     p.levels ∙ ap (λ types. 2 * bit_count types) p.laid_out
@@ -65,7 +65,7 @@ ready_new m limit p s are over gauge live spare fulls =
 -- ---- a specification is tried
 
 module _ (m : System) (limit j : ℕ) (f : Ctl) (is : spec_formula m j ≡ Some f)
-    (few : state_count m ≤ 2 ^ state_bits m) (a b : Sets) (ready : IsReady m limit a) where
+    (few : state_count m ≤ 2 ^ state_bits m) (a b : Sets) (ready : IsBuiltFor m limit a) where
   none_full : {T : Type 0} {r : Result T SetRefusal} → IsCall (trial_pins m f) a b [] r
       → enough m ≤ limit → b.fulls ≡ 0
   none_full call le =
@@ -75,7 +75,7 @@ module _ (m : System) (limit j : ℕ) (f : Ctl) (is : spec_formula m j ≡ Some 
 
   -- and the sets are ready for the next one
   pub ready_after : {T : Type 0} {r : Result T SetRefusal} → IsCall (trial_pins m f) a b [] r
-      → IsReady m limit b
+      → IsBuiltFor m limit b
   ready_after call = record {
     over = call.pins.over ∙ ready.over;
     gauge = call.pins.gauge ∙ ready.gauge;
@@ -105,9 +105,9 @@ module _ (m : System) (limit j : ℕ) (f : Ctl) (is : spec_formula m j ≡ Some 
       )
 
 -- what is seen is the same
-pub ready_same : (m : System) (limit : ℕ) (a b : Sets) → b ≡ a → IsReady m limit a
-    → IsReady m limit b
-ready_same m limit a b same ready = subst (IsReady m limit) (sym same) ready
+pub ready_same : (m : System) (limit : ℕ) (a b : Sets) → b ≡ a → IsBuiltFor m limit a
+    → IsBuiltFor m limit b
+ready_same m limit a b same ready = subst (IsBuiltFor m limit) (sym same) ready
 
 -- a proof is found, written and released
 pub after_block : {T U : Type 0} {a b c d : Sets} {r : Result T SetRefusal} {q : Result U SetRefusal}

@@ -17,9 +17,9 @@ use Rattle.smv_session.specs.declared.session.Foreseen.{Foreseen}
 use Rattle.smv_session.specs.declared.session.Foreseen.TheVariants as foreseen
 use Rattle.smv_texts.specs.Replies.{IsReply}
 use Rattle.smv_texts.specs.declared.reply.Reply.{Reply}
-use Rattle.spec_verdicts.specs.Checked.{Checked, LeavesUnknown}
+use Rattle.spec_verdicts.specs.Checked.{IsChecked, LeavesUnknown}
 
-pub checked_decides : (m : System) (limit : ℕ) (proofs : Option (List ℕ)) (reply : Reply) → IsFaultless m → IsReply (Checked m limit proofs) reply → IsReply (Decides m limit proofs) reply
+pub checked_decides : (m : System) (limit : ℕ) (proofs : Option (List ℕ)) (reply : Reply) → IsFaultless m → IsReply (IsChecked m limit proofs) reply → IsReply (Decides m limit proofs) reply
 checked_decides m limit proofs reply faultless is = (is.0, is.1, inr (faultless, is.2))
 
 pub unknown_decides : (m : System) (limit : ℕ) (proofs : Option (List ℕ)) (reply : Reply) → IsReply (LeavesUnknown m limit proofs) reply → IsReply (Decides m limit proofs) reply

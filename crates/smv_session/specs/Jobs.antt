@@ -5,7 +5,7 @@ use Rattle.kripke_model.specs.System.{System}
 use Rattle.proof_answers.specs.Rechecked.{Rechecked, LeavesUnanswered}
 use Rattle.smv_outside.specs.Contents.{AreTold, Contents, LeavesOthers, bytes_under}
 use Rattle.smv_texts.specs.Replies.{Reply}
-use Rattle.spec_verdicts.specs.Checked.{Checked, LeavesUnknown}
+use Rattle.spec_verdicts.specs.Checked.{IsChecked, LeavesUnknown}
 
 -- the specifications whose numbers the job names are formulas without path operators
 abbrev pub NamesLeaves : Job → System → Type 0
@@ -32,7 +32,7 @@ Undecides (Recheck proofs) m limit r = LeavesUnanswered m limit r
 
 -- the reply of the job for a model without faults, and for the bytes of its second file
 abbrev pub Does : Job → System → ℕ → Option (List ℕ) → Reply → Type 0
-Does (Decide proofs) m limit second r = Checked m limit proofs r
+Does (Decide proofs) m limit second r = IsChecked m limit proofs r
 Does (Recheck proofs) m limit None r = ⊥
 Does (Recheck proofs) m limit (Some bytes) r = Rechecked m limit bytes r
 

@@ -33,7 +33,7 @@ use Rattle.proof_text.specs.Written.{own_order}
 use Rattle.smv_texts.specs.Outcomes.{outcome_of}
 use Rattle.smv_texts.specs.declared.outcome.Outcome.{Outcome}
 use Rattle.smv_texts.specs.Replies.{Reply}
-use Rattle.spec_verdicts.specs.Checked.{Checked, LeavesUnknown}
+use Rattle.spec_verdicts.specs.Checked.{IsChecked, LeavesUnknown}
 use Rattle.spec_verdicts.specs.Exports.{ProvesOutcome}
 use Rattle.smv_texts.specs.Evidence.{IsMet}
 use Rattle.spec_verdicts.specs.Verdicts.{IsDecided}
@@ -63,7 +63,7 @@ Stops m stops.Memory = Unit {0}
 
 -- The sets are over this model, in a store of this limit, with the variables in declared order, and
 -- none is live. Where the limit is enough there is room, and no store was full.
-pub record IsReady (m : System) (limit : ℕ) (sets : Sets) : Type 0 where
+pub record IsBuiltFor (m : System) (limit : ℕ) (sets : Sets) : Type 0 where
   pub over : sets.over ≡ m
   pub gauge : sets.gauge
       ≡ record { levels = 2 * state_bits m; limit = limit; order = own_order m }
@@ -99,4 +99,4 @@ IsTried m limit proves j f (tried.Full held) = IsMet m limit held
 -- and they were tried
 abbrev pub Decides : System → ℕ → Option (List ℕ) → Reply → Type 0
 Decides m limit proofs r =
-    LeavesUnknown m limit proofs r ⊎ (IsFaultless m × Checked m limit proofs r)
+    LeavesUnknown m limit proofs r ⊎ (IsFaultless m × IsChecked m limit proofs r)

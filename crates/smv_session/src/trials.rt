@@ -6,7 +6,7 @@ ghost use Rattle.fair_fixpoint.specs.Walks.{HasModelLeaves};
 ghost use Rattle.proof_form.specs.Shape.{spec_formula};
 ghost use Rattle.proof_text.specs.Written.{own_order};
 ghost use Rattle.region_sets.specs.Sets.{IsCall};
-ghost use Rattle.smv_session.specs.Relation.{IsReady, IsTrial, IsTried, trial_pins};
+ghost use Rattle.smv_session.specs.Relation.{IsBuiltFor, IsTrial, IsTried, trial_pins};
 
 use bdd_nodes::Held;
 use diagram_sets::DiagramSets;
@@ -120,10 +120,10 @@ pub(crate) fn try_next(
         ≡ own_order model.now }
     requires trial { IsTrial model.now trial }
     ensures ready { (limit : ℕ)
-        → IsReady model.now limit (⟦<DiagramSets as StateSets>⟧.seen sets.old)
-        → OnOk result (IsReady model.now limit (⟦<DiagramSets as StateSets>⟧.seen sets.new)) }
+        → IsBuiltFor model.now limit (⟦<DiagramSets as StateSets>⟧.seen sets.old)
+        → OnOk result (IsBuiltFor model.now limit (⟦<DiagramSets as StateSets>⟧.seen sets.new)) }
     ensures tried { (limit : ℕ)
-        → IsReady model.now limit (⟦<DiagramSets as StateSets>⟧.seen sets.old)
+        → IsBuiltFor model.now limit (⟦<DiagramSets as StateSets>⟧.seen sets.old)
         → IfOk result (IsTried model.now limit trial.entry.proves
         trial.entry.spec (ctl_of trial.entry.formula.now)) }
 {

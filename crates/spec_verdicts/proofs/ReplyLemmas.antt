@@ -18,7 +18,7 @@ use Rattle.smv_texts.specs.declared.outcome.Finding as code_finding
 use Rattle.smv_texts.specs.declared.outcome.Outcome.TheVariants.{Unknown}
 use Rattle.smv_texts.specs.declared.reply.Reply as code
 use Rattle.smv_texts.proofs.Heads.{report_head, report_rest, report_begins}
-use Rattle.spec_verdicts.specs.Checked.{Checked, LeavesUnknown, EndsWith, SavesProofs, all_unknown}
+use Rattle.spec_verdicts.specs.Checked.{IsChecked, LeavesUnknown, EndsWith, SavesProofs, all_unknown}
 use Rattle.spec_verdicts.specs.Exports.{Exports}
 use Rattle.spec_verdicts.specs.Found.{AreFound, IsFoundOf}
 use Rattle.spec_verdicts.specs.Verdicts.{EachFinding}
@@ -35,7 +35,7 @@ gives m fs reply is = record { text = is ∙ report_begins m fs; ending = refl; 
 
 pub checked_reply : (m : System) (limit : ℕ) (proofs : Option (List ℕ)) (found : Findings) (reply : code.Reply) → AreFound m limit proofs m.specs found
     → reply.text.items ≡ report m (map finding_of found.findings.items) → EndsWith m limit (map finding_of found.findings.items) reply.ending → reply.saves ≡ found.saves
-    → IsReply (Checked m limit proofs) reply
+    → IsReply (IsChecked m limit proofs) reply
 checked_reply m limit proofs found reply all text ends saves =
     let fs : List Finding = map finding_of found.findings.items in (
       reported m fs reply.ending (saved_of reply.saves),

@@ -31,7 +31,7 @@ SavesProofs m (Some name) fs saves =
     (bytes : List ℕ) × (saves ≡ Some (name, bytes)) × Exports m fs bytes
 
 -- The specifications were tried: the report of what is found of each.
-pub record Checked (m : System) (limit : ℕ) (proofs : Option (List ℕ)) (r : Reply) : Type 0 where
+pub record IsChecked (m : System) (limit : ℕ) (proofs : Option (List ℕ)) (r : Reply) : Type 0 where
   pub findings : List Finding
   pub text : text_of r ≡ report m findings
   pub verdicts : AreVerdicts m limit findings

@@ -3,7 +3,7 @@ ghost use Rattle.std.specs.Prelude.{◌≡◌, ◌≤◌, ℕ, IfOk, List, Optio
 ghost use Rattle.smv_texts.specs.Evidence.{IsMet};
 ghost use Rattle.smv_texts.specs.Outcomes.{finding_of};
 ghost use Rattle.smv_texts.specs.Replies.{IsReply};
-ghost use Rattle.spec_verdicts.specs.Checked.{Checked, LeavesUnknown, all_unknown as all_are_unknown};
+ghost use Rattle.spec_verdicts.specs.Checked.{IsChecked, LeavesUnknown, all_unknown as all_are_unknown};
 ghost use Rattle.spec_verdicts.specs.Found.{AreFound};
 
 use crate::Findings;
@@ -24,7 +24,7 @@ pub fn checked<'a>(
     requires { length found.findings.items ≤ length model.now.specs }
     ensures { (limit : ℕ) (proofs : Option (List ℕ))
         → AreFound model.now limit proofs model.now.specs found.entry
-        → IfOk result (IsReply (Checked model.now limit proofs)) }
+        → IfOk result (IsReply (IsChecked model.now limit proofs)) }
 {
     let text = report_text(alloc, model, &found.findings)?;
     let Findings {

@@ -1,5 +1,5 @@
 use Rattle.std.proofs.Common.{◌∙◌, length}
-use Rattle.proof_export.proofs.DeclaredOrder.{declared_is}
+use Rattle.proof_text.proofs.DeclaredOrder.{declared_is}
 use Rattle.proof_bench.proofs.measure_over.Goals as goal
 
 pub measure-requires-clause-order : goal.measure-requires-clause-order

@@ -1,5 +1,5 @@
 use Rattle.std.proofs.Common.{◌∙◌, take, ap, length, subst, sym}
-use Rattle.proof_export.proofs.DeclaredOrder.{declared_is}
+use Rattle.proof_text.proofs.DeclaredOrder.{declared_is}
 use Rattle.proof_checker.specs.Ready.{IsKept}
 use Rattle.proof_text.specs.File.{File}
 use Rattle.smv_session.proofs.BlockPlaces.{answered_more, answer_in}
