@@ -6,3 +6,7 @@ pub mod Apply
 pub mod Costs
 pub mod Sizes
 pub mod Lists
+pub mod Bits
+pub mod Values
+pub mod Choices
+pub mod Depth

@@ -3,5 +3,6 @@ pub mod Operation
 pub mod Operand
 pub mod Result
 pub mod Answer
+pub mod Independence
 pub mod Cost
 pub mod Engine

@@ -4,6 +4,7 @@
 
 mod engine;
 mod key;
+pub mod laws;
 mod operand;
 mod operation;
 

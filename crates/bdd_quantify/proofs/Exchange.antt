@@ -5,15 +5,15 @@ use Rattle.std.proofs.Math.Nat.{pow-suc}
 use Rattle.bdd_nodes.specs.declared.triple.Triple.{Triple}
 use Rattle.bdd_nodes.specs.declared.store.Store.{Store}
 use Rattle.bdd_nodes.specs.Table.{IsGoodNode}
-use Rattle.bdd_nodes.specs.Store.{Has, level_of, node_of, value_of, triples, levels_of, Grows, IsNodeOf}
+use Rattle.bdd_nodes.specs.Store.{Has, level_of, node_of, value_of, levels_of, Grows, IsNodeOf}
 use Rattle.bdd_nodes.proofs.Tables.{node_of-has}
-use Rattle.bdd_nodes.proofs.Canonical.{level_of-node, level_of-constant}
 use Rattle.bdd_ops.specs.declared.key.Key.TheVariants.{Rename}
-use Rattle.bdd_ops.specs.Answer.{with_bit, exchanged, key_top, IsAnswer}
-use Rattle.bdd_quantify.specs.Independence.{DependsOnParity}
+use Rattle.bdd_ops.specs.Answer.{with_bit, exchanged, IsAnswer}
+use Rattle.bdd_ops.specs.Independence.{DependsOnParity, DependsOnMoved}
 use Rattle.bdd_quantify.specs.Exchange.{neighbour_of}
-use Rattle.bdd_quantify.proofs.Bits.{cases_parity, with_bit-commutes, exchanged-even, exchanged-odd}
-use Rattle.bdd_quantify.proofs.Values.{depends, value-child, value-made, level-made, value-node, value-constant}
+use Rattle.bdd_ops.proofs.Bits.{cases_parity, with_bit-commutes, exchanged-even, exchanged-odd}
+use Rattle.bdd_ops.proofs.Depth.{IsAnswer-law}
+use Rattle.bdd_ops.proofs.Values.{depends, value-child, value-made, value-node, value-constant}
 
 -- a triple's own level is of the diagram's parity
 abbrev HasParity : Bool → ℕ → Type 0
@@ -105,47 +105,23 @@ neighbour-bit false level h bits =
     let e : level - 1 ≡ 2 * h.0 = omega (arith, h.1) in
     ap (λ l. slice_index_or bits l false) e ∙ sym (exchanged-odd bits h.0) ∙ sym (ap (λ l. slice_index_or (exchanged bits) l false) h.1)
 
+depends-moved : (s : Store) (even : Bool) (f : ℕ) → DependsOnParity s even f → DependsOnMoved s (Rename f even)
+depends-moved s true f p = p
+depends-moved s false f p = tt
+
 -- a constant is its own answer
-pub IsAnswer-constant : (s : Store) (lists : List (List ℕ)) (even : Bool) (f : ℕ) → Has s f → f < 2 → IsAnswer s lists (Rename f even) f
-IsAnswer-constant s lists true f has h = record {
-  operands = has;
-  listed = omega arith;
-  has = has;
-  value = λ bits. value-constant s.nodes.keys f h bits (exchanged bits);
-  deep = omega (arith, level_of-constant s.levels s.nodes.keys f h);
-}
-IsAnswer-constant s lists false f has h = record {
-  operands = has;
-  listed = omega arith;
-  has = has;
-  value = λ bits. value-constant s.nodes.keys f h bits (exchanged bits);
-  deep = omega (arith, level_of-constant s.levels s.nodes.keys f h);
-}
+pub IsAnswer-constant : (s : Store) (lists : List (List ℕ)) (even : Bool) (f : ℕ) → Has s f → DependsOnParity s even f → f < 2 → IsAnswer s lists (Rename f even) f
+IsAnswer-constant s lists even f has p h = IsAnswer-law s lists (Rename f even) f has (omega arith) has (λ bits. value-constant s.nodes.keys f h bits (exchanged bits)) (depends-moved s even f p)
 
 -- the answer of a triple from those of its children
 pub IsAnswer-whole : (old new : Store) → Grows old new → (lists : List (List ℕ)) (f : ℕ) (t : Triple) → node_of old f ≡ Some t → (even : Bool) → DependsOnParity old even f → (low high r : ℕ)
-    → IsAnswer new lists (Rename t.low even) low → IsAnswer new lists (Rename t.high even) high → neighbour_of even t.level < level_of new low → Has new r → IsNodeOf new (neighbour_of even t.level) low high r
-    → IsAnswer new lists (Rename f even) r
-IsAnswer-whole old new g lists f t e even p low high r a b deeper has node = record {
-  operands = g.has f (node_of-has old.nodes.keys f t e).0;
-  listed = omega arith;
-  has = has;
-  value = λ bits.
-      value-made new.levels new.nodes.keys new.good (neighbour_of even t.level) low high r node.equal node.node bits
-      ∙ (λ j. cond (neighbour-bit even t.level (own-level old f t e even p) bits j) (b.value bits j) (a.value bits j))
-      ∙ sym (value-node new.levels new.nodes.keys new.good f t there (exchanged bits));
-  deep = deep even (level-made new.levels new.nodes.keys new.good (neighbour_of even t.level) low high r deeper node.equal node.node);
-}
-  where
-    there : node_of new f ≡ Some t
-    there = g.node f (node_of-has old.nodes.keys f t e).0 ∙ e
-
-    level : level_of new f ≡ t.level
-    level = level_of-node new.levels new.nodes.keys f t there
-
-    deep : (b : Bool) → neighbour_of b t.level ≤ level_of new r → key_top (levels_of new) (triples new) (Rename f b) ≤ level_of new r
-    deep true h = omega (arith, h, level)
-    deep false h = omega (arith, h, level)
+    → IsAnswer new lists (Rename t.low even) low → IsAnswer new lists (Rename t.high even) high → Has new r → IsNodeOf new (neighbour_of even t.level) low high r → IsAnswer new lists (Rename f even) r
+IsAnswer-whole old new g lists f t e even p low high r a b has node =
+    let there = (node_of-has old.nodes.keys f t e).0 in
+    IsAnswer-law new lists (Rename f even) r (g.has f there) (omega arith) has (λ bits.
+    value-made new.levels new.nodes.keys new.good (neighbour_of even t.level) low high r node.equal node.node bits
+    ∙ (λ j. cond (neighbour-bit even t.level (own-level old f t e even p) bits j) (b.value bits j) (a.value bits j))
+    ∙ sym (value-node new.levels new.nodes.keys new.good f t (g.node f there ∙ e) (exchanged bits))) (depends-moved new even f (DependsOnParity-grows old new g even f there p))
 
 -- each side takes at most half of the bound
 half : (levels level top : ℕ) → level < top → level < levels → 2 ^ (levels - top) + 2 ^ (levels - top) ≤ 2 ^ (levels - level)

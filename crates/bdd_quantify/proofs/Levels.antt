@@ -6,7 +6,7 @@ use Rattle.std.proofs.lemmas.List.Kept.{AllPairs-from_increasing}
 use Rattle.std.proofs.lemmas.List.Sorted.{searched}
 use Rattle.std.specs.List.Sorted.{IsStrictlyIncreasing, IsBinarySearchResult}
 use Rattle.std.specs.Ordering.{nat_cmp}
-use Rattle.bdd_quantify.proofs.Choices.{Rises}
+use Rattle.bdd_ops.proofs.Choices.{Rises}
 
 pub rises : (xs : List ℕ) → IsStrictlyIncreasing xs → Rises xs
 rises xs h i j less inside = AllPairs-from_increasing xs h i j 0 less inside

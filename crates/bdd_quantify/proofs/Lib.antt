@@ -1,7 +1,7 @@
-pub mod Bits
-pub mod Values
+pub use Rattle.bdd_ops.proofs.Bits
+pub use Rattle.bdd_ops.proofs.Values
 pub mod Exchange
-pub mod Choices
+pub use Rattle.bdd_ops.proofs.Choices
 pub mod Levels
 pub mod Products
 pub mod Counts

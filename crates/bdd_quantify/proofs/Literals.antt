@@ -1,13 +1,13 @@
 -- On which levels a literal depends.
-use Rattle.std.proofs.Common.{◌≡◌, ◌∙◌, ℕ, ◌+◌, ◌*◌, List, Bool, true, false, Some, refl, sym, subst, arith, if◌then◌else◌}
+use Rattle.std.proofs.Common.{◌≡◌, ◌∙◌, ℕ, ◌+◌, ◌*◌, List, Bool, true, false, Some, sym, subst, arith, if◌then◌else◌}
 use Rattle.std.specs.List.{slice_index_or}
 use Rattle.bdd_nodes.specs.declared.store.Store.{Store}
 use Rattle.bdd_nodes.specs.declared.triple.Triple.{Triple}
 use Rattle.bdd_nodes.specs.Table.{child_of}
 use Rattle.bdd_nodes.specs.Store.{node_of, value_of, triple}
 use Rattle.bdd_ops.specs.Answer.{with_bit}
-use Rattle.bdd_quantify.specs.Independence.{DependsOnParity}
-use Rattle.bdd_quantify.proofs.Bits.{with_bit-other}
+use Rattle.bdd_ops.specs.Independence.{DependsOnParity}
+use Rattle.bdd_ops.proofs.Bits.{with_bit-other}
 
 module _ (s : Store) (a : ℕ) (node : node_of s a ≡ Some (triple 0 0 1))
     (expands : (t : Triple) → node_of s a ≡ Some t → (bits : List Bool) → value_of s a bits ≡ value_of s (child_of bits t) bits)

@@ -1,18 +1,19 @@
 -- Lemmas on conjunctions with quantified levels.
-use Rattle.std.proofs.Common.{◌≡◌, ℕ, ◌+◌, ◌<◌, ◌≤◌, ◌⊎◌, inl, inr, min, max, Bool, true, false, ◌&&◌, ◌||◌, ◌==◌, cond, if◌then◌else◌, List, length, slice_index_or, refl, sym, ap, ◌∙◌, arith}
+use Rattle.std.proofs.Common.{◌≡◌, ℕ, ◌+◌, ◌<◌, ◌≤◌, ◌⊎◌, inl, inr, min, max, Bool, true, false, ◌&&◌, ◌||◌, ◌==◌, cond, if◌then◌else◌, List, [], ◌∷◌, length, slice_index_or, refl, sym, ap, ◌∙◌, arith}
 use Rattle.std.proofs.lemmas.Bool.{cases_lt, eqb-true}
 use Rattle.bdd_nodes.specs.declared.store.Store.{Store}
 use Rattle.bdd_nodes.specs.Store.{Has, level_of, value_of, triples, levels_of, Grows, IsNodeOf}
 use Rattle.bdd_nodes.proofs.Tables.{node_of-some, value_of-false, value_of-true}
-use Rattle.bdd_nodes.proofs.Canonical.{level_of-node, level_of-constant, level_of-bound}
+use Rattle.bdd_nodes.proofs.Canonical.{level_of-node}
 use Rattle.bdd_ops.specs.declared.key.Key.TheVariants.{Exists, AndExists}
 use Rattle.bdd_ops.specs.Operation.{part_of}
-use Rattle.bdd_ops.specs.Answer.{with_bit, some_choice, list_at, meaning_of, key_highest, key_top, lists_named, IsAnswer}
+use Rattle.bdd_ops.specs.Answer.{some_choice, list_at, meaning_of, IsAnswer}
 use Rattle.bdd_ops.proofs.AnswerLemmas.{some_choice-same}
+use Rattle.bdd_ops.proofs.Depth.{IsAnswer-law}
 use Rattle.bdd_ops.proofs.Parts.{part_of-grows, part_of-value, part_of-le, part_of-less, part_of-deeper}
-use Rattle.bdd_quantify.specs.Product.{product_of, IsProduct, IsEntry, key_of}
-use Rattle.bdd_quantify.proofs.Values.{depends, value-above, value-made, level-made}
-use Rattle.bdd_quantify.proofs.Choices.{IsAway, Rises, Ignores, IsBranch, some_choice-ignored, some_choice-branch, some_choice-named}
+use Rattle.bdd_quantify.specs.Product.{product_of, IsProduct, key_of}
+use Rattle.bdd_ops.proofs.Values.{value-above, value-made}
+use Rattle.bdd_ops.proofs.Choices.{IsAway, Rises, Ignores, IsBranch, some_choice-ignored, some_choice-branch, some_choice-named}
 
 and-true : (b : Bool) → (b && true) ≡ b
 and-true true = refl
@@ -36,7 +37,7 @@ false-left : (s : Store) (f g : ℕ) → f ≡ 0 → (bits : List Bool) → (val
 false-left s f g e bits = ap (λ x. value_of s x bits && value_of s g bits) e ∙ ap (λ b. b && value_of s g bits) (value_of-false s.nodes.keys bits)
 
 -- the key means the product
-meaning-key : (s : Store) (lists : List (List ℕ)) (f g p : ℕ) (bits : List Bool) → meaning_of lists (triples s) (key_of f g p) bits ≡ product_of s (list_at lists p) f g bits
+pub meaning-key : (s : Store) (lists : List (List ℕ)) (f g p : ℕ) (bits : List Bool) → meaning_of lists (triples s) (key_of f g p) bits ≡ product_of s (list_at lists p) f g bits
 meaning-key s lists f g p bits = by (g == 1) refl (f == 1) refl
   where
     by : (x : Bool) → (g == 1) ≡ x → (y : Bool) → (f == 1) ≡ y → meaning_of lists (triples s) (if x then Exists f p else (if y then Exists g p else AndExists f g p)) bits ≡ product_of s (list_at lists p) f g bits
@@ -44,46 +45,12 @@ meaning-key s lists f g p bits = by (g == 1) refl (f == 1) refl
     by false e true d = some_choice-same (value_of s g) (λ bs. value_of s f bs && value_of s g bs) (λ bs. sym (true-left s f g (eqb-true f 1 d) bs)) (list_at lists p) bits
     by false e false d = refl
 
-top-key : (s : Store) (f g p : ℕ) → Has s f → Has s g → key_top (levels_of s) (triples s) (key_of f g p) ≡ min (level_of s f) (level_of s g)
-top-key s f g p hf hg = by (g == 1) refl (f == 1) refl
-  where
-    by : (x : Bool) → (g == 1) ≡ x → (y : Bool) → (f == 1) ≡ y → key_top (levels_of s) (triples s) (if x then Exists f p else (if y then Exists g p else AndExists f g p)) ≡ min (level_of s f) (level_of s g)
-    by true e y d = omega (arith, level_of-bound s.levels s.nodes.keys s.good f hf, level_of-constant s.levels s.nodes.keys g (omega (arith, eqb-true g 1 e)))
-    by false e true d = omega (arith, level_of-bound s.levels s.nodes.keys s.good g hg, level_of-constant s.levels s.nodes.keys f (omega (arith, eqb-true f 1 d)))
-    by false e false d = refl
-
-named-key : (f g p : ℕ) → lists_named (key_of f g p) ≡ p + 1
-named-key f g p = by (g == 1) (f == 1)
-  where
-    by : (x y : Bool) → lists_named (if x then Exists f p else (if y then Exists g p else AndExists f g p)) ≡ p + 1
-    by true y = refl
-    by false true = refl
-    by false false = refl
-
-operands-key : (s : Store) (f g p : ℕ) → Has s f → Has s g → Has s (key_highest (key_of f g p))
-operands-key s f g p hf hg = by (g == 1) (f == 1)
-  where
-    by : (x y : Bool) → Has s (key_highest (if x then Exists f p else (if y then Exists g p else AndExists f g p)))
-    by true y = hf
-    by false true = hg
-    by false false = omega arith
-
-pub answer-entry : (s : Store) (lists : List (List ℕ)) (f g r p : ℕ) → IsEntry s lists f g r p → IsAnswer s lists (key_of f g p) r
-answer-entry s lists f g r p a = record {
-  operands = operands-key s f g p a.product.has_f a.product.has_g;
-  listed = omega (arith, a.listed, named-key f g p);
-  has = a.product.has;
-  value = λ bits. a.product.value bits ∙ sym (meaning-key s lists f g p bits);
-  deep = omega (arith, a.product.deep, top-key s f g p a.product.has_f a.product.has_g);
-}
-
 pub product-answer : (s : Store) (lists : List (List ℕ)) (f g r p : ℕ) → Has s f → Has s g → IsAnswer s lists (key_of f g p) r → IsProduct s (list_at lists p) f g r
 product-answer s lists f g r p hf hg a = record {
   has_f = hf;
   has_g = hg;
   has = a.has;
   value = λ bits. a.value bits ∙ meaning-key s lists f g p bits;
-  deep = omega (arith, a.deep, top-key s f g p hf hg);
 }
 
 -- growth keeps a product
@@ -96,7 +63,6 @@ IsProduct-grows old new w ls f g r a = record {
   has_g = w.has g a.has_g;
   has = w.has r a.has;
   value = λ bits. w.value r a.has bits ∙ a.value bits ∙ sym (product-grows old new w ls f g a.has_f a.has_g bits);
-  deep = omega (arith, a.deep, w.level f a.has_f, w.level g a.has_g, w.level r a.has);
 }
 
 -- the value before the call
@@ -112,36 +78,23 @@ exists-before old new w ls f r hf a bits =
 product-constant : (s : Store) (ls : List ℕ) (f g : ℕ) (b : Bool) → ((bits : List Bool) → (value_of s f bits && value_of s g bits) ≡ b) → (bits : List Bool) → product_of s ls f g bits ≡ b
 product-constant s ls f g b h bits = some_choice-same (λ bs. value_of s f bs && value_of s g bs) (λ bs. b) h ls bits ∙ some_choice-ignored (λ bs. b) ls (λ k inside bs c. refl) bits
 
-min-bound : (s : Store) (f g : ℕ) → Has s f → min (level_of s f) (level_of s g) ≤ levels_of s
-min-bound s f g hf = omega (arith, level_of-bound s.levels s.nodes.keys s.good f hf)
-
 pub IsProduct-constant : (s : Store) (ls : List ℕ) (f g r : ℕ) → Has s f → Has s g → ((r ≡ 0) × ((f ≡ 0) ⊎ (g ≡ 0))) ⊎ ((r ≡ 1) × (f ≡ 1) × (g ≡ 1)) → IsProduct s ls f g r
 IsProduct-constant s ls f g r hf hg (inl h) = record {
   has_f = hf;
   has_g = hg;
   has = omega (arith, h.0);
   value = λ bits. ap (λ x. value_of s x bits) h.0 ∙ value_of-false s.nodes.keys bits ∙ sym (product-constant s ls f g false (elim h.1 [ inl e ↦ false-left s f g e | inr e ↦ false-right s f g e ]) bits);
-  deep = omega (arith, min-bound s f g hf, level_of-constant s.levels s.nodes.keys r (omega (arith, h.0)));
 }
 IsProduct-constant s ls f g r hf hg (inr h) = record {
   has_f = hf;
   has_g = hg;
   has = omega (arith, h.0);
   value = λ bits. ap (λ x. value_of s x bits) h.0 ∙ value_of-true s.nodes.keys bits ∙ sym (product-constant s ls f g true (λ bs. true-left s f g h.1 bs ∙ ap (λ x. value_of s x bs) h.2 ∙ value_of-true s.nodes.keys bs) bits);
-  deep = omega (arith, min-bound s f g hf, level_of-constant s.levels s.nodes.keys r (omega (arith, h.0)));
 }
 
--- a diagram that doesn't depend on the levels before one lies there or deeper
-level-deep : (s : Store) (r d : ℕ) → Has s r → d ≤ levels_of s → ((l : ℕ) → l < d → Ignores (value_of s r) l) → d ≤ level_of s r
-level-deep s r d has bound h = elim (cases_lt (level_of s r) d) [
-  | inl less ↦ elim (cases_lt r 2) [
-    | inl constant ↦ omega (arith, level_of-constant s.levels s.nodes.keys r constant)
-    | inr some ↦
-        let node = node_of-some s.nodes.keys r has some in
-        absurd (depends s.levels s.nodes.keys s.good r node.0 node.1 (h node.0.level (omega (arith, level_of-node s.levels s.nodes.keys r node.0 node.1))))
-  ]
-  | inr more ↦ more
-]
+-- a product lies at the level of its operands or deeper
+product-deep : (s : Store) (ls : List ℕ) (f g r : ℕ) → IsProduct s ls f g r → min (level_of s f) (level_of s g) ≤ level_of s r
+product-deep s ls f g r a = (IsAnswer-law s (ls ∷ []) (AndExists f g 0) r (omega (arith, a.has_f, a.has_g)) (omega arith) a.has a.value tt).deep
 
 -- the conjunction, where no named level is left
 pub IsProduct-past : (old new : Store) → Grows old new → (ls : List ℕ) (f g level r : ℕ) → Has old f → Has old g → level ≡ min (level_of old f) (level_of old g) → ((k : ℕ) → k < length ls → slice_index_or ls k 0 < level)
@@ -151,13 +104,6 @@ IsProduct-past old new w ls f g level r hf hg top past has value = record {
   has_g = w.has g hg;
   has = has;
   value = λ bits. value bits ∙ sym (product-grows old new w ls f g hf hg bits ∙ some_choice-ignored (λ bs. value_of old f bs && value_of old g bs) ls (λ k inside. ignores (slice_index_or ls k 0) (past k inside)) bits);
-  deep = omega (
-    arith,
-    w.level f hf,
-    w.level g hg,
-    top,
-    level-deep new r level has (omega (arith, top, min-bound old f g hf, w.levels)) (λ l less bits b. value (with_bit bits l b) ∙ ignores l less bits b ∙ sym (value bits)),
-  );
 }
   where
     ignores : (l : ℕ) → l < level → Ignores (λ bs. value_of old f bs && value_of old g bs) l
@@ -243,7 +189,7 @@ module _ (s : Store) (f g level fl gl fh gh : ℕ) (a : AreSides s f g level fl 
 
   module _ (ls : List ℕ) (low high : ℕ) (p : IsProduct s ls fl gl low) where
     pub low-deeper : level < level_of s low
-    low-deeper = omega (arith, p.deep, sides-low.deep_x, sides-low.deep_y)
+    low-deeper = omega (arith, product-deep s ls fl gl low p, sides-low.deep_x, sides-low.deep_y)
 
     -- a named level: either side
     named-value : Rises ls → (k : ℕ) → k < length ls → slice_index_or ls k 0 ≡ level → (bits : List Bool) → product_of s ls f g bits ≡ (product_of s ls fl gl bits || product_of s ls fh gh bits)
@@ -259,7 +205,6 @@ module _ (s : Store) (f g level fl gl fh gh : ℕ) (a : AreSides s f g level fl 
       has_g = a.has_g;
       has = p.has;
       value = λ bits. is_true bits ∙ sym (named-value rises k inside at bits ∙ ap (λ x. x || product_of s ls fh gh bits) (sym (p.value bits) ∙ is_true bits));
-      deep = omega (arith, min-bound s f g a.has_f, level_of-constant s.levels s.nodes.keys low (omega arith));
     }
       where
         is_true : (bits : List Bool) → value_of s low bits ≡ true
@@ -267,7 +212,7 @@ module _ (s : Store) (f g level fl gl fh gh : ℕ) (a : AreSides s f g level fl 
 
     module _ (q : IsProduct s ls fh gh high) where
       pub high-deeper : level < level_of s high
-      high-deeper = omega (arith, q.deep, sides-high.deep_x, sides-high.deep_y)
+      high-deeper = omega (arith, product-deep s ls fh gh high q, sides-high.deep_x, sides-high.deep_y)
 
       -- the disjunction of both sides
       pub IsProduct-union : (new : Store) → Grows s new → Rises ls → (k : ℕ) → k < length ls → slice_index_or ls k 0 ≡ level → (r : ℕ) → Has new r → ((bits : List Bool) → value_of new r bits ≡ (value_of s low bits || value_of s high bits)) → IsProduct new ls f g r
@@ -276,16 +221,6 @@ module _ (s : Store) (f g level fl gl fh gh : ℕ) (a : AreSides s f g level fl 
         has_g = w.has g a.has_g;
         has = has;
         value = λ bits. value bits ∙ (λ j. p.value bits j || q.value bits j) ∙ sym (product-grows s new w ls f g a.has_f a.has_g bits ∙ named-value rises k inside at bits);
-        deep = omega (
-          arith,
-          a.top,
-          w.level f a.has_f,
-          w.level g a.has_g,
-          level-deep new r level has (omega (arith, sides-inside, w.levels)) (λ l less bits b.
-              value (with_bit bits l b)
-              ∙ (λ j. value-above s.levels s.nodes.keys s.good low p.has l (omega (arith, low-deeper)) bits b j || value-above s.levels s.nodes.keys s.good high q.has l (omega (arith, high-deeper)) bits b j)
-              ∙ sym (value bits)),
-        );
       }
 
       -- the triple of both sides
@@ -298,5 +233,4 @@ module _ (s : Store) (f g level fl gl fh gh : ℕ) (a : AreSides s f g level fl 
             value-made s.levels s.nodes.keys s.good level low high r node.equal node.node bits
             ∙ (λ j. cond (slice_index_or bits level false) (q.value bits j) (p.value bits j))
             ∙ sym (some_choice-branch level (λ bs. value_of s f bs && value_of s g bs) (λ bs. value_of s fh bs && value_of s gh bs) (λ bs. value_of s fl bs && value_of s gl bs) branch ls away bits);
-        deep = omega (arith, a.top, level-made s.levels s.nodes.keys s.good level low high r low-deeper node.equal node.node);
       }

@@ -4,7 +4,7 @@ use Rattle.bdd_nodes.specs.declared.store.Store.{Store}
 use Rattle.bdd_nodes.specs.Store.{Has, level_of, value_of, Grows, IsNodeOf}
 use Rattle.bdd_ops.specs.Answer.{list_at, some_choice}
 use Rattle.bdd_quantify.specs.Product.{IsProduct, IsEntry}
-use Rattle.bdd_quantify.proofs.Choices.{IsAway, Rises}
+use Rattle.bdd_ops.proofs.Choices.{IsAway, Rises}
 use Rattle.bdd_quantify.proofs.Products.{IsProduct-past, IsProduct-grows, AreSides, AreSides-grows, IsProduct-union, IsProduct-node, exists-before}
 
 -- what is so of the list at a place is so of the list

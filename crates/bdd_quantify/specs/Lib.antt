@@ -1,3 +1,3 @@
-pub mod Independence
+pub use Rattle.bdd_ops.specs.Independence
 pub mod Exchange
 pub mod Product

@@ -1,7 +1,7 @@
 -- The conjunction of two diagrams with some levels quantified.
-use Rattle.std.specs.Prelude.{◌≡◌, ℕ, ◌+◌, ◌≤◌, Bool, ◌&&◌, ◌==◌, if◌then◌else◌, min, List, length}
+use Rattle.std.specs.Prelude.{◌≡◌, ℕ, ◌+◌, ◌≤◌, Bool, ◌&&◌, ◌==◌, if◌then◌else◌, List, length}
 use Rattle.bdd_nodes.specs.declared.store.Store.{Store}
-use Rattle.bdd_nodes.specs.Store.{Has, level_of, value_of}
+use Rattle.bdd_nodes.specs.Store.{Has, value_of}
 use Rattle.bdd_ops.specs.declared.key.Key.{Key}
 use Rattle.bdd_ops.specs.declared.key.Key.TheVariants.{Exists, AndExists}
 use Rattle.bdd_ops.specs.Answer.{some_choice, list_at}
@@ -16,7 +16,6 @@ pub record IsProduct (s : Store) (levels : List ℕ) (f g r : ℕ) : Type 0 wher
   pub has_g : Has s g
   pub has : Has s r
   pub value : (bits : List Bool) → value_of s r bits ≡ product_of s levels f g bits
-  pub deep : min (level_of s f) (level_of s g) ≤ level_of s r
 
 -- the same by the list that stands at a place
 pub record IsEntry (s : Store) (lists : List (List ℕ)) (f g r p : ℕ) : Type 0 where

@@ -5,6 +5,7 @@ ghost use Rattle.bdd_ops.specs.Answer.{list_at};
 ghost use Rattle.bdd_quantify.specs.Product.{IsProduct, IsEntry, key_of};
 
 use bdd_nodes::Ref;
+use bdd_ops::laws::answer_law;
 use bdd_ops::{Engine, Key};
 
 /// The key of a conjunction with the levels of a list quantified. A true operand is left out, so
@@ -46,6 +47,7 @@ pub(crate) fn remember(engine: &mut Engine, f: Ref, g: Ref, place: Option<u32>, 
     ensures refused { refused_of engine.old ≤ refused_of engine.new }
 {
     if let Some(place) = place {
+        answer_law(engine, key(f, g, place), answer);
         engine.remember(key(f, g, place), answer);
     }
 }

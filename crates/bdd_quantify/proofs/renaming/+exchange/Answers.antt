@@ -8,13 +8,13 @@ use Rattle.bdd_ops.specs.Answer.{IsAnswer}
 use Rattle.bdd_ops.specs.declared.key.Key.TheVariants.{Rename}
 use Rattle.bdd_ops.proofs.AnswerLemmas.{IsAnswer-grows}
 use Rattle.bdd_ops.proofs.Apply.{false-stays}
-use Rattle.bdd_quantify.specs.Independence.{DependsOnParity}
+use Rattle.bdd_ops.specs.Independence.{DependsOnParity}
 use Rattle.bdd_quantify.specs.Exchange.{neighbour_of}
 use Rattle.bdd_quantify.proofs.Exchange.{neighbour-inside, neighbour-some, IsChild, IsChild-node, IsChild-grows, deeper-answer, IsAnswer-constant, IsAnswer-whole, count-low, count-high}
 use Rattle.bdd_quantify.proofs.renaming.+exchange.Goals as goal
 
 pub returns-in_default-clause-answer : goal.returns-in_default-clause-answer
-returns-in_default-clause-answer g t c = IsAnswer-constant c.args.engine.now.store (lists_of c.args.engine.now) c.args.to_next c.args.f c.requires.has c.in_default.ensures.none
+returns-in_default-clause-answer g t c = IsAnswer-constant c.args.engine.now.store (lists_of c.args.engine.now) c.args.to_next c.args.f c.requires.has c.requires.parity c.in_default.ensures.none
 
 pub exchange-requires : goal.exchange-requires
 exchange-requires g t c =
@@ -301,10 +301,9 @@ remember-requires g t c =
     let last = lists_of c.make.new.self in
     let low_last : IsAnswer t3 last (Rename u.low even) c.in_ok-low.low = IsAnswer-grows t2 t3 g3 last (Rename u.low even) c.in_ok-low.low (subst (λ l. IsAnswer t2 l (Rename u.low even) c.in_ok-low.low) (sym c.make.ensures.lists) low_answer) in
     let high_last : IsAnswer t3 last (Rename u.high even) c.in_ok-high.high = IsAnswer-grows t2 t3 g3 last (Rename u.high even) c.in_ok-high.high (subst (λ l. IsAnswer t2 l (Rename u.high even) c.in_ok-high.high) (sym c.make.ensures.lists) high_answer) in
-    let deep : neighbour_of even u.level < level_of t3 c.in_ok-low.low = deeper-answer t3 last even f u.level u.low c.in_ok-low.low (omega (arith, inside, g13.levels)) some (IsChild-grows s t3 g13 even f u.level u.low low_child) low_last in
     let same : c.neighbour.result ≡ neighbour_of even u.level = c.neighbour.ensures in
     let made : IsNodeOf t3 (neighbour_of even u.level) c.in_ok-low.low c.in_ok-high.high c.in_ok-made.made = subst (λ l. IsNodeOf t3 l c.in_ok-low.low c.in_ok-high.high c.in_ok-made.made) same c.in_ok-made.ensures.node in
-    let whole : IsAnswer t3 last (Rename f even) c.in_ok-made.made = IsAnswer-whole s t3 g13 last f u node even parity c.in_ok-low.low c.in_ok-high.high c.in_ok-made.made low_last high_last deep c.in_ok-made.ensures.has made in
+    let whole : IsAnswer t3 last (Rename f even) c.in_ok-made.made = IsAnswer-whole s t3 g13 last f u node even parity c.in_ok-low.low c.in_ok-high.high c.in_ok-made.made low_last high_last c.in_ok-made.ensures.has made in
     whole
 
 pub returns-clause-answer : goal.returns-clause-answer
@@ -336,10 +335,9 @@ returns-clause-answer g t c =
     let last = lists_of c.make.new.self in
     let low_last : IsAnswer t3 last (Rename u.low even) c.in_ok-low.low = IsAnswer-grows t2 t3 g3 last (Rename u.low even) c.in_ok-low.low (subst (λ l. IsAnswer t2 l (Rename u.low even) c.in_ok-low.low) (sym c.make.ensures.lists) low_answer) in
     let high_last : IsAnswer t3 last (Rename u.high even) c.in_ok-high.high = IsAnswer-grows t2 t3 g3 last (Rename u.high even) c.in_ok-high.high (subst (λ l. IsAnswer t2 l (Rename u.high even) c.in_ok-high.high) (sym c.make.ensures.lists) high_answer) in
-    let deep : neighbour_of even u.level < level_of t3 c.in_ok-low.low = deeper-answer t3 last even f u.level u.low c.in_ok-low.low (omega (arith, inside, g13.levels)) some (IsChild-grows s t3 g13 even f u.level u.low low_child) low_last in
     let same : c.neighbour.result ≡ neighbour_of even u.level = c.neighbour.ensures in
     let made : IsNodeOf t3 (neighbour_of even u.level) c.in_ok-low.low c.in_ok-high.high c.in_ok-made.made = subst (λ l. IsNodeOf t3 l c.in_ok-low.low c.in_ok-high.high c.in_ok-made.made) same c.in_ok-made.ensures.node in
-    let whole : IsAnswer t3 last (Rename f even) c.in_ok-made.made = IsAnswer-whole s t3 g13 last f u node even parity c.in_ok-low.low c.in_ok-high.high c.in_ok-made.made low_last high_last deep c.in_ok-made.ensures.has made in
+    let whole : IsAnswer t3 last (Rename f even) c.in_ok-made.made = IsAnswer-whole s t3 g13 last f u node even parity c.in_ok-low.low c.in_ok-high.high c.in_ok-made.made low_last high_last c.in_ok-made.ensures.has made in
     let e = c.remember.ensures.store in let k = c.remember.ensures.lists in subst (λ x. IsAnswer x (lists_of c.remember.new.self) (Rename f even) c.in_ok-made.made) (sym e) (subst (λ l. IsAnswer t3 l (Rename f even) c.in_ok-made.made) (sym k) whole)
 
 pub returns-clause-false_stays : goal.returns-clause-false_stays
@@ -376,10 +374,9 @@ returns-clause-grows g t c =
     let last = lists_of c.make.new.self in
     let low_last : IsAnswer t3 last (Rename u.low even) c.in_ok-low.low = IsAnswer-grows t2 t3 g3 last (Rename u.low even) c.in_ok-low.low (subst (λ l. IsAnswer t2 l (Rename u.low even) c.in_ok-low.low) (sym c.make.ensures.lists) low_answer) in
     let high_last : IsAnswer t3 last (Rename u.high even) c.in_ok-high.high = IsAnswer-grows t2 t3 g3 last (Rename u.high even) c.in_ok-high.high (subst (λ l. IsAnswer t2 l (Rename u.high even) c.in_ok-high.high) (sym c.make.ensures.lists) high_answer) in
-    let deep : neighbour_of even u.level < level_of t3 c.in_ok-low.low = deeper-answer t3 last even f u.level u.low c.in_ok-low.low (omega (arith, inside, g13.levels)) some (IsChild-grows s t3 g13 even f u.level u.low low_child) low_last in
     let same : c.neighbour.result ≡ neighbour_of even u.level = c.neighbour.ensures in
     let made : IsNodeOf t3 (neighbour_of even u.level) c.in_ok-low.low c.in_ok-high.high c.in_ok-made.made = subst (λ l. IsNodeOf t3 l c.in_ok-low.low c.in_ok-high.high c.in_ok-made.made) same c.in_ok-made.ensures.node in
-    let whole : IsAnswer t3 last (Rename f even) c.in_ok-made.made = IsAnswer-whole s t3 g13 last f u node even parity c.in_ok-low.low c.in_ok-high.high c.in_ok-made.made low_last high_last deep c.in_ok-made.ensures.has made in
+    let whole : IsAnswer t3 last (Rename f even) c.in_ok-made.made = IsAnswer-whole s t3 g13 last f u node even parity c.in_ok-low.low c.in_ok-high.high c.in_ok-made.made low_last high_last c.in_ok-made.ensures.has made in
     subst (λ x. Grows x c.remember.new.self.store) c.recall.ensures.store (subst (λ x. Grows s x) (sym c.remember.ensures.store) g13)
 
 pub returns-clause-count : goal.returns-clause-count

@@ -1,7 +1,8 @@
 -- Lemmas on choices of bits.
-use Rattle.std.proofs.Common.{◌≡◌, ◌≢◌, ℕ, zero, suc, ◌<◌, Bool, true, false, ◌||◌, cond, List, [], ◌∷◌, length, slice_index_or, refl, sym, ap, ◌∙◌, arith}
+use Rattle.std.proofs.Common.{◌≡◌, ◌≢◌, ℕ, zero, suc, ◌<◌, inl, inr, Bool, true, false, ◌||◌, cond, List, [], ◌∷◌, length, slice_index_or, refl, sym, ap, subst, ◌∙◌, arith}
+use Rattle.std.proofs.lemmas.Bool.{cases_eq}
 use Rattle.bdd_ops.specs.Answer.{with_bit, some_choice}
-use Rattle.bdd_quantify.proofs.Bits.{with_bit-same, with_bit-other, with_bit-commutes}
+use Rattle.bdd_ops.proofs.Bits.{with_bit-same, with_bit-other, with_bit-commutes}
 
 -- the level is none of these
 abbrev pub IsAway : ℕ → List ℕ → Type 0
@@ -47,12 +48,14 @@ some_choice-ignored v (m ∷ ms) h bits =
     ∙ or-same (v bits)
 
 -- a level that doesn't matter before the choice doesn't after it
-pub some_choice-ignores : (v : List Bool → Bool) (l : ℕ) → Ignores v l → (ls : List ℕ) → IsAway l ls → Ignores (some_choice v ls) l
-some_choice-ignores v l h [] away bits b = h bits b
-some_choice-ignores v l h (m ∷ ms) away bits b =
-    let other : l ≢ m = λ e. away zero (omega arith) (sym e) in
-    let side : (x : Bool) → some_choice v ms (with_bit (with_bit bits l b) m x) ≡ some_choice v ms (with_bit bits m x) = λ x.
-    ap (some_choice v ms) (with_bit-commutes bits l m b x other) ∙ some_choice-ignores v l h ms (λ k inside. away (suc k) (omega arith)) (with_bit bits m x) b in
+pub some_choice-ignores : (v : List Bool → Bool) (l : ℕ) → Ignores v l → (ls : List ℕ) → Ignores (some_choice v ls) l
+some_choice-ignores v l h [] bits b = h bits b
+some_choice-ignores v l h (m ∷ ms) bits b =
+    let rest : Ignores (some_choice v ms) l = λ bs c. some_choice-ignores v l h ms bs c in
+    let side : (x : Bool) → some_choice v ms (with_bit (with_bit bits l b) m x) ≡ some_choice v ms (with_bit bits m x) = λ x. elim (cases_eq l m) [
+      | inl e ↦ subst (λ k. some_choice v ms (with_bit (with_bit bits l b) k x) ≡ some_choice v ms (with_bit bits k x)) e (rest (with_bit bits l b) x ∙ rest bits b ∙ sym (rest bits x))
+      | inr other ↦ ap (some_choice v ms) (with_bit-commutes bits l m b x other) ∙ rest (with_bit bits m x) b
+    ] in
     λ j. side false j || side true j
 
 -- a value that a level's bit chooses
@@ -75,7 +78,7 @@ pub some_choice-named : (l : ℕ) (v high low : List Bool → Bool) → IsBranch
     → (bits : List Bool) → some_choice v ls bits ≡ (some_choice low ls bits || some_choice high ls bits)
 some_choice-named l v high low h a b [] rises k inside at bits = absurd (omega arith)
 some_choice-named l v high low h a b (m ∷ ms) rises zero inside at bits =
-    (λ j. (side false ∙ some_choice-ignores low l b ms away bits false) j || (side true ∙ some_choice-ignores high l a ms away bits true) j)
+    (λ j. (side false ∙ some_choice-ignores low l b ms bits false) j || (side true ∙ some_choice-ignores high l a ms bits true) j)
     ∙ or-twice (some_choice low ms bits) (some_choice high ms bits)
     ∙ sym (λ j. (same low b false j || same low b true j) || (same high a false j || same high a true j))
   where
@@ -89,7 +92,7 @@ some_choice-named l v high low h a b (m ∷ ms) rises zero inside at bits =
         ∙ ap (λ y. cond y (some_choice high ms (with_bit bits l x)) (some_choice low ms (with_bit bits l x))) (with_bit-same bits l x)
 
     same : (w : List Bool → Bool) → Ignores w l → (x : Bool) → some_choice w ms (with_bit bits m x) ≡ some_choice w ms bits
-    same w i x = ap (λ y. some_choice w ms (with_bit bits y x)) at ∙ some_choice-ignores w l i ms away bits x
+    same w i x = ap (λ y. some_choice w ms (with_bit bits y x)) at ∙ some_choice-ignores w l i ms bits x
 some_choice-named l v high low h a b (m ∷ ms) rises (suc k) inside at bits =
     let side : (x : Bool) → some_choice v ms (with_bit bits m x) ≡ (some_choice low ms (with_bit bits m x) || some_choice high ms (with_bit bits m x)) = λ x.
     some_choice-named l v high low h a b ms (λ i j lt within. rises (suc i) (suc j) (omega arith) (omega arith)) k (omega arith) at (with_bit bits m x) in
