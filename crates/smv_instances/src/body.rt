@@ -25,7 +25,8 @@ use std::alloc::Global;
 /// Whether a module of this name is on the way from `main` to the instance.
 fn is_on_way(modules: &Modules<'_>, rows: &[Row<'_>], number: usize, name: &Name) -> bool
     requires { IsInside modules.now rows.now number }
-    ensures { (done : List Scope) (s : Scope) → AreRows modules.now rows.now done → slice_get done number ≡ Some s → result ≡ list_any (bytes_eq name.now) (modules_to s) }
+    ensures { (done : List Scope) (s : Scope) → AreRows modules.now rows.now done
+        → slice_get done number ≡ Some s → result ≡ list_any (bytes_eq name.now) (modules_to s) }
 {
     let row = &rows[number];
     let table = &modules.tables[row.table];
@@ -51,7 +52,11 @@ fn check_instance(
 ) -> Result<Counts, FlatRefusal>
     requires known { IsKnown modules.now }
     requires inside { IsInside modules.now rows.now number }
-    ensures { (p : Plain) (done : List Scope) (s : Scope) (es : List Stood) (e : Stood) → AreModules modules.now p → AreRows modules.now rows.now done → slice_get done number ≡ Some s → IsCounts counts.now es → e.entity ≡ Kind.Instance process name.now (map plain_expr actuals.now) → Counted p s es e line result }
+    ensures { (p : Plain) (done : List Scope) (s : Scope) (es : List Stood) (e : Stood)
+        → AreModules modules.now p → AreRows modules.now rows.now done
+        → slice_get done number ≡ Some s → IsCounts counts.now es
+        → e.entity ≡ Kind.Instance process name.now (map plain_expr actuals.now)
+        → Counted p s es e line result }
 {
     let Some(place) = modules.names.place(name.as_str()) else {
         return Err(FlatRefusal::UnknownName { line });
@@ -78,7 +83,10 @@ fn count_entry(
 ) -> Result<Counts, FlatRefusal>
     requires known { IsKnown modules.now }
     requires inside { IsInside modules.now rows.now number }
-    ensures { (p : Plain) (done : List Scope) (s : Scope) (es : List Stood) → AreModules modules.now p → AreRows modules.now rows.now done → slice_get done number ≡ Some s → IsCounts counts.now es → Counted p s es (plain_entry entry.now) entry.now.line result }
+    ensures { (p : Plain) (done : List Scope) (s : Scope) (es : List Stood)
+        → AreModules modules.now p → AreRows modules.now rows.now done
+        → slice_get done number ≡ Some s → IsCounts counts.now es
+        → Counted p s es (plain_entry entry.now) entry.now.line result }
 {
     match &entry.entity {
         Entity::Parameter | Entity::Defined(_) => Ok(*counts),
@@ -95,7 +103,8 @@ fn count_entry(
 
 /// Whether a process instance of `main` has the name of process 0.
 fn is_second_main(row: &Row<'_>, entry: &Entry<'_>) -> bool
-    ensures { (done : List Scope) (number : ℕ) (s : Scope) → IsStep done number row.now.step s → IsTrue result ↔ IsSecondMain s (plain_entry entry.now) }
+    ensures { (done : List Scope) (number : ℕ) (s : Scope) → IsStep done number row.now.step s
+        → IsTrue result ↔ IsSecondMain s (plain_entry entry.now) }
 {
     row.step.is_none()
         && matches!(&entry.entity, Entity::Instance { process: true, .. })
@@ -113,7 +122,11 @@ fn count_entries(
 ) -> Result<Counts, FlatRefusal>
     requires known { IsKnown modules.now }
     requires inside { IsInside modules.now rows.now number }
-    ensures { (p : Plain) (done before : List Scope) (s : Scope) → AreModules modules.now p → AreRows modules.now rows.now done → slice_get done number ≡ Some s → IsCounts counts.now (entries_of before) → IsFresh (map (λ e. e.name) (map plain_entry entries.now)) → CountsBody p before s (map plain_entry entries.now) result }
+    ensures { (p : Plain) (done before : List Scope) (s : Scope) → AreModules modules.now p
+        → AreRows modules.now rows.now done → slice_get done number ≡ Some s
+        → IsCounts counts.now (entries_of before)
+        → IsFresh (map (λ e. e.name) (map plain_entry entries.now))
+        → CountsBody p before s (map plain_entry entries.now) result }
 {
     let row = &rows[number];
     let mut so_far = *counts;
@@ -136,7 +149,9 @@ pub fn check_body(
 ) -> Result<Counts, FlatRefusal>
     requires known { IsKnown modules.now }
     requires inside { IsInside modules.now rows.now number }
-    ensures { (p : Plain) (done before : List Scope) (s : Scope) → AreModules modules.now p → AreRows modules.now rows.now done → slice_get done number ≡ Some s → IsCounts counts.now (entries_of before) → ChecksBody p before s result }
+    ensures { (p : Plain) (done before : List Scope) (s : Scope) → AreModules modules.now p
+        → AreRows modules.now rows.now done → slice_get done number ≡ Some s
+        → IsCounts counts.now (entries_of before) → ChecksBody p before s result }
 {
     let row = &rows[number];
     let table = &modules.tables[row.table];

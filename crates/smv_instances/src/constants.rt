@@ -22,7 +22,10 @@ use std::alloc::{AllocError, Global};
 
 // Adds a constant that is a name.
 fn add_constant<'p>(symbols: &mut Names<'p>, constant: &'p Constant) -> Result<(), AllocError>
-    ensures { (seen : List Text) → symbols.old ≡ distinct_names seen → IfOk result (λ _. symbols.new ≡ distinct_names (seen ++ cons_option (atom (plain_constant constant.now)) [])) }
+    ensures { (seen : List Text) → symbols.old ≡ distinct_names seen
+        → IfOk result
+        (λ _. symbols.new ≡ distinct_names (seen ++ cons_option (atom (plain_constant constant.now))
+        [])) }
 {
     match &constant.kind {
         ConstantKind::Name(name) => {
@@ -35,7 +38,10 @@ fn add_constant<'p>(symbols: &mut Names<'p>, constant: &'p Constant) -> Result<(
 
 // Adds those of the constants that are names.
 fn add_constants<'p>(symbols: &mut Names<'p>, constants: &'p [Constant]) -> Result<(), AllocError>
-    ensures { (seen : List Text) → symbols.old ≡ distinct_names seen → IfOk result (λ _. symbols.new ≡ distinct_names (seen ++ filter_map atom (map plain_constant constants.now))) }
+    ensures { (seen : List Text) → symbols.old ≡ distinct_names seen
+        → IfOk result
+        (λ _. symbols.new
+        ≡ distinct_names (seen ++ filter_map atom (map plain_constant constants.now))) }
 {
     for constant in constants {
         add_constant(symbols, constant)?;
@@ -45,7 +51,9 @@ fn add_constants<'p>(symbols: &mut Names<'p>, constants: &'p [Constant]) -> Resu
 
 // Adds the names in a type.
 fn add_atoms<'p>(symbols: &mut Names<'p>, plain: &'p Plain) -> Result<(), AllocError>
-    ensures { (seen : List Text) → symbols.old ≡ distinct_names seen → IfOk result (λ _. symbols.new ≡ distinct_names (seen ++ atoms_in (plain_type plain.now))) }
+    ensures { (seen : List Text) → symbols.old ≡ distinct_names seen
+        → IfOk result
+        (λ _. symbols.new ≡ distinct_names (seen ++ atoms_in (plain_type plain.now))) }
 {
     match &plain.kind {
         PlainKind::Boolean | PlainKind::Range(_, _) => Ok(()),
@@ -56,7 +64,9 @@ fn add_atoms<'p>(symbols: &mut Names<'p>, plain: &'p Plain) -> Result<(), AllocE
 
 // Adds the names in the type of an entry.
 fn add_entry<'p>(symbols: &mut Names<'p>, entry: &Entry<'p>) -> Result<(), AllocError>
-    ensures { (seen : List Text) → symbols.old ≡ distinct_names seen → IfOk result (λ _. symbols.new ≡ distinct_names (seen ++ atoms_of (plain_entity entry.now.entity))) }
+    ensures { (seen : List Text) → symbols.old ≡ distinct_names seen
+        → IfOk result
+        (λ _. symbols.new ≡ distinct_names (seen ++ atoms_of (plain_entity entry.now.entity))) }
 {
     match &entry.entity {
         Entity::Stored(plain) => add_atoms(symbols, *plain),
@@ -66,7 +76,9 @@ fn add_entry<'p>(symbols: &mut Names<'p>, entry: &Entry<'p>) -> Result<(), Alloc
 
 // Adds the names in the types of a body.
 fn add_body<'p>(symbols: &mut Names<'p>, entries: &[Entry<'p>]) -> Result<(), AllocError>
-    ensures { (seen : List Text) → symbols.old ≡ distinct_names seen → IfOk result (λ _. symbols.new ≡ distinct_names (seen ++ entry_atoms (map plain_entry entries.now))) }
+    ensures { (seen : List Text) → symbols.old ≡ distinct_names seen
+        → IfOk result
+        (λ _. symbols.new ≡ distinct_names (seen ++ entry_atoms (map plain_entry entries.now))) }
 {
     for entry in entries {
         add_entry(symbols, entry)?;
@@ -81,7 +93,8 @@ pub fn symbols_of<'p>(
     rows: &[Row<'p>],
 ) -> Result<Names<'p>, AllocError>
     requires { (done : List Scope) × AreRows modules.now rows.now done }
-    ensures { (done : List Scope) → AreRows modules.now rows.now done → IfOk result (λ names. names ≡ distinct_names (flat_map body_atoms done)) }
+    ensures { (done : List Scope) → AreRows modules.now rows.now done
+        → IfOk result (λ names. names ≡ distinct_names (flat_map body_atoms done)) }
 {
     let mut symbols = Names::new(alloc);
     for row in rows {
@@ -93,8 +106,12 @@ pub fn symbols_of<'p>(
 
 /// Refuses the first variable, instance or defined symbol that has the name of a symbolic constant.
 pub fn check_constants(entries: &[Entry<'_>], symbols: &Names<'_>) -> Result<(), FlatRefusal>
-    ensures ok { OnOk result (Silent (first_of (map plain_entry entries.now) (λ e. refuse (FlatRefusal.NameIsConstant e.line) (IsTrue (not (is_parameter e.entity) && list_any (bytes_eq e.name) symbols.now))))) }
-    ensures refused { IfErr result (first_of (map plain_entry entries.now) (λ e. refuse (FlatRefusal.NameIsConstant e.line) (IsTrue (not (is_parameter e.entity) && list_any (bytes_eq e.name) symbols.now)))) }
+    ensures ok { OnOk result (Silent (first_of (map plain_entry entries.now)
+        (λ e. refuse (FlatRefusal.NameIsConstant e.line)
+        (IsTrue (not (is_parameter e.entity) && list_any (bytes_eq e.name) symbols.now))))) }
+    ensures refused { IfErr result (first_of (map plain_entry entries.now)
+        (λ e. refuse (FlatRefusal.NameIsConstant e.line)
+        (IsTrue (not (is_parameter e.entity) && list_any (bytes_eq e.name) symbols.now)))) }
 {
     for entry in entries {
         if is_named_constant(entry, symbols) {
@@ -105,7 +122,8 @@ pub fn check_constants(entries: &[Entry<'_>], symbols: &Names<'_>) -> Result<(),
 }
 
 fn is_named_constant(entry: &Entry<'_>, symbols: &Names<'_>) -> bool
-    ensures { result ≡ (not (is_parameter (plain_entity entry.now.entity)) && list_any (bytes_eq entry.now.name.now) symbols.now) }
+    ensures { result ≡ (not (is_parameter (plain_entity entry.now.entity)) && list_any
+        (bytes_eq entry.now.name.now) symbols.now) }
 {
     match &entry.entity {
         Entity::Parameter => false,

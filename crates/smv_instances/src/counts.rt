@@ -45,7 +45,8 @@ pub fn count_stored(
     plain: &Plain,
     counts: &Counts,
 ) -> Result<Counts, FlatRefusal>
-    ensures { (p : Program) (s : Scope) (es : List Stands) (e : Stands) → IsCounts counts.now es → e.entity ≡ Entity.Stored (plain_type plain.now) → Counted p s es e line result }
+    ensures { (p : Program) (s : Scope) (es : List Stands) (e : Stands) → IsCounts counts.now es
+        → e.entity ≡ Entity.Stored (plain_type plain.now) → Counted p s es e line result }
 {
     if is_reversed(plain) {
         return Err(FlatRefusal::BadType { line });
@@ -80,7 +81,8 @@ pub fn count_instance(
     around: usize,
     counts: &Counts,
 ) -> Result<Counts, FlatRefusal>
-    ensures { (p : Program) (s : Scope) (es : List Stands) (e : Stands) → IsCounts counts.now es → IsNamed p s e process → around ≡ depth s → Counted p s es e line result }
+    ensures { (p : Program) (s : Scope) (es : List Stands) (e : Stands) → IsCounts counts.now es
+        → IsNamed p s e process → around ≡ depth s → Counted p s es e line result }
 {
     let process = counts.process || process;
     if counts.variables.saturating_add(one_if(process)) > MOST_VARIABLES {

@@ -84,7 +84,8 @@ fn definition_entry(definition: &Definition) -> Entry<'_>
 }
 
 fn push_formals<'p>(entries: &mut Vec<Entry<'p>>, formals: &'p [Formal]) -> Result<(), AllocError>
-    ensures { IfOk result (λ _. map plain_entry entries.new.items ≡ map plain_entry entries.old.items ++ map of_formal (map plain_formal formals.now)) }
+    ensures { IfOk result (λ _. map plain_entry entries.new.items
+        ≡ map plain_entry entries.old.items ++ map of_formal (map plain_formal formals.now)) }
 {
     for formal in formals {
         entries.push(formal_entry(formal))?;
@@ -96,7 +97,9 @@ fn push_declarations<'p>(
     entries: &mut Vec<Entry<'p>>,
     declarations: &'p [Declaration],
 ) -> Result<(), AllocError>
-    ensures { IfOk result (λ _. map plain_entry entries.new.items ≡ map plain_entry entries.old.items ++ map of_declaration (map plain_declaration declarations.now)) }
+    ensures { IfOk result (λ _. map plain_entry entries.new.items
+        ≡ map plain_entry entries.old.items ++ map of_declaration
+        (map plain_declaration declarations.now)) }
 {
     for declaration in declarations {
         entries.push(declaration_entry(declaration))?;
@@ -108,7 +111,9 @@ fn push_definitions<'p>(
     entries: &mut Vec<Entry<'p>>,
     definitions: &'p [Definition],
 ) -> Result<(), AllocError>
-    ensures { IfOk result (λ _. map plain_entry entries.new.items ≡ map plain_entry entries.old.items ++ map of_definition (map plain_definition definitions.now)) }
+    ensures { IfOk result (λ _. map plain_entry entries.new.items
+        ≡ map plain_entry entries.old.items ++ map of_definition
+        (map plain_definition definitions.now)) }
 {
     for definition in definitions {
         entries.push(definition_entry(definition))?;
@@ -117,7 +122,8 @@ fn push_definitions<'p>(
 }
 
 fn push_section<'p>(entries: &mut Vec<Entry<'p>>, section: &'p Section) -> Result<(), AllocError>
-    ensures { IfOk result (λ _. map plain_entry entries.new.items ≡ map plain_entry entries.old.items ++ of_section (plain_section section.now)) }
+    ensures { IfOk result (λ _. map plain_entry entries.new.items
+        ≡ map plain_entry entries.old.items ++ of_section (plain_section section.now)) }
 {
     match &section.kind {
         SectionKind::Variables(declarations) => push_declarations(entries, declarations),
@@ -130,7 +136,9 @@ fn push_sections<'p>(
     entries: &mut Vec<Entry<'p>>,
     sections: &'p [Section],
 ) -> Result<(), AllocError>
-    ensures { IfOk result (λ _. map plain_entry entries.new.items ≡ map plain_entry entries.old.items ++ flat_map of_section (map plain_section sections.now)) }
+    ensures { IfOk result (λ _. map plain_entry entries.new.items
+        ≡ map plain_entry entries.old.items ++ flat_map of_section
+        (map plain_section sections.now)) }
 {
     for section in sections {
         push_section(entries, section)?;

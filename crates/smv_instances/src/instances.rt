@@ -33,7 +33,10 @@ pub fn walk_of<'p>(
     main: usize,
 ) -> Result<Walk<'p>, FlatRefusal>
     requires { (p : Plain) × Starts modules.now p main }
-    ensures { (p : Plain) → Starts modules.now p main → MatchResult result (λ w. HasWalked modules.now w (instances p) (instances p) × AreLinked p w.rows.items (instances p) 0 × Silent (declarations p)) (Refused (declarations p)) }
+    ensures { (p : Plain) → Starts modules.now p main
+        → MatchResult result (λ w. HasWalked modules.now w (instances p) (instances p)
+        × AreLinked p w.rows.items (instances p) 0 × Silent (declarations p))
+        (Refused (declarations p)) }
 {
     let mut walk = main_alone(alloc, main)?;
     visit_body(alloc, modules, &mut walk, 0, MOST_DEPTH)?;
@@ -43,7 +46,8 @@ pub fn walk_of<'p>(
 /// What the module of an instance declares.
 pub fn table_at<'a, 'p>(modules: &'a Modules<'p>, rows: &[Row<'p>], number: usize) -> &'a Table<'p>
     requires { IsInside modules.now rows.now number }
-    ensures { (done : List Scope) (s : Scope) → AreRows modules.now rows.now done → slice_get done number ≡ Some s → IsTable result.now (module_of s) }
+    ensures { (done : List Scope) (s : Scope) → AreRows modules.now rows.now done
+        → slice_get done number ≡ Some s → IsTable result.now (module_of s) }
 {
     let row = &rows[number];
     &modules.tables[row.table]
@@ -99,7 +103,8 @@ impl<'p> Instances<'p> {
     /// The module of an instance.
     pub fn module(&self, i: usize) -> &'p Module
         requires { HasInstance self.now i }
-        ensures { (p : Plain) (s : Scope) → AreInstances p self.now → scope_at p i ≡ Some s → plain_module result.now ≡ module_of s }
+        ensures { (p : Plain) (s : Scope) → AreInstances p self.now → scope_at p i ≡ Some s
+            → plain_module result.now ≡ module_of s }
     {
         table_at(&self.modules, &self.rows, i).source
     }
@@ -107,7 +112,8 @@ impl<'p> Instances<'p> {
     /// What the module of an instance declares, in text order.
     pub fn entries(&self, i: usize) -> &[Entry<'p>]
         requires { HasInstance self.now i }
-        ensures { (p : Plain) (s : Scope) → AreInstances p self.now → scope_at p i ≡ Some s → map plain_entry result.now ≡ declared_entries (module_of s) }
+        ensures { (p : Plain) (s : Scope) → AreInstances p self.now → scope_at p i ≡ Some s
+            → map plain_entry result.now ≡ declared_entries (module_of s) }
     {
         &table_at(&self.modules, &self.rows, i).entries
     }
@@ -115,7 +121,8 @@ impl<'p> Instances<'p> {
     /// How deep an instance stands, where `main` has 0.
     pub fn depth(&self, i: usize) -> usize
         requires { HasInstance self.now i }
-        ensures { (p : Plain) (s : Scope) → AreInstances p self.now → scope_at p i ≡ Some s → result ≡ depth_of s }
+        ensures { (p : Plain) (s : Scope) → AreInstances p self.now → scope_at p i ≡ Some s
+            → result ≡ depth_of s }
     {
         self.rows[i].depth
     }
@@ -123,7 +130,8 @@ impl<'p> Instances<'p> {
     /// The place of the process that an instance belongs to, among the processes.
     pub fn process(&self, i: usize) -> usize
         requires { HasInstance self.now i }
-        ensures { (p : Plain) (s : Scope) → AreInstances p self.now → scope_at p i ≡ Some s → IsProcess p s result }
+        ensures { (p : Plain) (s : Scope) → AreInstances p self.now → scope_at p i ≡ Some s
+            → IsProcess p s result }
     {
         self.rows[i].process
     }
@@ -131,7 +139,8 @@ impl<'p> Instances<'p> {
     /// The numbers of the instances that an instance declares, in text order.
     pub fn children(&self, i: usize) -> &[usize]
         requires { HasInstance self.now i }
-        ensures { (p : Plain) (s : Scope) → AreInstances p self.now → scope_at p i ≡ Some s → Pairs (λ n c. scope_at p n ≡ Some c) result.now (children_of p s) }
+        ensures { (p : Plain) (s : Scope) → AreInstances p self.now → scope_at p i ≡ Some s
+            → Pairs (λ n c. scope_at p n ≡ Some c) result.now (children_of p s) }
     {
         &self.rows[i].children
     }
@@ -139,7 +148,8 @@ impl<'p> Instances<'p> {
     /// The declaration of an instance in the body of another; `main` has none.
     pub fn step(&self, i: usize) -> Option<Step<'p>>
         requires { HasInstance self.now i }
-        ensures { (p : Plain) (s : Scope) → AreInstances p self.now → scope_at p i ≡ Some s → IsStep (instances p) i result s }
+        ensures { (p : Plain) (s : Scope) → AreInstances p self.now → scope_at p i ≡ Some s
+            → IsStep (instances p) i result s }
     {
         self.rows[i].step
     }
@@ -147,8 +157,10 @@ impl<'p> Instances<'p> {
     /// The actual parameter of an instance at a place from 0, with the number of the instance around it; `main` has none.
     pub fn actual(&self, i: usize, place: usize) -> Option<(usize, &'p Expr)>
         requires { HasInstance self.now i }
-        ensures some { (p : Plain) (s : Scope) → AreInstances p self.now → scope_at p i ≡ Some s → IfSome result (λ x. IsActual p s place x.0 (plain_expr x.1.now)) }
-        ensures none { (p : Plain) (s : Scope) → AreInstances p self.now → scope_at p i ≡ Some s → IfNone result (slice_get (actuals_of s) place ≡ None) }
+        ensures some { (p : Plain) (s : Scope) → AreInstances p self.now → scope_at p i ≡ Some s
+            → IfSome result (λ x. IsActual p s place x.0 (plain_expr x.1.now)) }
+        ensures none { (p : Plain) (s : Scope) → AreInstances p self.now → scope_at p i ≡ Some s
+            → IfNone result (slice_get (actuals_of s) place ≡ None) }
     {
         let Some(step) = &self.rows[i].step else {
             return None;
@@ -159,7 +171,8 @@ impl<'p> Instances<'p> {
 
     /// The numbers of `main` and the process instances, in order.
     pub fn processes(&self) -> &[usize]
-        ensures { (p : Plain) → AreInstances p self.now → Pairs (λ n c. scope_at p n ≡ Some c) result.now (filter is_process (instances p)) }
+        ensures { (p : Plain) → AreInstances p self.now
+            → Pairs (λ n c. scope_at p n ≡ Some c) result.now (filter is_process (instances p)) }
     {
         &self.processes
     }
@@ -173,8 +186,11 @@ impl<'p> Instances<'p> {
 
     /// The place of a symbolic constant among those of the program.
     pub fn symbol(&self, name: &Name) -> Option<usize>
-        ensures some { (p : Plain) → AreInstances p self.now → IfSome result (λ k. IsTrue (is_symbol p name.now) × (k ≡ place_of (symbols_in p) name.now)) }
-        ensures none { (p : Plain) → AreInstances p self.now → IfNone result (is_symbol p name.now ≡ false) }
+        ensures some { (p : Plain) → AreInstances p self.now
+            → IfSome result (λ k. IsTrue (is_symbol p name.now)
+            × (k ≡ place_of (symbols_in p) name.now)) }
+        ensures none { (p : Plain) → AreInstances p self.now
+            → IfNone result (is_symbol p name.now ≡ false) }
     {
         self.symbols.place(name.as_str())
     }
@@ -182,8 +198,10 @@ impl<'p> Instances<'p> {
     /// The place of the entry under which the module of an instance declares a name.
     pub fn entry_at(&self, i: usize, name: &Name) -> Option<usize>
         requires { HasInstance self.now i }
-        ensures some { (p : Plain) (s : Scope) → AreInstances p self.now → scope_at p i ≡ Some s → IfSome result (IsEntryOf (module_of s) name.now) }
-        ensures none { (p : Plain) (s : Scope) → AreInstances p self.now → scope_at p i ≡ Some s → IfNone result (entity_in (module_of s) name.now ≡ None) }
+        ensures some { (p : Plain) (s : Scope) → AreInstances p self.now → scope_at p i ≡ Some s
+            → IfSome result (IsEntryOf (module_of s) name.now) }
+        ensures none { (p : Plain) (s : Scope) → AreInstances p self.now → scope_at p i ≡ Some s
+            → IfNone result (entity_in (module_of s) name.now ≡ None) }
     {
         let table = table_at(&self.modules, &self.rows, i);
         table.names.place(name.as_str())
@@ -192,7 +210,9 @@ impl<'p> Instances<'p> {
     /// What the entry at a place of the module of an instance stands for.
     pub fn found_at(&self, i: usize, place: usize) -> Found<'p>
         requires { HasEntry self.now i place }
-        ensures { (p : Plain) (s : Scope) (e : Stood) → AreInstances p self.now → scope_at p i ≡ Some s → slice_get (declared_entries (module_of s)) place ≡ Some e → IsFound p s e.name result }
+        ensures { (p : Plain) (s : Scope) (e : Stood) → AreInstances p self.now
+            → scope_at p i ≡ Some s → slice_get (declared_entries (module_of s)) place ≡ Some e
+            → IsFound p s e.name result }
     {
         let row = &self.rows[i];
         let table = &self.modules.tables[row.table];
@@ -211,8 +231,10 @@ impl<'p> Instances<'p> {
     /// What the module of an instance declares under a name.
     pub fn find(&self, i: usize, name: &Name) -> Option<Found<'p>>
         requires { HasInstance self.now i }
-        ensures some { (p : Plain) (s : Scope) → AreInstances p self.now → scope_at p i ≡ Some s → IfSome result (IsFound p s name.now) }
-        ensures none { (p : Plain) (s : Scope) → AreInstances p self.now → scope_at p i ≡ Some s → IfNone result (entity_in (module_of s) name.now ≡ None) }
+        ensures some { (p : Plain) (s : Scope) → AreInstances p self.now → scope_at p i ≡ Some s
+            → IfSome result (IsFound p s name.now) }
+        ensures none { (p : Plain) (s : Scope) → AreInstances p self.now → scope_at p i ≡ Some s
+            → IfNone result (entity_in (module_of s) name.now ≡ None) }
     {
         let place = self.entry_at(i, name)?;
         Some(self.found_at(i, place))

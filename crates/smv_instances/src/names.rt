@@ -34,8 +34,10 @@ impl<'p> Names<'p> {
 
     /// Adds a name at the end, and says whether it is new.
     pub fn insert(&mut self, name: &'p str) -> Result<bool, AllocError>
-        ensures added { IfOk result (λ is_new. is_new ≡ not (list_any (bytes_eq name.now) self.old)) }
-        ensures names { IfOk result (λ is_new. self.new ≡ (if is_new then self.old ++ name.now ∷ [] else self.old)) }
+        ensures added { IfOk result
+            (λ is_new. is_new ≡ not (list_any (bytes_eq name.now) self.old)) }
+        ensures names { IfOk result
+            (λ is_new. self.new ≡ (if is_new then self.old ++ name.now ∷ [] else self.old)) }
     {
         let (_, is_new) = self.set.insert_full(name)?;
         Ok(is_new)

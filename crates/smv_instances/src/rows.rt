@@ -48,7 +48,8 @@ pub struct Walk<'p> {
 
 /// The instance `main` alone, of the module at this place.
 pub fn main_alone<'p>(alloc: Global, table: usize) -> Result<Walk<'p>, AllocError>
-    ensures { (ms : Tables) (m : Source) → Stands ms table m → IfOk result (λ w. HasWalked ms w (Scope.Main m ∷ []) []) }
+    ensures { (ms : Tables) (m : Source) → Stands ms table m
+        → IfOk result (λ w. HasWalked ms w (Scope.Main m ∷ []) []) }
 {
     let mut rows = Vec::new(alloc);
     rows.push(Row {
@@ -76,8 +77,14 @@ fn enter_process(walk: &mut Walk<'_>, step: &Step<'_>) -> Result<usize, AllocErr
     requires { step.now.around < length walk.old.rows.items }
     ensures rows { walk.new.rows ≡ walk.old.rows }
     ensures counts { walk.new.counts ≡ walk.old.counts }
-    ensures around { step.now.process ≡ false → IfOk result (λ k. (walk.new.processes ≡ walk.old.processes) × ((row : Rows) → slice_get walk.old.rows.items step.now.around ≡ Some row → k ≡ row.process)) }
-    ensures itself { step.now.process ≡ true → IfOk result (λ k. (walk.new.processes.items ≡ walk.old.processes.items ++ (length walk.old.rows.items ∷ [])) × (k ≡ length walk.old.processes.items)) }
+    ensures around { step.now.process ≡ false
+        → IfOk result (λ k. (walk.new.processes ≡ walk.old.processes)
+        × ((row : Rows) → slice_get walk.old.rows.items step.now.around ≡ Some row
+        → k ≡ row.process)) }
+    ensures itself { step.now.process ≡ true
+        → IfOk result
+        (λ k. (walk.new.processes.items ≡ walk.old.processes.items ++ (length walk.old.rows.items
+        ∷ [])) × (k ≡ length walk.old.processes.items)) }
 {
     if !step.process {
         let around = &walk.rows[step.around];
@@ -97,7 +104,12 @@ pub fn push_child<'p>(
     depth: usize,
 ) -> Result<usize, AllocError>
     requires { step.around < length walk.old.rows.items }
-    ensures { (ms : Tables) (done counted : List Scope) (s : Scope) (m : Source) → HasWalked ms walk.old done counted → slice_get done step.entry.around ≡ Some s → Stands ms table m → depth ≡ depth_of s + 1 → IfOk result (λ n. Adds ms walk.old walk.new done counted (Scope.Inside s step.entry.name.now step.entry.process (map plain_expr step.entry.actuals.now) m) n) }
+    ensures { (ms : Tables) (done counted : List Scope) (s : Scope) (m : Source)
+        → HasWalked ms walk.old done counted → slice_get done step.entry.around ≡ Some s
+        → Stands ms table m → depth ≡ depth_of s + 1
+        → IfOk result
+        (λ n. Adds ms walk.old walk.new done counted (Scope.Inside s step.entry.name.now
+        step.entry.process (map plain_expr step.entry.actuals.now) m) n) }
 {
     let number = walk.rows.len();
     let process = enter_process(walk, &step)?;
@@ -114,7 +126,8 @@ pub fn push_child<'p>(
 /// Notes the instances that an instance declares.
 pub fn set_children(rows: &mut Vec<Row<'_>>, number: usize, children: Vec<usize>)
     requires { number < length rows.old.items }
-    ensures { rows.new.items ≡ updated rows.old.items number (λ row. record row { children = children }) }
+    ensures { rows.new.items ≡ updated rows.old.items number
+        (λ row. record row { children = children }) }
 {
     let row = &mut rows[number];
     row.children = children;

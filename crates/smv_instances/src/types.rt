@@ -65,8 +65,10 @@ fn add_constant<'p>(
     numbers: &mut IndexSet<u32>,
     constant: &'p Constant,
 ) -> Result<bool, AllocError>
-    ensures added { IfOk result (λ is_new. is_new ≡ not (holds names.old numbers.old.keys (plain_constant constant.now))) }
-    ensures kept { IfOk result (λ _. (d : Written) → holds names.new numbers.new.keys d ≡ (holds names.old numbers.old.keys d || is_same d (plain_constant constant.now))) }
+    ensures added { IfOk result
+        (λ is_new. is_new ≡ not (holds names.old numbers.old.keys (plain_constant constant.now))) }
+    ensures kept { IfOk result (λ _. (d : Written) → holds names.new numbers.new.keys d
+        ≡ (holds names.old numbers.old.keys d || is_same d (plain_constant constant.now))) }
 {
     match &constant.kind {
         ConstantKind::Name(name) => names.insert(name.as_str()),
@@ -77,7 +79,8 @@ fn add_constant<'p>(
 
 // How many values the constants are.
 fn constant_count(alloc: Global, constants: &[Constant]) -> Result<u64, AllocError>
-    ensures { IfOk result (λ n. n ≡ declared.value_count (Stored.Enumeration (map plain_constant constants.now))) }
+    ensures { IfOk result
+        (λ n. n ≡ declared.value_count (Stored.Enumeration (map plain_constant constants.now))) }
 {
     let mut names = Names::new(alloc);
     let mut numbers = IndexSet::new(alloc);

@@ -33,8 +33,11 @@ fn push_inside(
     left: usize,
     variables: &mut Vec<FlatVar>,
 ) -> Result<(), AllocError>
-    requires { (p : Plain) × (c : Scope) × AreBodies p modules.now rows.now symbols.now × (scope_at p number ≡ Some c) }
-    ensures { (p : Plain) (c : Scope) → AreBodies p modules.now rows.now symbols.now → scope_at p number ≡ Some c → front_of c ≡ front.now ++ name.now ++ 46 ∷ [] → IfOk result (λ _. variables.new.items ≡ variables.old.items ++ inner_variables p left c) }
+    requires { (p : Plain) × (c : Scope) × AreBodies p modules.now rows.now symbols.now
+        × (scope_at p number ≡ Some c) }
+    ensures { (p : Plain) (c : Scope) → AreBodies p modules.now rows.now symbols.now
+        → scope_at p number ≡ Some c → front_of c ≡ front.now ++ name.now ++ 46 ∷ []
+        → IfOk result (λ _. variables.new.items ≡ variables.old.items ++ inner_variables p left c) }
 {
     if left == 0 {
         return Ok(());
@@ -68,9 +71,17 @@ fn push_entry(
     variables: &mut Vec<FlatVar>,
 ) -> Result<usize, AllocError>
     requires within { number < length rows.now }
-    requires entry { (p : Plain) × (s : Scope) × AreBodies p modules.now rows.now symbols.now × (scope_at p number ≡ Some s) × IsEntry p s (plain_entry entry.now) before }
-    ensures count { (p : Plain) (s : Scope) → AreBodies p modules.now rows.now symbols.now → scope_at p number ≡ Some s → IsEntry p s (plain_entry entry.now) before → IfOk result (λ n. n ≡ before + length (cons_option (child p s (plain_entry entry.now)) [])) }
-    ensures added { (p : Plain) (s : Scope) → AreBodies p modules.now rows.now symbols.now → scope_at p number ≡ Some s → IsEntry p s (plain_entry entry.now) before → front.now ≡ front_of s → IfOk result (λ _. variables.new.items ≡ variables.old.items ++ entry_variables p (inner_variables p left) s (plain_entry entry.now)) }
+    requires entry { (p : Plain) × (s : Scope) × AreBodies p modules.now rows.now symbols.now
+        × (scope_at p number ≡ Some s) × IsEntry p s (plain_entry entry.now) before }
+    ensures count { (p : Plain) (s : Scope) → AreBodies p modules.now rows.now symbols.now
+        → scope_at p number ≡ Some s → IsEntry p s (plain_entry entry.now) before
+        → IfOk result
+        (λ n. n ≡ before + length (cons_option (child p s (plain_entry entry.now)) [])) }
+    ensures added { (p : Plain) (s : Scope) → AreBodies p modules.now rows.now symbols.now
+        → scope_at p number ≡ Some s → IsEntry p s (plain_entry entry.now) before
+        → front.now ≡ front_of s
+        → IfOk result (λ _. variables.new.items ≡ variables.old.items ++ entry_variables p
+        (inner_variables p left) s (plain_entry entry.now)) }
 {
     match &entry.entity {
         Entity::Parameter | Entity::Defined(_) => Ok(before),
@@ -102,8 +113,11 @@ pub fn push_body(
     left: usize,
     variables: &mut Vec<FlatVar>,
 ) -> Result<(), AllocError>
-    requires { (p : Plain) × (s : Scope) × AreBodies p modules.now rows.now symbols.now × (scope_at p number ≡ Some s) }
-    ensures { (p : Plain) (s : Scope) → AreBodies p modules.now rows.now symbols.now → scope_at p number ≡ Some s → front.now ≡ front_of s → IfOk result (λ _. variables.new.items ≡ variables.old.items ++ variables_from p left s) }
+    requires { (p : Plain) × (s : Scope) × AreBodies p modules.now rows.now symbols.now
+        × (scope_at p number ≡ Some s) }
+    ensures { (p : Plain) (s : Scope) → AreBodies p modules.now rows.now symbols.now
+        → scope_at p number ≡ Some s → front.now ≡ front_of s
+        → IfOk result (λ _. variables.new.items ≡ variables.old.items ++ variables_from p left s) }
 {
     let row = &rows[number];
     let table = &modules.tables[row.table];
@@ -124,8 +138,10 @@ pub fn variables_of(
     symbols: &Names<'_>,
     processes: usize,
 ) -> Result<Vec<FlatVar>, AllocError>
-    requires { (p : Plain) × AreBodies p modules.now rows.now symbols.now × (processes ≡ length (processes_in p)) }
-    ensures { (p : Plain) → AreBodies p modules.now rows.now symbols.now → processes ≡ length (processes_in p) → IfOk result (λ vs. vs.items ≡ variables_in p) }
+    requires { (p : Plain) × AreBodies p modules.now rows.now symbols.now
+        × (processes ≡ length (processes_in p)) }
+    ensures { (p : Plain) → AreBodies p modules.now rows.now symbols.now
+        → processes ≡ length (processes_in p) → IfOk result (λ vs. vs.items ≡ variables_in p) }
 {
     let mut variables = selectors(alloc, modules, rows, processes)?;
     let front = Name::new(String::new(alloc));

@@ -36,7 +36,11 @@ fn check_item_paths<'p>(
     item: &Item<'p>,
 ) -> Result<(), FlatRefusal>
     requires { HasTables instances.now paths.now names.now i }
-    ensures { (p : Plain) (s : Scope) → AreTables p instances.now paths.now names.now → scope_at p i ≡ Some s → MatchResult result (λ _. AreSound p s (item_mentions (plain_item item.now)) × Silent (path_rows p s (item_mentions (plain_item item.now)))) (Refused (path_rows p s (item_mentions (plain_item item.now)))) }
+    ensures { (p : Plain) (s : Scope) → AreTables p instances.now paths.now names.now
+        → scope_at p i ≡ Some s
+        → MatchResult result (λ _. AreSound p s (item_mentions (plain_item item.now))
+        × Silent (path_rows p s (item_mentions (plain_item item.now))))
+        (Refused (path_rows p s (item_mentions (plain_item item.now)))) }
 {
     let mentions = mentions_of(alloc, item)?;
     check_paths(
@@ -59,7 +63,11 @@ fn check_left<'p>(
     left: &'p Left,
 ) -> Result<(), FlatRefusal>
     requires { HasTables instances.now paths.now names.now i }
-    ensures { (p : Plain) (s : Scope) → AreTables p instances.now paths.now names.now → scope_at p i ≡ Some s → MatchResult result (λ _. ((x : ℕ) × Selects p s (plain_path left.now.path) x) × Silent (left_row p s (plain_path left.now.path) left.now.line)) (Refused (left_row p s (plain_path left.now.path) left.now.line)) }
+    ensures { (p : Plain) (s : Scope) → AreTables p instances.now paths.now names.now
+        → scope_at p i ≡ Some s
+        → MatchResult result (λ _. ((x : ℕ) × Selects p s (plain_path left.now.path) x)
+        × Silent (left_row p s (plain_path left.now.path) left.now.line))
+        (Refused (left_row p s (plain_path left.now.path) left.now.line)) }
 {
     match selected(alloc, instances, paths, names, i, &left.path)? {
         Some(_) => Ok(()),
@@ -78,7 +86,10 @@ fn count_item<'p>(
     totals: &Totals,
 ) -> Result<Totals, FlatRefusal>
     requires { HasTables instances.now paths.now names.now i }
-    ensures { (p : Plain) (s : Scope) (before : List Placed) → AreTables p instances.now paths.now names.now → scope_at p i ≡ Some s → AreCounts totals.now before → CountsItem p before s (plain_item item.now) totals.now result }
+    ensures { (p : Plain) (s : Scope) (before : List Placed)
+        → AreTables p instances.now paths.now names.now → scope_at p i ≡ Some s
+        → AreCounts totals.now before → CountsItem p before s (plain_item item.now) totals.now
+        result }
 {
     match item {
         Item::Assigns(assignment) => {
@@ -99,8 +110,12 @@ pub fn check_item<'p>(
     item: &Item<'p>,
     totals: &Totals,
 ) -> Result<Totals, FlatRefusal>
-    requires { (p : Plain) × (s : Scope) × (before : List Placed) × AreTables p instances.now paths.now names.now × (scope_at p i ≡ Some s) × IsPassed p before totals.now }
-    ensures { (p : Plain) (s : Scope) (before : List Placed) → AreTables p instances.now paths.now names.now → scope_at p i ≡ Some s → IsPassed p before totals.now → PassesItem p before (s, plain_item item.now) result }
+    requires { (p : Plain) × (s : Scope) × (before : List Placed)
+        × AreTables p instances.now paths.now names.now × (scope_at p i ≡ Some s)
+        × IsPassed p before totals.now }
+    ensures { (p : Plain) (s : Scope) (before : List Placed)
+        → AreTables p instances.now paths.now names.now → scope_at p i ≡ Some s
+        → IsPassed p before totals.now → PassesItem p before (s, plain_item item.now) result }
 {
     check_item_paths(alloc, instances, paths, names, i, item)?;
     let counted = count_item(alloc, instances, paths, names, i, item, totals)?;

@@ -62,8 +62,11 @@ fn cell<'p>(
     names: &VariableNames<'_>,
     target: &Target<'p>,
 ) -> Result<Option<u32>, AllocError>
-    requires { (p : Plain) × (s : Scope) × (q : Written) × CanExpand p instances.now paths.now names.now × Resolves p s q (Some target.now) }
-    ensures { (p : Plain) (s : Scope) (q : Written) (i : ℕ) → CanExpand p instances.now paths.now names.now → scope_at p i ≡ Some s → Resolves p s q (Some target.now) → IfOk result (IsSelected p s q) }
+    requires { (p : Plain) × (s : Scope) × (q : Written)
+        × CanExpand p instances.now paths.now names.now × Resolves p s q (Some target.now) }
+    ensures { (p : Plain) (s : Scope) (q : Written) (i : ℕ)
+        → CanExpand p instances.now paths.now names.now → scope_at p i ≡ Some s
+        → Resolves p s q (Some target.now) → IfOk result (IsSelected p s q) }
 {
     let Target::Stored {
         home,
@@ -96,8 +99,10 @@ pub fn selected<'p>(
     i: usize,
     path: &'p Path,
 ) -> Result<Option<u32>, AllocError>
-    requires { (p : Plain) × (s : Scope) × CanExpand p instances.now paths.now names.now × (scope_at p i ≡ Some s) }
-    ensures { (p : Plain) (s : Scope) → CanExpand p instances.now paths.now names.now → scope_at p i ≡ Some s → IfOk result (IsSelected p s (plain_path path.now)) }
+    requires { (p : Plain) × (s : Scope) × CanExpand p instances.now paths.now names.now
+        × (scope_at p i ≡ Some s) }
+    ensures { (p : Plain) (s : Scope) → CanExpand p instances.now paths.now names.now
+        → scope_at p i ≡ Some s → IfOk result (IsSelected p s (plain_path path.now)) }
 {
     match paths.targets.resolve(alloc, instances, i, path)? {
         Some(target) => cell(alloc, instances, paths, names, &target),
@@ -109,8 +114,10 @@ pub fn selected<'p>(
 
 /// The end of the chain of definitions that begins with a target, if that is an expression.
 fn target_end<'p>(ends: &[Option<End<'p>>], target: &Target<'p>) -> Option<End<'p>>
-    requires { (p : Plain) × (s : Scope) × (q : Written) × (length ends.now ≡ length (all_entries p)) × Resolves p s q (Some target.now) }
-    ensures { (p : Plain) (s : Scope) (q : Written) → AreEnds p ends.now → AreDefined p → Resolves p s q (Some target.now) → EndsPath p s q result }
+    requires { (p : Plain) × (s : Scope) × (q : Written)
+        × (length ends.now ≡ length (all_entries p)) × Resolves p s q (Some target.now) }
+    ensures { (p : Plain) (s : Scope) (q : Written) → AreEnds p ends.now → AreDefined p
+        → Resolves p s q (Some target.now) → EndsPath p s q result }
 {
     match target {
         Target::Reading { node, .. } => ends[*node],
@@ -128,8 +135,10 @@ fn path_end<'p>(
     i: usize,
     path: &'p Path,
 ) -> Result<Option<End<'p>>, AllocError>
-    requires { (p : Plain) × (s : Scope) × ArePaths p instances.now paths.now × (scope_at p i ≡ Some s) }
-    ensures { (p : Plain) (s : Scope) → ArePaths p instances.now paths.now → scope_at p i ≡ Some s → IfOk result (EndsPath p s (plain_path path.now)) }
+    requires { (p : Plain) × (s : Scope) × ArePaths p instances.now paths.now
+        × (scope_at p i ≡ Some s) }
+    ensures { (p : Plain) (s : Scope) → ArePaths p instances.now paths.now → scope_at p i ≡ Some s
+        → IfOk result (EndsPath p s (plain_path path.now)) }
 {
     match paths.targets.resolve(alloc, instances, i, path)? {
         Some(target) => Ok(target_end(&paths.ends, &target)),
@@ -145,8 +154,10 @@ fn node_of<'p>(
     i: usize,
     expr: &'p Expr,
 ) -> Result<End<'p>, AllocError>
-    requires { (p : Plain) × (s : Scope) × ArePaths p instances.now paths.now × (scope_at p i ≡ Some s) }
-    ensures { (p : Plain) (s : Scope) → ArePaths p instances.now paths.now → scope_at p i ≡ Some s → IfOk result (IsNodeOf p s (plain_expr expr.now)) }
+    requires { (p : Plain) × (s : Scope) × ArePaths p instances.now paths.now
+        × (scope_at p i ≡ Some s) }
+    ensures { (p : Plain) (s : Scope) → ArePaths p instances.now paths.now → scope_at p i ≡ Some s
+        → IfOk result (IsNodeOf p s (plain_expr expr.now)) }
 {
     let right = bare_of(expr);
     match path_of(right) {
@@ -181,8 +192,13 @@ fn target_leaf<'p>(
     names: &VariableNames<'_>,
     target: &Target<'p>,
 ) -> Result<FlatExpr, AllocError>
-    requires { (p : Plain) × (s : Scope) × (q : Written) × (i : ℕ) × (t : Term) × CanExpand p instances.now paths.now names.now × (scope_at p i ≡ Some s) × Resolves p s q (Some target.now) × Expands p s (Body.At q) t × DenotesNoText p s q }
-    ensures { (p : Plain) (s : Scope) (q : Written) (i : ℕ) (t : Term) → CanExpand p instances.now paths.now names.now → scope_at p i ≡ Some s → Resolves p s q (Some target.now) → Expands p s (Body.At q) t → DenotesNoText p s q → IfOk result (λ e. term_of e ≡ t) }
+    requires { (p : Plain) × (s : Scope) × (q : Written) × (i : ℕ) × (t : Term)
+        × CanExpand p instances.now paths.now names.now × (scope_at p i ≡ Some s)
+        × Resolves p s q (Some target.now) × Expands p s (Body.At q) t × DenotesNoText p s q }
+    ensures { (p : Plain) (s : Scope) (q : Written) (i : ℕ) (t : Term)
+        → CanExpand p instances.now paths.now names.now → scope_at p i ≡ Some s
+        → Resolves p s q (Some target.now) → Expands p s (Body.At q) t → DenotesNoText p s q
+        → IfOk result (λ e. term_of e ≡ t) }
 {
     if let Target::Constant(place) = target {
         return Ok(FlatExpr::Const(Value::Symbol(*place as u32)));
@@ -202,8 +218,12 @@ fn leaf<'p>(
     i: usize,
     path: &'p Path,
 ) -> Result<FlatExpr, AllocError>
-    requires { (p : Plain) × (s : Scope) × (t : Term) × CanExpand p instances.now paths.now names.now × (scope_at p i ≡ Some s) × Expands p s (Body.At (plain_path path.now)) t × DenotesNoText p s (plain_path path.now) }
-    ensures { (p : Plain) (s : Scope) (t : Term) → CanExpand p instances.now paths.now names.now → scope_at p i ≡ Some s → Expands p s (Body.At (plain_path path.now)) t → DenotesNoText p s (plain_path path.now) → IfOk result (λ e. term_of e ≡ t) }
+    requires { (p : Plain) × (s : Scope) × (t : Term)
+        × CanExpand p instances.now paths.now names.now × (scope_at p i ≡ Some s)
+        × Expands p s (Body.At (plain_path path.now)) t × DenotesNoText p s (plain_path path.now) }
+    ensures { (p : Plain) (s : Scope) (t : Term) → CanExpand p instances.now paths.now names.now
+        → scope_at p i ≡ Some s → Expands p s (Body.At (plain_path path.now)) t
+        → DenotesNoText p s (plain_path path.now) → IfOk result (λ e. term_of e ≡ t) }
 {
     match paths.targets.resolve(alloc, instances, i, path)? {
         Some(target) => target_leaf(alloc, instances, paths, names, &target),
@@ -224,8 +244,12 @@ fn expand_within<'p>(
     expr: &'p Expr,
     depth: u32,
 ) -> Result<FlatExpr, AllocError>
-    requires { (p : Plain) × (s : Scope) × (t : Term) × CanExpand p instances.now paths.now names.now × (scope_at p i ≡ Some s) × StandsFor p s (plain_expr expr.now) depth t }
-    ensures { (p : Plain) (s : Scope) (t : Term) → CanExpand p instances.now paths.now names.now → scope_at p i ≡ Some s → StandsFor p s (plain_expr expr.now) depth t → IfOk result (λ e. term_of e ≡ t) }
+    requires { (p : Plain) × (s : Scope) × (t : Term)
+        × CanExpand p instances.now paths.now names.now × (scope_at p i ≡ Some s)
+        × StandsFor p s (plain_expr expr.now) depth t }
+    ensures { (p : Plain) (s : Scope) (t : Term) → CanExpand p instances.now paths.now names.now
+        → scope_at p i ≡ Some s → StandsFor p s (plain_expr expr.now) depth t
+        → IfOk result (λ e. term_of e ≡ t) }
 {
     let node = node_of(alloc, instances, paths, i, expr)?;
     expand_node(alloc, instances, paths, names, node.home, node.right, depth)
@@ -242,8 +266,12 @@ fn expand_elements<'p>(
     elements: &'p [Expr],
     depth: u32,
 ) -> Result<Vec<FlatExpr>, AllocError>
-    requires { (p : Plain) × (s : Scope) × (ts : Terms) × CanExpand p instances.now paths.now names.now × (scope_at p i ≡ Some s) × ElementsStandFor p s (plain_exprs elements.now) depth ts }
-    ensures { (p : Plain) (s : Scope) (ts : Terms) → CanExpand p instances.now paths.now names.now → scope_at p i ≡ Some s → ElementsStandFor p s (plain_exprs elements.now) depth ts → IfOk result (λ es. terms_in es.items ≡ ts) }
+    requires { (p : Plain) × (s : Scope) × (ts : Terms)
+        × CanExpand p instances.now paths.now names.now × (scope_at p i ≡ Some s)
+        × ElementsStandFor p s (plain_exprs elements.now) depth ts }
+    ensures { (p : Plain) (s : Scope) (ts : Terms) → CanExpand p instances.now paths.now names.now
+        → scope_at p i ≡ Some s → ElementsStandFor p s (plain_exprs elements.now) depth ts
+        → IfOk result (λ es. terms_in es.items ≡ ts) }
 {
     let mut expanded = Vec::new(alloc);
     for element in elements {
@@ -263,8 +291,13 @@ fn expand_arms<'p>(
     arms: &'p [Arm],
     depth: u32,
 ) -> Result<Vec<FlatArm>, AllocError>
-    requires { (p : Plain) × (s : Scope) × (ts : FlatArms) × CanExpand p instances.now paths.now names.now × (scope_at p i ≡ Some s) × ArmsStandFor p s (plain_arms arms.now) depth ts }
-    ensures { (p : Plain) (s : Scope) (ts : FlatArms) → CanExpand p instances.now paths.now names.now → scope_at p i ≡ Some s → ArmsStandFor p s (plain_arms arms.now) depth ts → IfOk result (λ es. arms_in es.items ≡ ts) }
+    requires { (p : Plain) × (s : Scope) × (ts : FlatArms)
+        × CanExpand p instances.now paths.now names.now × (scope_at p i ≡ Some s)
+        × ArmsStandFor p s (plain_arms arms.now) depth ts }
+    ensures { (p : Plain) (s : Scope) (ts : FlatArms)
+        → CanExpand p instances.now paths.now names.now → scope_at p i ≡ Some s
+        → ArmsStandFor p s (plain_arms arms.now) depth ts
+        → IfOk result (λ es. arms_in es.items ≡ ts) }
 {
     let mut expanded = Vec::new(alloc);
     for arm in arms {
@@ -286,8 +319,12 @@ fn expand_node<'p>(
     expr: &'p Expr,
     depth: u32,
 ) -> Result<FlatExpr, AllocError>
-    requires { (p : Plain) × (s : Scope) × (t : Term) × CanExpand p instances.now paths.now names.now × (scope_at p i ≡ Some s) × StandsFor p s (plain_expr expr.now) depth t × IsNode p s (plain_expr expr.now) }
-    ensures { (p : Plain) (s : Scope) (t : Term) → CanExpand p instances.now paths.now names.now → scope_at p i ≡ Some s → StandsFor p s (plain_expr expr.now) depth t → IsNode p s (plain_expr expr.now) → IfOk result (λ e. term_of e ≡ t) }
+    requires { (p : Plain) × (s : Scope) × (t : Term)
+        × CanExpand p instances.now paths.now names.now × (scope_at p i ≡ Some s)
+        × StandsFor p s (plain_expr expr.now) depth t × IsNode p s (plain_expr expr.now) }
+    ensures { (p : Plain) (s : Scope) (t : Term) → CanExpand p instances.now paths.now names.now
+        → scope_at p i ≡ Some s → StandsFor p s (plain_expr expr.now) depth t
+        → IsNode p s (plain_expr expr.now) → IfOk result (λ e. term_of e ≡ t) }
 {
     let below = depth - 1;
     match &expr.kind {
@@ -335,8 +372,14 @@ pub fn expand<'p>(
     expr: &'p Expr,
     depth: u32,
 ) -> Result<FlatExpr, AllocError>
-    requires { (p : Plain) × (s : Scope) × (t : Term) × CanExpand p instances.now paths.now names.now × (scope_at p i ≡ Some s) × IsWrittenExpr (plain_expr expr.now) × Expands p s (plain_expr expr.now) t × (nesting t ≤ depth) }
-    ensures { (p : Plain) (s : Scope) (t : Term) → CanExpand p instances.now paths.now names.now → scope_at p i ≡ Some s → IsWrittenExpr (plain_expr expr.now) → Expands p s (plain_expr expr.now) t → nesting t ≤ depth → IfOk result (λ e. term_of e ≡ t) }
+    requires { (p : Plain) × (s : Scope) × (t : Term)
+        × CanExpand p instances.now paths.now names.now × (scope_at p i ≡ Some s)
+        × IsWrittenExpr (plain_expr expr.now) × Expands p s (plain_expr expr.now) t
+        × (nesting t ≤ depth) }
+    ensures { (p : Plain) (s : Scope) (t : Term) → CanExpand p instances.now paths.now names.now
+        → scope_at p i ≡ Some s → IsWrittenExpr (plain_expr expr.now)
+        → Expands p s (plain_expr expr.now) t → nesting t ≤ depth
+        → IfOk result (λ e. term_of e ≡ t) }
 {
     expand_within(alloc, instances, paths, names, i, expr, depth)
 }

@@ -29,7 +29,9 @@ pub fn inner_front(alloc: Global, front: &str, name: &Name) -> Result<String, Al
 /// Adds the front of an instance.
 fn push_front(rows: &[Row<'_>], number: usize, text: &mut String) -> Result<(), AllocError>
     requires { (ms : Tables) × IsInside ms rows.now number }
-    ensures { (ms : Tables) (done : List Scope) (s : Scope) → AreRows ms rows.now done → slice_get done number ≡ Some s → IfOk result (λ _. string_bytes text.new ≡ string_bytes text.old ++ front_of s) }
+    ensures { (ms : Tables) (done : List Scope) (s : Scope) → AreRows ms rows.now done
+        → slice_get done number ≡ Some s
+        → IfOk result (λ _. string_bytes text.new ≡ string_bytes text.old ++ front_of s) }
 {
     let row = &rows[number];
     match &row.step {
@@ -51,7 +53,8 @@ pub fn spelled_name(
     name: &Name,
 ) -> Result<Name, AllocError>
     requires { (ms : Tables) × IsInside ms rows.now number }
-    ensures { (ms : Tables) (done : List Scope) (s : Scope) → AreRows ms rows.now done → slice_get done number ≡ Some s → IfOk result (λ flat. flat ≡ spelled s name.now) }
+    ensures { (ms : Tables) (done : List Scope) (s : Scope) → AreRows ms rows.now done
+        → slice_get done number ≡ Some s → IfOk result (λ flat. flat ≡ spelled s name.now) }
 {
     let mut text = String::new(alloc);
     push_front(rows, number, &mut text)?;

@@ -63,7 +63,8 @@ fn condition_line(condition: Condition, expr: u32, section: u32) -> u32
 
 /// Adds the path of a left side, then those in its indexes.
 fn push_left<'p>(path: &'p Path, mentions: &mut Vec<Mention<'p>>) -> Result<(), AllocError>
-    ensures { IfOk result (λ _. map plain_mention mentions.new.items ≡ map plain_mention mentions.old.items ++ left_mentions (plain_path path.now)) }
+    ensures { IfOk result (λ _. map plain_mention mentions.new.items
+        ≡ map plain_mention mentions.old.items ++ left_mentions (plain_path path.now)) }
 {
     mentions.push(Mention {
         path,
@@ -74,7 +75,8 @@ fn push_left<'p>(path: &'p Path, mentions: &mut Vec<Mention<'p>>) -> Result<(), 
 
 /// The paths of an item, in text order.
 pub fn mentions_of<'p>(alloc: Global, item: &Item<'p>) -> Result<Vec<Mention<'p>>, AllocError>
-    ensures { IfOk result (λ mentions. map plain_mention mentions.items ≡ item_mentions (plain_item item.now)) }
+    ensures { IfOk result (λ mentions. map plain_mention mentions.items
+        ≡ item_mentions (plain_item item.now)) }
 {
     let mut mentions = Vec::new(alloc);
     match item {
@@ -94,7 +96,8 @@ fn push_assignments<'p>(
     items: &mut Vec<Item<'p>>,
     assignments: &'p [Assignment],
 ) -> Result<(), AllocError>
-    ensures { IfOk result (λ _. map plain_item items.new.items ≡ map plain_item items.old.items ++ map Assigns (map plain_assigned assignments.now)) }
+    ensures { IfOk result (λ _. map plain_item items.new.items ≡ map plain_item items.old.items
+        ++ map Assigns (map plain_assigned assignments.now)) }
 {
     for assignment in assignments {
         items.push(Item::Assigns(assignment))?;
@@ -103,7 +106,8 @@ fn push_assignments<'p>(
 }
 
 fn push_section<'p>(items: &mut Vec<Item<'p>>, section: &'p Section) -> Result<(), AllocError>
-    ensures { IfOk result (λ _. map plain_item items.new.items ≡ map plain_item items.old.items ++ section_items (plain_section section.now)) }
+    ensures { IfOk result (λ _. map plain_item items.new.items ≡ map plain_item items.old.items
+        ++ section_items (plain_section section.now)) }
 {
     match &section.kind {
         SectionKind::Assignments(assignments) => push_assignments(items, assignments),
@@ -122,7 +126,8 @@ fn push_section<'p>(items: &mut Vec<Item<'p>>, section: &'p Section) -> Result<(
 
 /// The items of a module, in text order.
 pub fn items_of<'p>(alloc: Global, source: &'p Module) -> Result<Vec<Item<'p>>, AllocError>
-    ensures { IfOk result (λ items. map plain_item items.items ≡ flat_map section_items (plain_module source.now).sections) }
+    ensures { IfOk result (λ items. map plain_item items.items ≡ flat_map section_items
+        (plain_module source.now).sections) }
 {
     let mut items = Vec::new(alloc);
     for section in &source.sections {

@@ -49,6 +49,8 @@ pub fn written()
 /// limits, with distinct names of the right form, and with numbers that name something of it. It has no more symbols
 /// than 256 variables have values.
 pub fn well_formed()
-    ensures flat { (p : Program) (m : System) → IsWritten p → Silent (Refuses p) → Flattens p m → IsFlat m }
-    ensures symbols { (p : Program) → IsWritten p → Silent (Refuses p) → length (symbols p) ≤ 262144 }
+    ensures flat { (p : Program) (m : System) → IsWritten p → Silent (Refuses p) → Flattens p m
+        → IsFlat m }
+    ensures symbols { (p : Program) → IsWritten p → Silent (Refuses p)
+        → length (symbols p) ≤ 262144 }
 {}

@@ -44,7 +44,8 @@ fn copied_symbols(alloc: Global, symbols: &Names<'_>) -> Result<Vec<Name>, Alloc
 /// The flat variables of all instances.
 fn flat_variables(alloc: Global, instances: &Instances<'_>) -> Result<Vec<FlatVar>, AllocError>
     requires { (p : Plain) × AreInstances p instances.now × IsWritten p }
-    ensures { (p : Plain) → AreInstances p instances.now → IsWritten p → IfOk result (λ variables. variables.items ≡ variables_in p) }
+    ensures { (p : Plain) → AreInstances p instances.now → IsWritten p
+        → IfOk result (λ variables. variables.items ≡ variables_in p) }
 {
     variables_of(
         alloc,
@@ -62,8 +63,12 @@ fn checked_parts<'p>(
     paths: &Paths<'p>,
     variables: &[FlatVar],
 ) -> Result<FlatParts, FlatRefusal>
-    requires { (p : Plain) × AreInstances p instances.now × ArePaths p instances.now paths.now × IsWritten p × (variables.now ≡ variables_in p) }
-    ensures { (p : Plain) → AreInstances p instances.now → ArePaths p instances.now paths.now → IsWritten p → variables.now ≡ variables_in p → MatchResult result (λ parts. AreParts p (all_items p) parts × Silent (First (item p) [] (all_items p))) (Refused (First (item p) [] (all_items p))) }
+    requires { (p : Plain) × AreInstances p instances.now × ArePaths p instances.now paths.now
+        × IsWritten p × (variables.now ≡ variables_in p) }
+    ensures { (p : Plain) → AreInstances p instances.now → ArePaths p instances.now paths.now
+        → IsWritten p → variables.now ≡ variables_in p
+        → MatchResult result (λ parts. AreParts p (all_items p) parts
+        × Silent (First (item p) [] (all_items p))) (Refused (First (item p) [] (all_items p))) }
 {
     let names = VariableNames::of(alloc, variables)?;
     check_items(alloc, instances, paths, &names)?;
@@ -79,7 +84,8 @@ fn model_of<'p>(
     parts: FlatParts,
 ) -> Result<FlatModel, AllocError>
     requires { (p : Plain) × AreInstances p instances.now }
-    ensures { (p : Plain) → AreInstances p instances.now → variables.items ≡ variables_in p → AreParts p (all_items p) parts → IfOk result (Flattens p) }
+    ensures { (p : Plain) → AreInstances p instances.now → variables.items ≡ variables_in p
+        → AreParts p (all_items p) parts → IfOk result (Flattens p) }
 {
     let symbols = copied_symbols(alloc, &instances.symbols)?;
     let processes = processes_of(alloc, &instances.rows, &instances.processes)?;
@@ -111,7 +117,8 @@ pub fn flatten(alloc: Global, program: &Program) -> Result<FlatModel, FlatRefusa
     requires { IsParsed (programs.program program.now) }
     ensures ok { OnOk result (Silent (Refuses (plain_program program.now))) }
     ensures flat { IfOk result (λ m. Flattens (plain_program program.now) m × IsFlat m) }
-    ensures refused { IfErr result (λ r. (r ≡ FlatRefusal.Memory) ⊎ Refuses (plain_program program.now) r) }
+    ensures refused { IfErr result (λ r. (r ≡ FlatRefusal.Memory)
+        ⊎ Refuses (plain_program program.now) r) }
 {
     let instances = Instances::build(alloc, program)?;
     let paths = Paths::build(alloc, &instances)?;

@@ -57,8 +57,11 @@ fn flat_assignment<'p>(
     i: usize,
     assignment: &'p Assignment,
 ) -> Result<Assign, AllocError>
-    requires { (p : Plain) × (s : Scope) × AreTables p instances.now paths.now names.now × (scope_at p i ≡ Some s) × IsExpandable p (s, Assigns (plain_assigned assignment.now)) }
-    ensures { (p : Plain) (s : Scope) → AreTables p instances.now paths.now names.now → scope_at p i ≡ Some s → IsExpandable p (s, Assigns (plain_assigned assignment.now)) → IfOk result (IsAssignment p (s, Assigns (plain_assigned assignment.now))) }
+    requires { (p : Plain) × (s : Scope) × AreTables p instances.now paths.now names.now
+        × (scope_at p i ≡ Some s) × IsExpandable p (s, Assigns (plain_assigned assignment.now)) }
+    ensures { (p : Plain) (s : Scope) → AreTables p instances.now paths.now names.now
+        → scope_at p i ≡ Some s → IsExpandable p (s, Assigns (plain_assigned assignment.now))
+        → IfOk result (IsAssignment p (s, Assigns (plain_assigned assignment.now))) }
 {
     let Some(var) = selected(alloc, instances, paths, names, i, &assignment.left.path)? else {
         unreachable!()
@@ -92,8 +95,14 @@ fn flat_condition<'p>(
     expr: &'p Expr,
     line: u32,
 ) -> Result<FlatItem, AllocError>
-    requires { (p : Plain) × (s : Scope) × (t : Term) × AreTables p instances.now paths.now names.now × (scope_at p i ≡ Some s) × IsWrittenExpr (plain_expr expr.now) × Expands p s (plain_expr expr.now) t × (nesting t ≤ 1024) }
-    ensures { (p : Plain) (s : Scope) (t : Term) → AreTables p instances.now paths.now names.now → scope_at p i ≡ Some s → IsWrittenExpr (plain_expr expr.now) → Expands p s (plain_expr expr.now) t → nesting t ≤ 1024 → IfOk result (λ c. (c.expr ≡ t) × (c.line ≡ line)) }
+    requires { (p : Plain) × (s : Scope) × (t : Term)
+        × AreTables p instances.now paths.now names.now × (scope_at p i ≡ Some s)
+        × IsWrittenExpr (plain_expr expr.now) × Expands p s (plain_expr expr.now) t
+        × (nesting t ≤ 1024) }
+    ensures { (p : Plain) (s : Scope) (t : Term) → AreTables p instances.now paths.now names.now
+        → scope_at p i ≡ Some s → IsWrittenExpr (plain_expr expr.now)
+        → Expands p s (plain_expr expr.now) t → nesting t ≤ 1024
+        → IfOk result (λ c. (c.expr ≡ t) × (c.line ≡ line)) }
 {
     let expr = expand(alloc, instances, paths, names, i, expr, MOST_NESTING)?;
     Ok(FlatItem { expr, line })
@@ -105,7 +114,9 @@ fn push_condition(
     flat: FlatItem,
     parts: &mut FlatParts,
 ) -> Result<(), AllocError>
-    ensures { (p : Plain) (items : List Placed) (s : Scope) (c : Stated) → c.kind ≡ kind_of condition → IsCondition p (s, States c) flat → AreParts p items parts.old → IfOk result (λ _. AreParts p (items ++ (s, States c) ∷ []) parts.new) }
+    ensures { (p : Plain) (items : List Placed) (s : Scope) (c : Stated)
+        → c.kind ≡ kind_of condition → IsCondition p (s, States c) flat → AreParts p items parts.old
+        → IfOk result (λ _. AreParts p (items ++ (s, States c) ∷ []) parts.new) }
 {
     match condition {
         Condition::Init => {
@@ -141,8 +152,12 @@ fn push_item<'p>(
     item: &Item<'p>,
     parts: &mut FlatParts,
 ) -> Result<(), AllocError>
-    requires { (p : Plain) × (s : Scope) × AreTables p instances.now paths.now names.now × (scope_at p i ≡ Some s) × IsExpandable p (s, plain_item item.now) }
-    ensures { (p : Plain) (s : Scope) (before : List Placed) → AreTables p instances.now paths.now names.now → scope_at p i ≡ Some s → IsExpandable p (s, plain_item item.now) → AreParts p before parts.old → IfOk result (λ _. AreParts p (before ++ (s, plain_item item.now) ∷ []) parts.new) }
+    requires { (p : Plain) × (s : Scope) × AreTables p instances.now paths.now names.now
+        × (scope_at p i ≡ Some s) × IsExpandable p (s, plain_item item.now) }
+    ensures { (p : Plain) (s : Scope) (before : List Placed)
+        → AreTables p instances.now paths.now names.now → scope_at p i ≡ Some s
+        → IsExpandable p (s, plain_item item.now) → AreParts p before parts.old
+        → IfOk result (λ _. AreParts p (before ++ (s, plain_item item.now) ∷ []) parts.new) }
 {
     match item {
         Item::Assigns(assignment) => {
@@ -172,8 +187,12 @@ fn push_body<'p>(
     items: &[Item<'p>],
     parts: &mut FlatParts,
 ) -> Result<(), AllocError>
-    requires { (p : Plain) × (s : Scope) × AreTables p instances.now paths.now names.now × (scope_at p i ≡ Some s) × All (IsExpandable p) (placed s items.now) }
-    ensures { (p : Plain) (s : Scope) (before : List Placed) → AreTables p instances.now paths.now names.now → scope_at p i ≡ Some s → All (IsExpandable p) (placed s items.now) → AreParts p before parts.old → IfOk result (λ _. AreParts p (before ++ placed s items.now) parts.new) }
+    requires { (p : Plain) × (s : Scope) × AreTables p instances.now paths.now names.now
+        × (scope_at p i ≡ Some s) × All (IsExpandable p) (placed s items.now) }
+    ensures { (p : Plain) (s : Scope) (before : List Placed)
+        → AreTables p instances.now paths.now names.now → scope_at p i ≡ Some s
+        → All (IsExpandable p) (placed s items.now) → AreParts p before parts.old
+        → IfOk result (λ _. AreParts p (before ++ placed s items.now) parts.new) }
 {
     for item in items {
         push_item(alloc, instances, paths, names, i, item, parts)?;
@@ -201,8 +220,10 @@ pub fn parts_of<'p>(
     paths: &Paths<'p>,
     names: &VariableNames<'_>,
 ) -> Result<FlatParts, AllocError>
-    requires { (p : Plain) × AreTables p instances.now paths.now names.now × All (IsExpandable p) (all_items p) }
-    ensures { (p : Plain) → AreTables p instances.now paths.now names.now → All (IsExpandable p) (all_items p) → IfOk result (AreParts p (all_items p)) }
+    requires { (p : Plain) × AreTables p instances.now paths.now names.now
+        × All (IsExpandable p) (all_items p) }
+    ensures { (p : Plain) → AreTables p instances.now paths.now names.now
+        → All (IsExpandable p) (all_items p) → IfOk result (AreParts p (all_items p)) }
 {
     let mut parts = no_parts(alloc);
     for i in 0..instances.len() {

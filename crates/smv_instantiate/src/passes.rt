@@ -29,8 +29,12 @@ fn check_body<'p>(
     items: &[Item<'p>],
     totals: &Totals,
 ) -> Result<Totals, FlatRefusal>
-    requires { (p : Plain) × (s : Scope) × (before : List Placed) × AreTables p instances.now paths.now names.now × (scope_at p i ≡ Some s) × IsPassed p before totals.now }
-    ensures { (p : Plain) (s : Scope) (before : List Placed) → AreTables p instances.now paths.now names.now → scope_at p i ≡ Some s → IsPassed p before totals.now → PassesAll p before (placed s items.now) result }
+    requires { (p : Plain) × (s : Scope) × (before : List Placed)
+        × AreTables p instances.now paths.now names.now × (scope_at p i ≡ Some s)
+        × IsPassed p before totals.now }
+    ensures { (p : Plain) (s : Scope) (before : List Placed)
+        → AreTables p instances.now paths.now names.now → scope_at p i ≡ Some s
+        → IsPassed p before totals.now → PassesAll p before (placed s items.now) result }
 {
     let mut so_far = *totals;
     for item in items {
@@ -47,7 +51,10 @@ pub fn check_items<'p>(
     names: &VariableNames<'_>,
 ) -> Result<(), FlatRefusal>
     requires { (p : Plain) × AreTables p instances.now paths.now names.now }
-    ensures { (p : Plain) → AreTables p instances.now paths.now names.now → MatchResult result (λ _. All (HasTerm p) (all_items p) × Silent (First (item_rule p) [] (all_items p))) (Refused (First (item_rule p) [] (all_items p))) }
+    ensures { (p : Plain) → AreTables p instances.now paths.now names.now
+        → MatchResult result (λ _. All (HasTerm p) (all_items p)
+        × Silent (First (item_rule p) [] (all_items p)))
+        (Refused (First (item_rule p) [] (all_items p))) }
 {
     let mut totals = no_totals();
     for i in 0..instances.len() {

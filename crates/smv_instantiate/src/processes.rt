@@ -22,7 +22,9 @@ use std::alloc::{AllocError, Global};
 /// The name of a process.
 fn process_name(alloc: Global, rows: &[Row<'_>], number: usize) -> Result<Name, AllocError>
     requires { (ms : Tables) × IsInside ms rows.now number }
-    ensures { (ms : Tables) (done : List Scope) (s : Scope) → AreRows ms rows.now done → slice_get done number ≡ Some s → IsTrue (is_process s) → IfOk result (λ name. name ≡ name_of s) }
+    ensures { (ms : Tables) (done : List Scope) (s : Scope) → AreRows ms rows.now done
+        → slice_get done number ≡ Some s → IsTrue (is_process s)
+        → IfOk result (λ name. name ≡ name_of s) }
 {
     let row = &rows[number];
     match &row.step {
@@ -37,8 +39,11 @@ pub fn processes_of(
     rows: &[Row<'_>],
     numbers: &[usize],
 ) -> Result<Vec<Name>, AllocError>
-    requires { (ms : Tables) × (done : List Scope) × AreRows ms rows.now done × Pairs (λ n c. slice_get done n ≡ Some c) numbers.now (filter is_process done) }
-    ensures { (ms : Tables) (done : List Scope) → AreRows ms rows.now done → Pairs (λ n c. slice_get done n ≡ Some c) numbers.now (filter is_process done) → IfOk result (λ names. names.items ≡ map name_of (filter is_process done)) }
+    requires { (ms : Tables) × (done : List Scope) × AreRows ms rows.now done
+        × Pairs (λ n c. slice_get done n ≡ Some c) numbers.now (filter is_process done) }
+    ensures { (ms : Tables) (done : List Scope) → AreRows ms rows.now done
+        → Pairs (λ n c. slice_get done n ≡ Some c) numbers.now (filter is_process done)
+        → IfOk result (λ names. names.items ≡ map name_of (filter is_process done)) }
 {
     let mut names = Vec::new(alloc);
     for number in numbers {
@@ -59,7 +64,9 @@ fn is_process_instance(entity: &Entity<'_>) -> bool
 
 /// The line of the first process instance among the entries of a body.
 fn body_line(entries: &[Entry<'_>]) -> Option<u32>
-    ensures { cons_option result [] ≡ map (λ e. e.line) (take 1 (filter (λ e. declares_process e.entity) (map plain_entry entries.now))) }
+    ensures { cons_option result [] ≡ map
+        (λ e. e.line)
+        (take 1 (filter (λ e. declares_process e.entity) (map plain_entry entries.now))) }
 {
     for entry in entries {
         if is_process_instance(&entry.entity) {
@@ -72,7 +79,8 @@ fn body_line(entries: &[Entry<'_>]) -> Option<u32>
 /// The line of the first process instance's declaration.
 pub fn process_line(modules: &Modules<'_>, rows: &[Row<'_>]) -> Option<u32>
     requires { (p : Plain) × AreRows modules.now rows.now (instances p) }
-    ensures { (p : Plain) → AreRows modules.now rows.now (instances p) → cons_option result [] ≡ map (λ e. e.1.line) (take 1 (process_entries p)) }
+    ensures { (p : Plain) → AreRows modules.now rows.now (instances p) → cons_option result [] ≡ map
+        (λ e. e.1.line) (take 1 (process_entries p)) }
 {
     for row in rows {
         let table = &modules.tables[row.table];
@@ -86,7 +94,13 @@ pub fn process_line(modules: &Modules<'_>, rows: &[Row<'_>]) -> Option<u32>
 /// The variable that names one of so many processes, declared at this line.
 pub fn selector(alloc: Global, processes: usize, line: u32) -> Result<FlatVar, AllocError>
     requires { processes ≤ 2 ^ 31 }
-    ensures { IfOk result (λ v. v ≡ record { name = selector_name; values = map (λ k. Number (pos k)) (rising 0 processes); line = line }) }
+    ensures { IfOk result
+        (λ v. v ≡ record {
+          name = selector_name;
+          values = map (λ k. Number (pos k))
+              (rising 0 processes);
+          line = line;
+        }) }
 {
     let mut values = Vec::new(alloc);
     for process in 0..processes {
@@ -105,7 +119,9 @@ pub fn selectors(
 ) -> Result<Vec<FlatVar>, AllocError>
     requires few { processes ≤ 2 ^ 31 }
     requires rows { (p : Plain) × AreRows modules.now rows.now (instances p) }
-    ensures { (p : Plain) → AreRows modules.now rows.now (instances p) → processes ≡ length (processes_in p) → IfOk result (λ vs. vs.items ≡ selector_variables p) }
+    ensures { (p : Plain) → AreRows modules.now rows.now (instances p)
+        → processes ≡ length (processes_in p)
+        → IfOk result (λ vs. vs.items ≡ selector_variables p) }
 {
     let mut variables = Vec::new(alloc);
     match process_line(modules, rows) {

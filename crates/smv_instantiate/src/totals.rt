@@ -45,7 +45,10 @@ pub fn no_totals() -> Totals
 
 /// Counts a specification.
 fn count_specification(line: u32, totals: &Totals) -> Result<Totals, FlatRefusal>
-    ensures { (items : List Placed) (s : Scope) (c : Stated) → c.kind ≡ Kind.Spec → c.line ≡ line → AreCounts totals.now items → Counts totals.now items (s, States c) (count_rows (items ++ (s, States c) ∷ []) c) result }
+    ensures { (items : List Placed) (s : Scope) (c : Stated) → c.kind ≡ Kind.Spec → c.line ≡ line
+        → AreCounts totals.now items
+        → Counts totals.now items (s, States c) (count_rows (items ++ (s, States c) ∷ []) c)
+        result }
 {
     if totals.specifications >= MOST_SPECIFICATIONS {
         return Err(FlatRefusal::Limit {
@@ -63,7 +66,10 @@ fn count_specification(line: u32, totals: &Totals) -> Result<Totals, FlatRefusal
 
 /// Counts a constraint.
 fn count_constraint(line: u32, totals: &Totals) -> Result<Totals, FlatRefusal>
-    ensures { (items : List Placed) (s : Scope) (c : Stated) → c.kind ≡ Kind.Fairness → c.line ≡ line → AreCounts totals.now items → Counts totals.now items (s, States c) (count_rows (items ++ (s, States c) ∷ []) c) result }
+    ensures { (items : List Placed) (s : Scope) (c : Stated) → c.kind ≡ Kind.Fairness
+        → c.line ≡ line → AreCounts totals.now items
+        → Counts totals.now items (s, States c) (count_rows (items ++ (s, States c) ∷ []) c)
+        result }
 {
     if totals.constraints >= MOST_CONSTRAINTS {
         return Err(FlatRefusal::Limit {
@@ -85,7 +91,10 @@ pub fn count_condition(
     line: u32,
     totals: &Totals,
 ) -> Result<Totals, FlatRefusal>
-    ensures { (items : List Placed) (s : Scope) (c : Stated) → c.kind ≡ kind_of condition → c.line ≡ line → AreCounts totals.now items → Counts totals.now items (s, States c) (count_rows (items ++ (s, States c) ∷ []) c) result }
+    ensures { (items : List Placed) (s : Scope) (c : Stated) → c.kind ≡ kind_of condition
+        → c.line ≡ line → AreCounts totals.now items
+        → Counts totals.now items (s, States c) (count_rows (items ++ (s, States c) ∷ []) c)
+        result }
 {
     match condition {
         Condition::Init | Condition::Invar | Condition::Trans => Ok(*totals),

@@ -38,7 +38,9 @@ fn constant_value(constant: &Constant, symbols: &Names<'_>) -> Value
 
 /// Adds a value where it is not there yet.
 fn push_new(values: &mut Vec<Value>, value: Value) -> Result<(), AllocError>
-    ensures { IfOk result (λ _. values.new.items ≡ (if among value values.old.items then values.old.items else values.old.items ++ value ∷ [])) }
+    ensures { IfOk result
+        (λ _. values.new.items ≡ (if among value values.old.items then values.old.items else
+        values.old.items ++ value ∷ [])) }
 {
     if values.contains(&value) {
         return Ok(());
@@ -55,7 +57,9 @@ fn enumeration_values(
     requires written { All IsWrittenConstant (map plain_constant constants.now) }
     requires named { All (IsNamed symbols.now) (map plain_constant constants.now) }
     requires few { length symbols.now ≤ 2 ^ 31 }
-    ensures { IfOk result (λ values. values.items ≡ distinct (map (value_of symbols.now) (map plain_constant constants.now))) }
+    ensures { IfOk result
+        (λ values. values.items
+        ≡ distinct (map (value_of symbols.now) (map plain_constant constants.now))) }
 {
     let mut values = Vec::new(alloc);
     for constant in constants {
@@ -81,7 +85,8 @@ fn value_above(low: i32, steps: u64) -> Value
 }
 
 fn range_values(alloc: Global, low: i32, high: i32) -> Result<Vec<Value>, AllocError>
-    ensures { IfOk result (λ values. values.items ≡ map (λ k. Number (low +ℤ pos k)) (rising 0 (tree.integer_count low high))) }
+    ensures { IfOk result (λ values. values.items ≡ map (λ k. Number (low +ℤ pos k))
+        (rising 0 (tree.integer_count low high))) }
 {
     let mut values = Vec::new(alloc);
     for steps in 0..integer_count(low, high) {
@@ -105,7 +110,8 @@ pub fn values_of(
     requires written { IsWrittenType (plain_type plain.now) }
     requires named { AreNamed symbols.now (plain_type plain.now) }
     requires few { length symbols.now ≤ 2 ^ 31 }
-    ensures { IfOk result (λ values. values.items ≡ type_values symbols.now (plain_type plain.now)) }
+    ensures { IfOk result (λ values. values.items ≡ type_values symbols.now
+        (plain_type plain.now)) }
 {
     match &plain.kind {
         PlainKind::Boolean => truth_values(alloc),
@@ -133,7 +139,8 @@ pub fn push_elements(
     name: Name,
 ) -> Result<(), AllocError>
     requires { IsWrittenType (plain_type plain.now) }
-    ensures { IfOk result (λ _. names.new.items ≡ names.old.items ++ element_names (plain_type plain.now) name) }
+    ensures { IfOk result (λ _. names.new.items ≡ names.old.items ++ element_names
+        (plain_type plain.now) name) }
 {
     match &plain.kind {
         PlainKind::Array(low, high, element) => {

@@ -22,7 +22,8 @@ fn push_named(
     values: &[Value],
     line: u32,
 ) -> Result<(), AllocError>
-    ensures { IfOk result (λ _. variables.new.items ≡ variables.old.items ++ variables_named names.items values.now line) }
+    ensures { IfOk result (λ _. variables.new.items ≡ variables.old.items ++ variables_named
+        names.items values.now line) }
 {
     for name in names {
         let variable = FlatVar {
@@ -47,7 +48,9 @@ pub fn push_variables(
     requires written { IsWrittenType (plain_type plain.now) }
     requires named { AreNamed symbols.now (plain_type plain.now) }
     requires few { length symbols.now ≤ 2 ^ 31 }
-    ensures { IfOk result (λ _. variables.new.items ≡ variables.old.items ++ variables_named (element_names (plain_type plain.now) name) (type_values symbols.now (plain_type plain.now)) line) }
+    ensures { IfOk result (λ _. variables.new.items ≡ variables.old.items ++ variables_named
+        (element_names (plain_type plain.now) name) (type_values symbols.now (plain_type plain.now))
+        line) }
 {
     let values = values_of(alloc, plain, symbols)?;
     let mut names = Vec::new(alloc);

@@ -54,7 +54,8 @@ fn has_value(target: &Target<'_>) -> bool
 
 /// Whether a path to the target suits where a value may be wanted.
 fn suits(target: &Target<'_>, wanted: bool) -> bool
-    ensures { (p : Plain) (t : denotes.Target) → IsTarget p target.now t → result ≡ (not wanted || is_value t) }
+    ensures { (p : Plain) (t : denotes.Target) → IsTarget p target.now t
+        → result ≡ (not wanted || is_value t) }
 {
     !wanted || has_value(target)
 }
@@ -68,7 +69,8 @@ fn is_known<'p>(
     mention: &Mention<'p>,
 ) -> Result<bool, AllocError>
     requires { HasTargets instances.now targets.now i }
-    ensures { (p : Plain) (s : Scope) → AreTargets p instances.now targets.now → scope_at p i ≡ Some s → IfOk result (KnownBy p s (plain_mention mention.now)) }
+    ensures { (p : Plain) (s : Scope) → AreTargets p instances.now targets.now
+        → scope_at p i ≡ Some s → IfOk result (KnownBy p s (plain_mention mention.now)) }
 {
     match targets.resolve(alloc, instances, i, mention.path)? {
         Some(target) => Ok(suits(&target, mention.wanted)),
@@ -85,7 +87,10 @@ fn check_known<'p>(
     mentions: &[Mention<'p>],
 ) -> Result<(), FlatRefusal>
     requires { HasTargets instances.now targets.now i }
-    ensures { (p : Plain) (s : Scope) → AreTargets p instances.now targets.now → scope_at p i ≡ Some s → MatchResult result (λ _. All (IsKnown p s) (map plain_mention mentions.now)) (Refused (first_of (map plain_mention mentions.now) (unknown_path p s))) }
+    ensures { (p : Plain) (s : Scope) → AreTargets p instances.now targets.now
+        → scope_at p i ≡ Some s
+        → MatchResult result (λ _. All (IsKnown p s) (map plain_mention mentions.now))
+        (Refused (first_of (map plain_mention mentions.now) (unknown_path p s))) }
 {
     for mention in mentions {
         if !is_known(alloc, instances, targets, i, mention)? {
@@ -119,7 +124,8 @@ fn index_value<'p>(
     bracket: &Bracket<'p>,
 ) -> Result<Option<u32>, AllocError>
     requires { CanAsk instances.now targets.now (length numbers.now) bracket.now.scope }
-    ensures { (p : Plain) (b : denotes.Bracket) → AreTargets p instances.now targets.now → AreNumbers p numbers.now → IsBracket p bracket.now b → IfOk result (IsIndexValue p b) }
+    ensures { (p : Plain) (b : denotes.Bracket) → AreTargets p instances.now targets.now
+        → AreNumbers p numbers.now → IsBracket p bracket.now b → IfOk result (IsIndexValue p b) }
 {
     match number(
         alloc,
@@ -143,7 +149,9 @@ pub fn index_values<'p>(
     indexes: &[Bracket<'p>],
 ) -> Result<Option<Vec<u32>>, AllocError>
     requires { CanIndex instances.now targets.now (length numbers.now) indexes.now }
-    ensures { (p : Plain) (bs : List denotes.Bracket) → AreTargets p instances.now targets.now → AreNumbers p numbers.now → AreBrackets p indexes.now bs → IfOk result (λ o. MatchOption o (SomeBad p bs) (λ v. AreIndexes p bs (reverse v.items))) }
+    ensures { (p : Plain) (bs : List denotes.Bracket) → AreTargets p instances.now targets.now
+        → AreNumbers p numbers.now → AreBrackets p indexes.now bs
+        → IfOk result (λ o. MatchOption o (SomeBad p bs) (λ v. AreIndexes p bs (reverse v.items))) }
 {
     let mut values = Vec::new(alloc);
     for bracket in indexes {
@@ -188,7 +196,9 @@ fn last_are_indexed<'p>(
 ) -> Result<bool, AllocError>
     requires some { count ≤ length indexes.now }
     requires ask { CanIndex instances.now targets.now (length numbers.now) indexes.now }
-    ensures { (p : Plain) (bs : List denotes.Bracket) → AreTargets p instances.now targets.now → AreNumbers p numbers.now → AreBrackets p indexes.now bs → IfOk result (AreIndexedBy p (take count bs)) }
+    ensures { (p : Plain) (bs : List denotes.Bracket) → AreTargets p instances.now targets.now
+        → AreNumbers p numbers.now → AreBrackets p indexes.now bs
+        → IfOk result (AreIndexedBy p (take count bs)) }
 {
     let first = indexes.len() - count;
     match index_values(alloc, instances, targets, numbers, &indexes[first..])? {
@@ -206,8 +216,12 @@ fn target_is_indexed<'p>(
     target: &Target<'p>,
     count: usize,
 ) -> Result<bool, AllocError>
-    requires { (p : Plain) × (t : denotes.Target) × AreTargets p instances.now targets.now × (length numbers.now ≡ length (all_entries p)) × IsTarget p target.now t × (count ≤ length (brackets_of t)) }
-    ensures { (p : Plain) (t : denotes.Target) → AreTargets p instances.now targets.now → AreNumbers p numbers.now → IsTarget p target.now t → IfOk result (AreIndexedBy p (take count (brackets_of t))) }
+    requires { (p : Plain) × (t : denotes.Target) × AreTargets p instances.now targets.now
+        × (length numbers.now ≡ length (all_entries p)) × IsTarget p target.now t
+        × (count ≤ length (brackets_of t)) }
+    ensures { (p : Plain) (t : denotes.Target) → AreTargets p instances.now targets.now
+        → AreNumbers p numbers.now → IsTarget p target.now t
+        → IfOk result (AreIndexedBy p (take count (brackets_of t))) }
 {
     match target {
         Target::Stored { indexes, .. } => {
@@ -229,7 +243,10 @@ fn is_indexed<'p>(
     path: &'p Path,
 ) -> Result<bool, AllocError>
     requires { CanAsk instances.now targets.now (length numbers.now) i }
-    ensures { (p : Plain) (s : Scope) (t : denotes.Target) → AreTargets p instances.now targets.now → scope_at p i ≡ Some s → AreNumbers p numbers.now → denotes.Denotes p s (plain_path path.now) t → IfOk result (IndexedBy p s (plain_path path.now)) }
+    ensures { (p : Plain) (s : Scope) (t : denotes.Target) → AreTargets p instances.now targets.now
+        → scope_at p i ≡ Some s → AreNumbers p numbers.now
+        → denotes.Denotes p s (plain_path path.now) t
+        → IfOk result (IndexedBy p s (plain_path path.now)) }
 {
     match targets.resolve(alloc, instances, i, path)? {
         Some(target) => {
@@ -250,7 +267,12 @@ fn check_indexes<'p>(
     mentions: &[Mention<'p>],
 ) -> Result<(), FlatRefusal>
     requires { CanAsk instances.now targets.now (length numbers.now) i }
-    ensures { (p : Plain) (s : Scope) → AreTargets p instances.now targets.now → scope_at p i ≡ Some s → AreNumbers p numbers.now → All (IsKnown p s) (map plain_mention mentions.now) → MatchResult result (λ _. All (λ m. HasIndexes p s m.path) (map plain_mention mentions.now)) (Refused (first_of (map plain_mention mentions.now) (bad_index p s))) }
+    ensures { (p : Plain) (s : Scope) → AreTargets p instances.now targets.now
+        → scope_at p i ≡ Some s → AreNumbers p numbers.now
+        → All (IsKnown p s) (map plain_mention mentions.now)
+        → MatchResult result
+        (λ _. All (λ m. HasIndexes p s m.path) (map plain_mention mentions.now))
+        (Refused (first_of (map plain_mention mentions.now) (bad_index p s))) }
 {
     for mention in mentions {
         if !is_indexed(alloc, instances, targets, numbers, i, mention.path)? {
@@ -275,9 +297,16 @@ pub fn check_paths<'p>(
     mentions: &[Mention<'p>],
 ) -> Result<(), FlatRefusal>
     requires { CanAsk instances.now targets.now (length numbers.now) i }
-    ensures sound { (p : Plain) (s : Scope) → AreTargets p instances.now targets.now → scope_at p i ≡ Some s → AreNumbers p numbers.now → OnOk result (AreSound p s (map plain_mention mentions.now)) }
-    ensures silent { (p : Plain) (s : Scope) → AreTargets p instances.now targets.now → scope_at p i ≡ Some s → AreNumbers p numbers.now → OnOk result (Silent (path_rows p s (map plain_mention mentions.now))) }
-    ensures refused { (p : Plain) (s : Scope) → AreTargets p instances.now targets.now → scope_at p i ≡ Some s → AreNumbers p numbers.now → IfErr result (λ r. (r ≡ FlatRefusal.Memory) ⊎ path_rows p s (map plain_mention mentions.now) r) }
+    ensures sound { (p : Plain) (s : Scope) → AreTargets p instances.now targets.now
+        → scope_at p i ≡ Some s → AreNumbers p numbers.now
+        → OnOk result (AreSound p s (map plain_mention mentions.now)) }
+    ensures silent { (p : Plain) (s : Scope) → AreTargets p instances.now targets.now
+        → scope_at p i ≡ Some s → AreNumbers p numbers.now
+        → OnOk result (Silent (path_rows p s (map plain_mention mentions.now))) }
+    ensures refused { (p : Plain) (s : Scope) → AreTargets p instances.now targets.now
+        → scope_at p i ≡ Some s → AreNumbers p numbers.now
+        → IfErr result (λ r. (r ≡ FlatRefusal.Memory)
+        ⊎ path_rows p s (map plain_mention mentions.now) r) }
 {
     check_known(alloc, instances, targets, i, mentions)?;
     check_indexes(alloc, instances, targets, numbers, i, mentions)

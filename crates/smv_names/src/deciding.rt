@@ -33,7 +33,8 @@ fn enter(
 /// Notes that the formal parameters on the stack lead nowhere.
 fn give_up(states: &mut States<'_>, stack: &mut Vec<Parameter>)
     requires { (p : Plain) × AreLost p states.old stack.old.items }
-    ensures settles { (p : Plain) → AreLost p states.old stack.old.items → Settles p states.old states.new }
+    ensures settles { (p : Plain) → AreLost p states.old stack.old.items
+        → Settles p states.old states.new }
     ensures count { unseen_count states.new ≤ unseen_count states.old }
     ensures empty { stack.new.items ≡ [] }
 {
@@ -50,8 +51,11 @@ fn wait_for(
     top: Parameter,
     next: Parameter,
 ) -> Result<(), AllocError>
-    requires { (p : Plain) × KeepsStack p states.old (stack.old.items ++ top ∷ []) × IsOpen states.old next × WaitsFor p top next }
-    ensures { (p : Plain) → KeepsStack p states.old (stack.old.items ++ top ∷ []) → WaitsFor p top next → OnOk result (Steps p states.old states.new (length stack.old.items + 1) stack.new.items) }
+    requires { (p : Plain) × KeepsStack p states.old (stack.old.items ++ top ∷ [])
+        × IsOpen states.old next × WaitsFor p top next }
+    ensures { (p : Plain) → KeepsStack p states.old (stack.old.items ++ top ∷ [])
+        → WaitsFor p top next
+        → OnOk result (Steps p states.old states.new (length stack.old.items + 1) stack.new.items) }
 {
     stack.push(top)?;
     if states.is_unseen(next) {
@@ -69,8 +73,12 @@ fn step<'p>(
     stack: &mut Vec<Parameter>,
     top: Parameter,
 ) -> Result<(), AllocError>
-    requires { (p : Plain) × AreStarted p instances.now targets.old × KeepsStack p targets.old.states (stack.old.items ++ top ∷ []) }
-    ensures steps { (p : Plain) → AreStarted p instances.now targets.old → KeepsStack p targets.old.states (stack.old.items ++ top ∷ []) → OnOk result (Steps p targets.old.states targets.new.states (length stack.old.items + 1) stack.new.items) }
+    requires { (p : Plain) × AreStarted p instances.now targets.old
+        × KeepsStack p targets.old.states (stack.old.items ++ top ∷ []) }
+    ensures steps { (p : Plain) → AreStarted p instances.now targets.old
+        → KeepsStack p targets.old.states (stack.old.items ++ top ∷ [])
+        → OnOk result (Steps p targets.old.states targets.new.states (length stack.old.items + 1)
+        stack.new.items) }
     ensures nodes { targets.new.nodes ≡ targets.old.nodes }
 {
     match actual_outcome(alloc, instances, targets, top)? {
@@ -96,7 +104,8 @@ fn decide<'p>(
     requires started { (p : Plain) × AreStarted p instances.now targets.old }
     requires idle { AreIdle targets.old.states }
     requires unseen { state_at targets.old.states at ≡ Some State.Unseen }
-    ensures settles { (p : Plain) → AreStarted p instances.now targets.old → OnOk result (Settles p targets.old.states targets.new.states) }
+    ensures settles { (p : Plain) → AreStarted p instances.now targets.old
+        → OnOk result (Settles p targets.old.states targets.new.states) }
     ensures seen { OnOk result (state_at targets.new.states at ≡ Some State.Unseen → ⊥) }
     ensures nodes { targets.new.nodes ≡ targets.old.nodes }
 {
@@ -118,8 +127,10 @@ fn decide_row<'p>(
     requires started { (p : Plain) × AreStarted p instances.now targets.old }
     requires idle { AreIdle targets.old.states }
     requires row { i < length targets.old.states.rows.items }
-    ensures settles { (p : Plain) → AreStarted p instances.now targets.old → OnOk result (Settles p targets.old.states targets.new.states) }
-    ensures seen { OnOk result ((at : Parameter) → at.instance ≡ i → state_at targets.new.states at ≡ Some State.Unseen → ⊥) }
+    ensures settles { (p : Plain) → AreStarted p instances.now targets.old
+        → OnOk result (Settles p targets.old.states targets.new.states) }
+    ensures seen { OnOk result ((at : Parameter) → at.instance ≡ i → state_at targets.new.states at
+        ≡ Some State.Unseen → ⊥) }
     ensures nodes { targets.new.nodes ≡ targets.old.nodes }
 {
     for place in 0..targets.states.count(i) {
@@ -139,7 +150,8 @@ pub fn decide_all<'p>(
 ) -> Result<(), AllocError>
     requires started { (p : Plain) × AreStarted p instances.now targets.old }
     requires idle { AreIdle targets.old.states }
-    ensures { (p : Plain) → AreStarted p instances.now targets.old → OnOk result (AreTargets p instances.now targets.new) }
+    ensures { (p : Plain) → AreStarted p instances.now targets.old
+        → OnOk result (AreTargets p instances.now targets.new) }
 {
     for i in 0..targets.states.rows.len() {
         decide_row(alloc, instances, targets, i)?;

@@ -31,8 +31,12 @@ use std::alloc::Global;
 
 /// Whether the name of an entry of the instance i is circular.
 fn is_circular(targets: &Targets<'_>, order: &Order, i: usize, k: usize) -> bool
-    requires { (p : Plain) × (s : Scope) × (e : Line) × AreNodes p targets.now.nodes × AreOrdered p order.now.order.items order.now.circular.items × (scope_at p i ≡ Some s) × (slice_get (entries (module_of s)) k ≡ Some e) }
-    ensures { (p : Plain) (s : Scope) (e : Line) → AreNodes p targets.now.nodes → AreOrdered p order.now.order.items order.now.circular.items → scope_at p i ≡ Some s → slice_get (entries (module_of s)) k ≡ Some e → IsCircularBy p s e.name result }
+    requires { (p : Plain) × (s : Scope) × (e : Line) × AreNodes p targets.now.nodes
+        × AreOrdered p order.now.order.items order.now.circular.items × (scope_at p i ≡ Some s)
+        × (slice_get (entries (module_of s)) k ≡ Some e) }
+    ensures { (p : Plain) (s : Scope) (e : Line) → AreNodes p targets.now.nodes
+        → AreOrdered p order.now.order.items order.now.circular.items → scope_at p i ≡ Some s
+        → slice_get (entries (module_of s)) k ≡ Some e → IsCircularBy p s e.name result }
 {
     let node = targets.nodes.node(i, k);
     order.circular[node]
@@ -41,7 +45,8 @@ fn is_circular(targets: &Targets<'_>, order: &Order, i: usize, k: usize) -> bool
 /// How many formal parameters the instance has.
 fn formal_count(instances: &Instances<'_>, number: usize) -> usize
     requires { HasInstance instances.now number }
-    ensures { (p : Plain) (c : Scope) → AreInstances p instances.now → scope_at p number ≡ Some c → result ≡ length (module_of c).formals }
+    ensures { (p : Plain) (c : Scope) → AreInstances p instances.now → scope_at p number ≡ Some c
+        → result ≡ length (module_of c).formals }
 {
     instances.module(number).formals.len()
 }
@@ -54,7 +59,9 @@ fn has_circular(
     number: usize,
 ) -> bool
     requires { HasCircles instances.now targets.now order.now number }
-    ensures { (p : Plain) (c : Scope) → AreTargets p instances.now targets.now → AreOrdered p order.now.order.items order.now.circular.items → scope_at p number ≡ Some c → HasCircularBy p c result }
+    ensures { (p : Plain) (c : Scope) → AreTargets p instances.now targets.now
+        → AreOrdered p order.now.order.items order.now.circular.items → scope_at p number ≡ Some c
+        → HasCircularBy p c result }
 {
     for place in 0..formal_count(instances, number) {
         if is_circular(targets, order, number, place) {
@@ -72,8 +79,14 @@ fn declares_circular(
     i: usize,
     k: usize,
 ) -> bool
-    requires { (p : Plain) × (s : Scope) × (e : Line) × AreTargets p instances.now targets.now × AreOrdered p order.now.order.items order.now.circular.items × (scope_at p i ≡ Some s) × (slice_get (entries (module_of s)) k ≡ Some e) }
-    ensures { (p : Plain) (s : Scope) (e : Line) (c : Scope) → AreTargets p instances.now targets.now → AreOrdered p order.now.order.items order.now.circular.items → scope_at p i ≡ Some s → slice_get (entries (module_of s)) k ≡ Some e → child p s e ≡ Some c → HasCircularBy p c result }
+    requires { (p : Plain) × (s : Scope) × (e : Line) × AreTargets p instances.now targets.now
+        × AreOrdered p order.now.order.items order.now.circular.items × (scope_at p i ≡ Some s)
+        × (slice_get (entries (module_of s)) k ≡ Some e) }
+    ensures { (p : Plain) (s : Scope) (e : Line) (c : Scope)
+        → AreTargets p instances.now targets.now
+        → AreOrdered p order.now.order.items order.now.circular.items → scope_at p i ≡ Some s
+        → slice_get (entries (module_of s)) k ≡ Some e → child p s e ≡ Some c
+        → HasCircularBy p c result }
 {
     match instances.found_at(i, k) {
         Found::Instance(number) => has_circular(instances, targets, order, number),
@@ -95,7 +108,10 @@ fn check_right<'p>(
     right: &'p Expr,
 ) -> Result<(), FlatRefusal>
     requires { CanAsk instances.now targets.now (length numbers.now) i }
-    ensures { (p : Plain) (s : Scope) → AreTargets p instances.now targets.now → scope_at p i ≡ Some s → AreNumbers p numbers.now → MatchResult result (λ _. AreSound p s (mentions (plain_expr right.now))) (Refused (path_rows p s (mentions (plain_expr right.now)))) }
+    ensures { (p : Plain) (s : Scope) → AreTargets p instances.now targets.now
+        → scope_at p i ≡ Some s → AreNumbers p numbers.now
+        → MatchResult result (λ _. AreSound p s (mentions (plain_expr right.now)))
+        (Refused (path_rows p s (mentions (plain_expr right.now)))) }
 {
     let mut mentions = Vec::new(alloc);
     push_mentions(right, &mut mentions)?;
@@ -112,7 +128,11 @@ fn check_actuals<'p>(
     actuals: &'p [Expr],
 ) -> Result<(), FlatRefusal>
     requires { CanAsk instances.now targets.now (length numbers.now) i }
-    ensures { (p : Plain) (s : Scope) → AreTargets p instances.now targets.now → scope_at p i ≡ Some s → AreNumbers p numbers.now → MatchResult result (λ _. AreSound p s (flat_map actual_mentions (map plain_expr actuals.now))) (Refused (path_rows p s (flat_map actual_mentions (map plain_expr actuals.now)))) }
+    ensures { (p : Plain) (s : Scope) → AreTargets p instances.now targets.now
+        → scope_at p i ≡ Some s → AreNumbers p numbers.now
+        → MatchResult result
+        (λ _. AreSound p s (flat_map actual_mentions (map plain_expr actuals.now)))
+        (Refused (path_rows p s (flat_map actual_mentions (map plain_expr actuals.now)))) }
 {
     let mut mentions = Vec::new(alloc);
     push_actuals(actuals, &mut mentions)?;
@@ -132,7 +152,11 @@ fn check_defined<'p>(
     right: &'p Expr,
 ) -> Result<(), FlatRefusal>
     requires { HasPlace instances.now targets.now order.now numbers.now i k }
-    ensures { (p : Plain) (s : Scope) (e : Line) → AreReady p instances.now targets.now order.now numbers.now → scope_at p i ≡ Some s → slice_get (entries (module_of s)) k ≡ Some e → e.line ≡ line → e.entity ≡ Stood.Defined (plain_expr right.now) → MatchResult result (λ _. IsDefined p s e e.entity) (Refused (definition p (s, e))) }
+    ensures { (p : Plain) (s : Scope) (e : Line)
+        → AreReady p instances.now targets.now order.now numbers.now → scope_at p i ≡ Some s
+        → slice_get (entries (module_of s)) k ≡ Some e → e.line ≡ line
+        → e.entity ≡ Stood.Defined (plain_expr right.now)
+        → MatchResult result (λ _. IsDefined p s e e.entity) (Refused (definition p (s, e))) }
 {
     if is_circular(targets, order, i, k) {
         return Err(FlatRefusal::CircularDefine { line });
@@ -154,7 +178,11 @@ fn check_declared<'p>(
     actuals: &'p [Expr],
 ) -> Result<(), FlatRefusal>
     requires { HasPlace instances.now targets.now order.now numbers.now i k }
-    ensures { (p : Plain) (s : Scope) (e : Line) (process : Bool) (module_name : Name) → AreReady p instances.now targets.now order.now numbers.now → scope_at p i ≡ Some s → slice_get (entries (module_of s)) k ≡ Some e → e.line ≡ line → e.entity ≡ Stood.Instance process module_name (map plain_expr actuals.now) → MatchResult result (λ _. IsDefined p s e e.entity) (Refused (definition p (s, e))) }
+    ensures { (p : Plain) (s : Scope) (e : Line) (process : Bool) (module_name : Name)
+        → AreReady p instances.now targets.now order.now numbers.now → scope_at p i ≡ Some s
+        → slice_get (entries (module_of s)) k ≡ Some e → e.line ≡ line
+        → e.entity ≡ Stood.Instance process module_name (map plain_expr actuals.now)
+        → MatchResult result (λ _. IsDefined p s e e.entity) (Refused (definition p (s, e))) }
 {
     if declares_circular(instances, targets, order, i, k) {
         return Err(FlatRefusal::CircularDefine { line });
@@ -173,7 +201,10 @@ fn check_entry<'p>(
     k: usize,
 ) -> Result<(), FlatRefusal>
     requires { HasPlace instances.now targets.now order.now numbers.now i k }
-    ensures { (p : Plain) (s : Scope) (e : Line) → AreReady p instances.now targets.now order.now numbers.now → scope_at p i ≡ Some s → slice_get (entries (module_of s)) k ≡ Some e → MatchResult result (λ _. IsDefined p s e e.entity) (Refused (definition p (s, e))) }
+    ensures { (p : Plain) (s : Scope) (e : Line)
+        → AreReady p instances.now targets.now order.now numbers.now → scope_at p i ≡ Some s
+        → slice_get (entries (module_of s)) k ≡ Some e
+        → MatchResult result (λ _. IsDefined p s e e.entity) (Refused (definition p (s, e))) }
 {
     let entry = &instances.entries(i)[k];
     let line = entry.line;
@@ -196,7 +227,8 @@ fn check_entry<'p>(
 /// How many entries the module of the instance has.
 fn entry_count(instances: &Instances<'_>, i: usize) -> usize
     requires { HasInstance instances.now i }
-    ensures { (p : Plain) (s : Scope) → AreInstances p instances.now → scope_at p i ≡ Some s → result ≡ length (entries (module_of s)) }
+    ensures { (p : Plain) (s : Scope) → AreInstances p instances.now → scope_at p i ≡ Some s
+        → result ≡ length (entries (module_of s)) }
 {
     instances.entries(i).len()
 }
@@ -210,8 +242,12 @@ fn check_body<'p>(
     numbers: &[Option<i64>],
     i: usize,
 ) -> Result<(), FlatRefusal>
-    requires { (p : Plain) × AreReady p instances.now targets.now order.now numbers.now × (i < length (all_instances p)) }
-    ensures { (p : Plain) → AreReady p instances.now targets.now order.now numbers.now → AreDefinedUpTo p (entries_before p i) → MatchResult result (λ _. AreDefinedUpTo p (entries_before p (i + 1))) (Refused (first_of (all_entries p) (definition p))) }
+    requires { (p : Plain) × AreReady p instances.now targets.now order.now numbers.now
+        × (i < length (all_instances p)) }
+    ensures { (p : Plain) → AreReady p instances.now targets.now order.now numbers.now
+        → AreDefinedUpTo p (entries_before p i)
+        → MatchResult result (λ _. AreDefinedUpTo p (entries_before p (i + 1)))
+        (Refused (first_of (all_entries p) (definition p))) }
 {
     for k in 0..entry_count(instances, i) {
         check_entry(alloc, instances, targets, order, numbers, i, k)?;
@@ -228,9 +264,12 @@ pub fn check_definitions<'p>(
     numbers: &[Option<i64>],
 ) -> Result<(), FlatRefusal>
     requires { (p : Plain) × AreReady p instances.now targets.now order.now numbers.now }
-    ensures silent { (p : Plain) → AreReady p instances.now targets.now order.now numbers.now → OnOk result (Silent (first_of (all_entries p) (definition p))) }
-    ensures defined { (p : Plain) → AreReady p instances.now targets.now order.now numbers.now → OnOk result (AreDefined p) }
-    ensures refused { (p : Plain) → AreReady p instances.now targets.now order.now numbers.now → IfErr result (λ r. (r ≡ FlatRefusal.Memory) ⊎ first_of (all_entries p) (definition p) r) }
+    ensures silent { (p : Plain) → AreReady p instances.now targets.now order.now numbers.now
+        → OnOk result (Silent (first_of (all_entries p) (definition p))) }
+    ensures defined { (p : Plain) → AreReady p instances.now targets.now order.now numbers.now
+        → OnOk result (AreDefined p) }
+    ensures refused { (p : Plain) → AreReady p instances.now targets.now order.now numbers.now
+        → IfErr result (λ r. (r ≡ FlatRefusal.Memory) ⊎ first_of (all_entries p) (definition p) r) }
 {
     for i in 0..instances.len() {
         check_body(alloc, instances, targets, order, numbers, i)?;

@@ -31,7 +31,10 @@ fn path_size<'p>(
     path: &'p Path,
 ) -> Result<Size, AllocError>
     requires { CanAsk instances.now targets.now (length sizes.now) i }
-    ensures { (p : Plain) (s : Scope) → AreTargets p instances.now targets.now → scope_at p i ≡ Some s → AreSizesIn p sizes.now s (mentions (PlainExpr.At (plain_path path.now))) → IfOk result (IsSizeOf p s (PlainExpr.At (plain_path path.now))) }
+    ensures { (p : Plain) (s : Scope) → AreTargets p instances.now targets.now
+        → scope_at p i ≡ Some s
+        → AreSizesIn p sizes.now s (mentions (PlainExpr.At (plain_path path.now)))
+        → IfOk result (IsSizeOf p s (PlainExpr.At (plain_path path.now))) }
 {
     match targets.named(alloc, instances, i, path)? {
         Some(node) => Ok(sizes[node]),
@@ -51,7 +54,9 @@ pub fn size<'p>(
     expr: &'p Expr,
 ) -> Result<Size, AllocError>
     requires { CanAsk instances.now targets.now (length sizes.now) i }
-    ensures { (p : Plain) (s : Scope) → AreTargets p instances.now targets.now → scope_at p i ≡ Some s → AreSizesIn p sizes.now s (mentions (plain_expr expr.now)) → IfOk result (IsSizeOf p s (plain_expr expr.now)) }
+    ensures { (p : Plain) (s : Scope) → AreTargets p instances.now targets.now
+        → scope_at p i ≡ Some s → AreSizesIn p sizes.now s (mentions (plain_expr expr.now))
+        → IfOk result (IsSizeOf p s (plain_expr expr.now)) }
 {
     match &expr.kind {
         ExprKind::Number(_) => Ok(Size::leaf()),
@@ -99,7 +104,11 @@ fn elements_size<'p>(
     elements: &'p [Expr],
 ) -> Result<Size, AllocError>
     requires { CanAsk instances.now targets.now (length sizes.now) i }
-    ensures { (p : Plain) (s : Scope) → AreTargets p instances.now targets.now → scope_at p i ≡ Some s → AreSizesIn p sizes.now s (element_mentions (abstract.exprs (tree.trees_of (map tree_of elements.now)))) → IfOk result (AreSizesOf p s (abstract.exprs (tree.trees_of (map tree_of elements.now)))) }
+    ensures { (p : Plain) (s : Scope) → AreTargets p instances.now targets.now
+        → scope_at p i ≡ Some s
+        → AreSizesIn p sizes.now s
+        (element_mentions (abstract.exprs (tree.trees_of (map tree_of elements.now))))
+        → IfOk result (AreSizesOf p s (abstract.exprs (tree.trees_of (map tree_of elements.now)))) }
 {
     let mut total = Size::none();
     for element in elements {
@@ -120,7 +129,11 @@ fn arms_size<'p>(
     arms: &'p [Arm],
 ) -> Result<Size, AllocError>
     requires { CanAsk instances.now targets.now (length sizes.now) i }
-    ensures { (p : Plain) (s : Scope) → AreTargets p instances.now targets.now → scope_at p i ≡ Some s → AreSizesIn p sizes.now s (arm_mentions (abstract.arms (tree.arms_of (map arm_pair arms.now)))) → IfOk result (AreArmSizesOf p s (abstract.arms (tree.arms_of (map arm_pair arms.now)))) }
+    ensures { (p : Plain) (s : Scope) → AreTargets p instances.now targets.now
+        → scope_at p i ≡ Some s
+        → AreSizesIn p sizes.now s
+        (arm_mentions (abstract.arms (tree.arms_of (map arm_pair arms.now))))
+        → IfOk result (AreArmSizesOf p s (abstract.arms (tree.arms_of (map arm_pair arms.now)))) }
 {
     let mut total = Size::none();
     for arm in arms {

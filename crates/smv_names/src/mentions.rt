@@ -24,7 +24,8 @@ pub struct Mention<'p> {
 /// Adds the paths of an expression, in text order.
 #[cycle(mentions)]
 pub fn push_mentions<'p>(expr: &'p Expr, mentions: &mut Vec<Mention<'p>>) -> Result<(), AllocError>
-    ensures { IfOk result (λ _. map plain_mention mentions.new.items ≡ map plain_mention mentions.old.items ++ mentions_of (plain_expr expr.now)) }
+    ensures { IfOk result (λ _. map plain_mention mentions.new.items
+        ≡ map plain_mention mentions.old.items ++ mentions_of (plain_expr expr.now)) }
 {
     match &expr.kind {
         ExprKind::Number(_) => Ok(()),
@@ -56,7 +57,9 @@ fn push_elements<'p>(
     elements: &'p [Expr],
     mentions: &mut Vec<Mention<'p>>,
 ) -> Result<(), AllocError>
-    ensures { IfOk result (λ _. map plain_mention mentions.new.items ≡ map plain_mention mentions.old.items ++ element_mentions (abstract.exprs (tree.trees_of (map tree_of elements.now)))) }
+    ensures { IfOk result (λ _. map plain_mention mentions.new.items
+        ≡ map plain_mention mentions.old.items ++ element_mentions
+        (abstract.exprs (tree.trees_of (map tree_of elements.now)))) }
 {
     for element in elements {
         push_mentions(element, mentions)?;
@@ -67,7 +70,9 @@ fn push_elements<'p>(
 /// Adds the paths of the arms of a `case`.
 #[cycle(mentions)]
 fn push_arms<'p>(arms: &'p [Arm], mentions: &mut Vec<Mention<'p>>) -> Result<(), AllocError>
-    ensures { IfOk result (λ _. map plain_mention mentions.new.items ≡ map plain_mention mentions.old.items ++ arm_mentions (abstract.arms (tree.arms_of (map arm_pair arms.now)))) }
+    ensures { IfOk result (λ _. map plain_mention mentions.new.items
+        ≡ map plain_mention mentions.old.items ++ arm_mentions
+        (abstract.arms (tree.arms_of (map arm_pair arms.now)))) }
 {
     for arm in arms {
         push_mentions(&arm.guard, mentions)?;
@@ -82,7 +87,8 @@ pub fn push_index_mentions<'p>(
     path: &'p Path,
     mentions: &mut Vec<Mention<'p>>,
 ) -> Result<(), AllocError>
-    ensures { IfOk result (λ _. map plain_mention mentions.new.items ≡ map plain_mention mentions.old.items ++ index_mentions (plain_path path.now)) }
+    ensures { IfOk result (λ _. map plain_mention mentions.new.items
+        ≡ map plain_mention mentions.old.items ++ index_mentions (plain_path path.now)) }
 {
     for part in &path.parts {
         push_part(part, mentions)?;
@@ -93,7 +99,8 @@ pub fn push_index_mentions<'p>(
 /// Adds the paths in a part of a path.
 #[cycle(mentions)]
 fn push_part<'p>(part: &'p PathPart, mentions: &mut Vec<Mention<'p>>) -> Result<(), AllocError>
-    ensures { IfOk result (λ _. map plain_mention mentions.new.items ≡ map plain_mention mentions.old.items ++ part_mentions part.now) }
+    ensures { IfOk result (λ _. map plain_mention mentions.new.items
+        ≡ map plain_mention mentions.old.items ++ part_mentions part.now) }
 {
     match part {
         PathPart::Field(_) => Ok(()),
@@ -103,7 +110,8 @@ fn push_part<'p>(part: &'p PathPart, mentions: &mut Vec<Mention<'p>>) -> Result<
 
 /// Adds the paths of an actual parameter. One that is a path alone may denote an instance or an array.
 fn push_actual<'p>(actual: &'p Expr, mentions: &mut Vec<Mention<'p>>) -> Result<(), AllocError>
-    ensures { IfOk result (λ _. map plain_mention mentions.new.items ≡ map plain_mention mentions.old.items ++ actual_mentions (plain_expr actual.now)) }
+    ensures { IfOk result (λ _. map plain_mention mentions.new.items
+        ≡ map plain_mention mentions.old.items ++ actual_mentions (plain_expr actual.now)) }
 {
     let inner = bare_of(actual);
     match path_of(inner) {
@@ -123,7 +131,9 @@ pub fn push_actuals<'p>(
     actuals: &'p [Expr],
     mentions: &mut Vec<Mention<'p>>,
 ) -> Result<(), AllocError>
-    ensures { IfOk result (λ _. map plain_mention mentions.new.items ≡ map plain_mention mentions.old.items ++ flat_map actual_mentions (map plain_expr actuals.now)) }
+    ensures { IfOk result (λ _. map plain_mention mentions.new.items
+        ≡ map plain_mention mentions.old.items ++ flat_map actual_mentions
+        (map plain_expr actuals.now)) }
 {
     for actual in actuals {
         push_actual(actual, mentions)?;

@@ -41,8 +41,10 @@ impl Nodes {
 
     /// The number of an entry of an instance.
     pub fn node(&self, i: usize, k: usize) -> usize
-        requires { (p : Plain) × (s : Scope) × (e : Entry) × AreNodes p self.now × (scope_at p i ≡ Some s) × (slice_get (entries (module_of s)) k ≡ Some e) }
-        ensures { (p : Plain) (s : Scope) → AreNodes p self.now → scope_at p i ≡ Some s → IsNode p s k result }
+        requires { (p : Plain) × (s : Scope) × (e : Entry) × AreNodes p self.now
+            × (scope_at p i ≡ Some s) × (slice_get (entries (module_of s)) k ≡ Some e) }
+        ensures { (p : Plain) (s : Scope) → AreNodes p self.now → scope_at p i ≡ Some s
+            → IsNode p s k result }
     {
         let _count = self.count;
         self.firsts[i] + k
@@ -52,7 +54,8 @@ impl Nodes {
     fn home(&self, node: usize) -> usize
         requires { (p : Plain) × AreNodes p self.now × (node < length (all_entries p)) }
         ensures inside { result < length self.now.firsts.items }
-        ensures between { (p : Plain) → AreNodes p self.now → node < length (all_entries p) → IsBetween p node result (result + 1) }
+        ensures between { (p : Plain) → AreNodes p self.now → node < length (all_entries p)
+            → IsBetween p node result (result + 1) }
     {
         let mut low = 0;
         let mut high = self.firsts.len();
@@ -70,7 +73,8 @@ impl Nodes {
     /// The instance in whose body the entry with this number stands, and its place there.
     pub fn entry(&self, node: usize) -> (usize, usize)
         requires { (p : Plain) × AreNodes p self.now × (node < length (all_entries p)) }
-        ensures { (p : Plain) → AreNodes p self.now → node < length (all_entries p) → IsPlaced p node result.0 result.1 }
+        ensures { (p : Plain) → AreNodes p self.now → node < length (all_entries p)
+            → IsPlaced p node result.0 result.1 }
     {
         let i = self.home(node);
         (i, node - self.firsts[i])

@@ -29,7 +29,10 @@ fn path_number<'p>(
     path: &'p Path,
 ) -> Result<Option<i64>, AllocError>
     requires { CanAsk instances.now targets.now (length numbers.now) i }
-    ensures { (p : Plain) (s : Scope) → AreTargets p instances.now targets.now → scope_at p i ≡ Some s → AreNumbersIn p numbers.now s (mentions (PlainExpr.At (plain_path path.now))) → IfOk result (IsNumber p s (PlainExpr.At (plain_path path.now))) }
+    ensures { (p : Plain) (s : Scope) → AreTargets p instances.now targets.now
+        → scope_at p i ≡ Some s
+        → AreNumbersIn p numbers.now s (mentions (PlainExpr.At (plain_path path.now)))
+        → IfOk result (IsNumber p s (PlainExpr.At (plain_path path.now))) }
 {
     match targets.named(alloc, instances, i, path)? {
         Some(node) => Ok(numbers[node]),
@@ -48,7 +51,9 @@ pub fn number<'p>(
     expr: &'p Expr,
 ) -> Result<Option<i64>, AllocError>
     requires { CanAsk instances.now targets.now (length numbers.now) i }
-    ensures { (p : Plain) (s : Scope) → AreTargets p instances.now targets.now → scope_at p i ≡ Some s → AreNumbersIn p numbers.now s (mentions (plain_expr expr.now)) → IfOk result (IsNumber p s (plain_expr expr.now)) }
+    ensures { (p : Plain) (s : Scope) → AreTargets p instances.now targets.now
+        → scope_at p i ≡ Some s → AreNumbersIn p numbers.now s (mentions (plain_expr expr.now))
+        → IfOk result (IsNumber p s (plain_expr expr.now)) }
 {
     match &expr.kind {
         ExprKind::Number(n) => Ok(Some(i64::from(*n))),

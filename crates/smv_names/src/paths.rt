@@ -33,9 +33,13 @@ impl<'p> Paths<'p> {
     /// The tables, or why a definition or an actual parameter is refused.
     pub fn build(alloc: Global, instances: &Instances<'p>) -> Result<Paths<'p>, FlatRefusal>
         requires { (p : Plain) × AreInstances p instances.now }
-        ensures silent { (p : Plain) → AreInstances p instances.now → OnOk result (Silent (first_of (all_entries p) (definition p))) }
-        ensures paths { (p : Plain) → AreInstances p instances.now → IfOk result (λ x. ArePaths p instances.now x) }
-        ensures refused { (p : Plain) → AreInstances p instances.now → IfErr result (λ r. (r ≡ FlatRefusal.Memory) ⊎ first_of (all_entries p) (definition p) r) }
+        ensures silent { (p : Plain) → AreInstances p instances.now
+            → OnOk result (Silent (first_of (all_entries p) (definition p))) }
+        ensures paths { (p : Plain) → AreInstances p instances.now
+            → IfOk result (λ x. ArePaths p instances.now x) }
+        ensures refused { (p : Plain) → AreInstances p instances.now
+            → IfErr result (λ r. (r ≡ FlatRefusal.Memory)
+            ⊎ first_of (all_entries p) (definition p) r) }
     {
         let targets = Targets::build(alloc, instances)?;
         let order = order_of_uses(alloc, instances, &targets)?;

@@ -29,7 +29,8 @@ impl<'p> Targets<'p> {
     /// What the formal parameters of the instances lead to.
     pub fn build(alloc: Global, instances: &Instances<'p>) -> Result<Targets<'p>, AllocError>
         requires { (p : Plain) × AreInstances p instances.now }
-        ensures { (p : Plain) → AreInstances p instances.now → IfOk result (AreTargets p instances.now) }
+        ensures { (p : Plain) → AreInstances p instances.now
+            → IfOk result (AreTargets p instances.now) }
     {
         let mut targets = Targets {
             states: States::unseen(alloc, instances)?,
@@ -48,7 +49,8 @@ impl<'p> Targets<'p> {
         path: &'p Path,
     ) -> Result<Option<Target<'p>>, AllocError>
         requires { HasTargets instances.now self.now i }
-        ensures { (p : Plain) (s : Scope) → AreTargets p instances.now self.now → scope_at p i ≡ Some s → IfOk result (Resolves p s (plain_path path.now)) }
+        ensures { (p : Plain) (s : Scope) → AreTargets p instances.now self.now
+            → scope_at p i ≡ Some s → IfOk result (Resolves p s (plain_path path.now)) }
     {
         match walk(alloc, instances, self, i, path)? {
             Outcome::Found(target) => Ok(Some(target)),
@@ -66,7 +68,8 @@ impl<'p> Targets<'p> {
         path: &'p Path,
     ) -> Result<Option<usize>, AllocError>
         requires { HasTargets instances.now self.now i }
-        ensures { (p : Plain) (s : Scope) → AreTargets p instances.now self.now → scope_at p i ≡ Some s → IfOk result (NamesNode p s (plain_path path.now)) }
+        ensures { (p : Plain) (s : Scope) → AreTargets p instances.now self.now
+            → scope_at p i ≡ Some s → IfOk result (NamesNode p s (plain_path path.now)) }
     {
         named_by(alloc, instances, self, i, &path.first, &path.parts)
     }

@@ -49,7 +49,8 @@ impl Size {
 
     /// Two parts side by side.
     pub fn beside(self, other: Size) -> Size
-        ensures { (n d m c : ℕ) → IsSize self n d → IsSize other m c → IsSize result (n + m) (max d c) }
+        ensures { (n d m c : ℕ) → IsSize self n d → IsSize other m c
+            → IsSize result (n + m) (max d c) }
     {
         Size {
             nodes: self.nodes.saturating_add(other.nodes).min(MOST_NODES),

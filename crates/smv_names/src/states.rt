@@ -82,8 +82,11 @@ impl<'p> States<'p> {
     /// How many formal parameters the instance has.
     pub fn count(&self, i: usize) -> usize
         requires { i < length self.now.rows.items }
-        ensures inside { (place : ℕ) → place < result → (known : State) × (state_at self.now (record { instance = i; place = place }) ≡ Some known) }
-        ensures outside { (place : ℕ) (known : State) → state_at self.now (record { instance = i; place = place }) ≡ Some known → place < result }
+        ensures inside { (place : ℕ) → place < result → (known : State)
+            × (state_at self.now (record { instance = i; place = place }) ≡ Some known) }
+        ensures outside { (place : ℕ) (known : State)
+            → state_at self.now (record { instance = i; place = place }) ≡ Some known
+            → place < result }
     {
         self.rows[i].len()
     }

@@ -35,8 +35,11 @@ fn number_at<'p>(
     numbers: &[Option<i64>],
     node: usize,
 ) -> Result<Option<i64>, AllocError>
-    requires { (p : Plain) × AreTargets p instances.now targets.now × (length numbers.now ≡ length (all_entries p)) × (node < length (all_entries p)) }
-    ensures { (p : Plain) (a : Abbreviation) → AreTargets p instances.now targets.now → abbreviation_at p node ≡ Some a → HasUsed None (NumberOf p) p a numbers.now → IfOk result (NumberOf p a) }
+    requires { (p : Plain) × AreTargets p instances.now targets.now
+        × (length numbers.now ≡ length (all_entries p)) × (node < length (all_entries p)) }
+    ensures { (p : Plain) (a : Abbreviation) → AreTargets p instances.now targets.now
+        → abbreviation_at p node ≡ Some a → HasUsed None (NumberOf p) p a numbers.now
+        → IfOk result (NumberOf p a) }
 {
     match text_at(instances, targets, node) {
         Some((home, text)) => number(alloc, instances, targets, numbers, home, text),
@@ -51,8 +54,11 @@ pub fn numbers_of<'p>(
     targets: &Targets<'p>,
     order: &Order,
 ) -> Result<Vec<Option<i64>>, AllocError>
-    requires { (p : Plain) × AreTargets p instances.now targets.now × AreOrdered p order.now.order.items order.now.circular.items }
-    ensures { (p : Plain) → AreTargets p instances.now targets.now → AreOrdered p order.now.order.items order.now.circular.items → IfOk result (λ ns. AreNumbers p ns.items × (length ns.items ≡ length (all_entries p))) }
+    requires { (p : Plain) × AreTargets p instances.now targets.now
+        × AreOrdered p order.now.order.items order.now.circular.items }
+    ensures { (p : Plain) → AreTargets p instances.now targets.now
+        → AreOrdered p order.now.order.items order.now.circular.items
+        → IfOk result (λ ns. AreNumbers p ns.items × (length ns.items ≡ length (all_entries p))) }
 {
     let mut numbers = vec![in alloc; None; targets.nodes.count]?;
     for node in &order.order {
@@ -71,8 +77,11 @@ fn size_at<'p>(
     sizes: &[Size],
     node: usize,
 ) -> Result<Size, AllocError>
-    requires { (p : Plain) × AreTargets p instances.now targets.now × (length sizes.now ≡ length (all_entries p)) × (node < length (all_entries p)) }
-    ensures { (p : Plain) (a : Abbreviation) → AreTargets p instances.now targets.now → abbreviation_at p node ≡ Some a → HasUsed leaf (SizeOf p) p a sizes.now → IfOk result (SizeOf p a) }
+    requires { (p : Plain) × AreTargets p instances.now targets.now
+        × (length sizes.now ≡ length (all_entries p)) × (node < length (all_entries p)) }
+    ensures { (p : Plain) (a : Abbreviation) → AreTargets p instances.now targets.now
+        → abbreviation_at p node ≡ Some a → HasUsed leaf (SizeOf p) p a sizes.now
+        → IfOk result (SizeOf p a) }
 {
     match text_at(instances, targets, node) {
         Some((home, text)) => size(alloc, instances, targets, sizes, home, text),
@@ -87,8 +96,12 @@ pub fn sizes_of<'p>(
     targets: &Targets<'p>,
     order: &Order,
 ) -> Result<Vec<Size>, AllocError>
-    requires { (p : Plain) × AreTargets p instances.now targets.now × AreOrdered p order.now.order.items order.now.circular.items }
-    ensures { (p : Plain) → AreTargets p instances.now targets.now → AreOrdered p order.now.order.items order.now.circular.items → IfOk result (λ sizes. AreSizes p sizes.items × (length sizes.items ≡ length (all_entries p))) }
+    requires { (p : Plain) × AreTargets p instances.now targets.now
+        × AreOrdered p order.now.order.items order.now.circular.items }
+    ensures { (p : Plain) → AreTargets p instances.now targets.now
+        → AreOrdered p order.now.order.items order.now.circular.items
+        → IfOk result (λ sizes. AreSizes p sizes.items
+        × (length sizes.items ≡ length (all_entries p))) }
 {
     let mut sizes = vec![in alloc; Size::leaf(); targets.nodes.count]?;
     for node in &order.order {
@@ -116,8 +129,13 @@ fn end_through<'p>(
     here: End<'p>,
     node: usize,
 ) -> Option<End<'p>>
-    requires { (p : Plain) × AreTargets p instances.now targets.now × (length ends.now ≡ length (all_entries p)) × (node < length (all_entries p)) }
-    ensures { (p : Plain) (s : Scope) (q : Path) (a : Abbreviation) → AreTargets p instances.now targets.now → scope_at p here.entry.home ≡ Some s → bare (plain_expr here.entry.right.now) ≡ PlainExpr.At q → Names p s q a → abbreviation_at p node ≡ Some a → EndOf p a (slice_index_or ends.now node None) → IsEndOf p s (plain_expr here.entry.right.now) result }
+    requires { (p : Plain) × AreTargets p instances.now targets.now
+        × (length ends.now ≡ length (all_entries p)) × (node < length (all_entries p)) }
+    ensures { (p : Plain) (s : Scope) (q : Path) (a : Abbreviation)
+        → AreTargets p instances.now targets.now → scope_at p here.entry.home ≡ Some s
+        → bare (plain_expr here.entry.right.now) ≡ PlainExpr.At q → Names p s q a
+        → abbreviation_at p node ≡ Some a → EndOf p a (slice_index_or ends.now node None)
+        → IsEndOf p s (plain_expr here.entry.right.now) result }
 {
     match text_at(instances, targets, node) {
         Some(_) => ends[node],
@@ -135,7 +153,9 @@ fn end_of<'p>(
     expr: &'p Expr,
 ) -> Result<Option<End<'p>>, AllocError>
     requires { CanAsk instances.now targets.now (length ends.now) i }
-    ensures { (p : Plain) (s : Scope) → AreTargets p instances.now targets.now → scope_at p i ≡ Some s → AreEndsIn p ends.now s (mentions (plain_expr expr.now)) → IfOk result (IsEndOf p s (plain_expr expr.now)) }
+    ensures { (p : Plain) (s : Scope) → AreTargets p instances.now targets.now
+        → scope_at p i ≡ Some s → AreEndsIn p ends.now s (mentions (plain_expr expr.now))
+        → IfOk result (IsEndOf p s (plain_expr expr.now)) }
 {
     let here = End {
         home: i,
@@ -158,8 +178,11 @@ fn end_at<'p>(
     ends: &[Option<End<'p>>],
     node: usize,
 ) -> Result<Option<End<'p>>, AllocError>
-    requires { (p : Plain) × AreTargets p instances.now targets.now × (length ends.now ≡ length (all_entries p)) × (node < length (all_entries p)) }
-    ensures { (p : Plain) (a : Abbreviation) → AreTargets p instances.now targets.now → abbreviation_at p node ≡ Some a → HasUsed None (EndOf p) p a ends.now → IfOk result (EndOf p a) }
+    requires { (p : Plain) × AreTargets p instances.now targets.now
+        × (length ends.now ≡ length (all_entries p)) × (node < length (all_entries p)) }
+    ensures { (p : Plain) (a : Abbreviation) → AreTargets p instances.now targets.now
+        → abbreviation_at p node ≡ Some a → HasUsed None (EndOf p) p a ends.now
+        → IfOk result (EndOf p a) }
 {
     match text_at(instances, targets, node) {
         Some((home, text)) => end_of(alloc, instances, targets, ends, home, text),
@@ -174,8 +197,12 @@ pub fn ends_of<'p>(
     targets: &Targets<'p>,
     order: &Order,
 ) -> Result<Vec<Option<End<'p>>>, AllocError>
-    requires { (p : Plain) × AreTargets p instances.now targets.now × AreOrdered p order.now.order.items order.now.circular.items }
-    ensures { (p : Plain) → AreTargets p instances.now targets.now → AreOrdered p order.now.order.items order.now.circular.items → IfOk result (λ ends. AreEnds p ends.items × (length ends.items ≡ length (all_entries p))) }
+    requires { (p : Plain) × AreTargets p instances.now targets.now
+        × AreOrdered p order.now.order.items order.now.circular.items }
+    ensures { (p : Plain) → AreTargets p instances.now targets.now
+        → AreOrdered p order.now.order.items order.now.circular.items
+        → IfOk result (λ ends. AreEnds p ends.items
+        × (length ends.items ≡ length (all_entries p))) }
 {
     let mut ends = vec![in alloc; None; targets.nodes.count]?;
     for node in &order.order {

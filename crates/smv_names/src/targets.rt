@@ -44,7 +44,8 @@ pub enum Target<'p> {
 impl<'p> Target<'p> {
     /// The same target once more.
     pub fn copy(&self) -> Result<Target<'p>, AllocError>
-        ensures { (p : Plain) (t : denotes.Target) → IsTarget p self.now t → IfOk result (λ c. IsTarget p c t) }
+        ensures { (p : Plain) (t : denotes.Target) → IsTarget p self.now t
+            → IfOk result (λ c. IsTarget p c t) }
     {
         match self {
             Target::Stored {

@@ -25,8 +25,13 @@ pub fn text_at_entry<'p>(
     place: usize,
 ) -> Option<(usize, &'p Expr)>
     requires { HasEntry instances.now i place }
-    ensures some { (p : Plain) (s : Scope) (e : Entry) → AreInstances p instances.now → scope_at p i ≡ Some s → slice_get (entries (module_of s)) place ≡ Some e → IfSome result (λ x. IsTextIn p (record { scope = s; name = e.name }) x.0 (plain_expr x.1.now)) }
-    ensures none { (p : Plain) (s : Scope) (e : Entry) → AreInstances p instances.now → scope_at p i ≡ Some s → slice_get (entries (module_of s)) place ≡ Some e → IfNone result (text_of (record { scope = s; name = e.name }) ≡ None) }
+    ensures some { (p : Plain) (s : Scope) (e : Entry) → AreInstances p instances.now
+        → scope_at p i ≡ Some s → slice_get (entries (module_of s)) place ≡ Some e
+        → IfSome result (λ x. IsTextIn p (record { scope = s; name = e.name }) x.0
+        (plain_expr x.1.now)) }
+    ensures none { (p : Plain) (s : Scope) (e : Entry) → AreInstances p instances.now
+        → scope_at p i ≡ Some s → slice_get (entries (module_of s)) place ≡ Some e
+        → IfNone result (text_of (record { scope = s; name = e.name }) ≡ None) }
 {
     match instances.found_at(i, place) {
         Found::Parameter(formal) => match instances.actual(i, formal) {
@@ -46,9 +51,13 @@ pub fn text_at<'p>(
     targets: &Targets<'p>,
     node: usize,
 ) -> Option<(usize, &'p Expr)>
-    requires { (p : Plain) × AreTargets p instances.now targets.now × (node < length (all_entries p)) }
-    ensures some { (p : Plain) (a : Abbreviation) → AreTargets p instances.now targets.now → abbreviation_at p node ≡ Some a → IfSome result (λ r. IsTextIn p a r.0 (plain_expr r.1.now)) }
-    ensures none { (p : Plain) (a : Abbreviation) → AreTargets p instances.now targets.now → abbreviation_at p node ≡ Some a → IfNone result (text_of a ≡ None) }
+    requires { (p : Plain) × AreTargets p instances.now targets.now
+        × (node < length (all_entries p)) }
+    ensures some { (p : Plain) (a : Abbreviation) → AreTargets p instances.now targets.now
+        → abbreviation_at p node ≡ Some a
+        → IfSome result (λ r. IsTextIn p a r.0 (plain_expr r.1.now)) }
+    ensures none { (p : Plain) (a : Abbreviation) → AreTargets p instances.now targets.now
+        → abbreviation_at p node ≡ Some a → IfNone result (text_of a ≡ None) }
 {
     let (i, k) = targets.nodes.entry(node);
     text_at_entry(instances, i, k)

@@ -33,8 +33,10 @@ fn named_next(
     front: &Outcome<'_>,
     part: &PathPart,
 ) -> Option<usize>
-    requires { (p : Plain) × (s : Scope) × (q : Written) × AreTargets p instances.now targets.now × Walking p targets.now.states s q front.now }
-    ensures { (p : Plain) (s : Scope) (q : Written) → AreTargets p instances.now targets.now → Walking p targets.now.states s q front.now → NamesNode p s (extended q part.now) result }
+    requires { (p : Plain) × (s : Scope) × (q : Written) × AreTargets p instances.now targets.now
+        × Walking p targets.now.states s q front.now }
+    ensures { (p : Plain) (s : Scope) (q : Written) → AreTargets p instances.now targets.now
+        → Walking p targets.now.states s q front.now → NamesNode p s (extended q part.now) result }
 {
     let PathPart::Field(name) = part else {
         return None;
@@ -67,7 +69,10 @@ fn push_fronts<'p>(
     numbers: &mut Vec<usize>,
 ) -> Result<(), AllocError>
     requires { HasTargets instances.now targets.now i }
-    ensures { (p : Plain) (s : Scope) (ms : List PlainMention) → AreTargets p instances.now targets.now → scope_at p i ≡ Some s → AreNamed p s ms numbers.old.items → OnOk result (AreNamed p s (ms ++ plain_mention mention.now ∷ []) numbers.new.items) }
+    ensures { (p : Plain) (s : Scope) (ms : List PlainMention)
+        → AreTargets p instances.now targets.now → scope_at p i ≡ Some s
+        → AreNamed p s ms numbers.old.items
+        → OnOk result (AreNamed p s (ms ++ plain_mention mention.now ∷ []) numbers.new.items) }
 {
     let path = mention.path;
     push_number(entry_node(instances, targets, i, &path.first), numbers)?;
@@ -89,7 +94,9 @@ fn named_in<'p>(
     expr: &'p Expr,
 ) -> Result<Vec<usize>, AllocError>
     requires { HasTargets instances.now targets.now i }
-    ensures { (p : Plain) (s : Scope) → AreTargets p instances.now targets.now → scope_at p i ≡ Some s → IfOk result (λ ns. AreNamed p s (mentions_of (plain_expr expr.now)) ns.items) }
+    ensures { (p : Plain) (s : Scope) → AreTargets p instances.now targets.now
+        → scope_at p i ≡ Some s
+        → IfOk result (λ ns. AreNamed p s (mentions_of (plain_expr expr.now)) ns.items) }
 {
     let mut mentions = Vec::new(alloc);
     push_mentions(expr, &mut mentions)?;
@@ -108,8 +115,11 @@ fn used_by<'p>(
     i: usize,
     place: usize,
 ) -> Result<Vec<usize>, AllocError>
-    requires { (p : Plain) × (s : Scope) × AreTargets p instances.now targets.now × (scope_at p i ≡ Some s) × (place < length (entries (module_of s))) }
-    ensures { (p : Plain) (s : Scope) (e : Entry) → AreTargets p instances.now targets.now → scope_at p i ≡ Some s → slice_get (entries (module_of s)) place ≡ Some e → IfOk result (λ ns. AreUsed p (record { scope = s; name = e.name }) ns.items) }
+    requires { (p : Plain) × (s : Scope) × AreTargets p instances.now targets.now
+        × (scope_at p i ≡ Some s) × (place < length (entries (module_of s))) }
+    ensures { (p : Plain) (s : Scope) (e : Entry) → AreTargets p instances.now targets.now
+        → scope_at p i ≡ Some s → slice_get (entries (module_of s)) place ≡ Some e
+        → IfOk result (λ ns. AreUsed p (record { scope = s; name = e.name }) ns.items) }
 {
     match text_at_entry(instances, i, place) {
         Some((home, right)) => named_in(alloc, instances, targets, home, right),
@@ -121,8 +131,10 @@ fn used_by<'p>(
 fn push_node(graph: &mut Graph, targets: &[usize]) -> Result<(), AllocError>
     requires { IsStarted graph.old.firsts.items graph.old.targets.items }
     ensures started { OnOk result (IsStarted graph.new.firsts.items graph.new.targets.items) }
-    ensures firsts { OnOk result (graph.new.firsts.items ≡ graph.old.firsts.items ++ length graph.new.targets.items ∷ []) }
-    ensures targets { OnOk result (graph.new.targets.items ≡ graph.old.targets.items ++ targets.now) }
+    ensures firsts { OnOk result (graph.new.firsts.items ≡ graph.old.firsts.items
+        ++ length graph.new.targets.items ∷ []) }
+    ensures targets { OnOk result (graph.new.targets.items ≡ graph.old.targets.items
+        ++ targets.now) }
 {
     for target in targets {
         graph.add_edge(*target)?;
@@ -141,7 +153,10 @@ fn push_entries<'p>(
     requires ready { HasTargets instances.now targets.now i }
     requires started { IsStarted graph.old.firsts.items graph.old.targets.items }
     ensures started { OnOk result (IsStarted graph.new.firsts.items graph.new.targets.items) }
-    ensures uses { (p : Plain) → AreTargets p instances.now targets.now → AreUses p graph.old.firsts.items graph.old.targets.items (entries_before p i) → OnOk result (AreUses p graph.new.firsts.items graph.new.targets.items (entries_before p (i + 1))) }
+    ensures uses { (p : Plain) → AreTargets p instances.now targets.now
+        → AreUses p graph.old.firsts.items graph.old.targets.items (entries_before p i)
+        → OnOk result (AreUses p graph.new.firsts.items graph.new.targets.items
+        (entries_before p (i + 1))) }
 {
     for place in 0..instances.entries(i).len() {
         let used = used_by(alloc, instances, targets, i, place)?;
@@ -158,8 +173,10 @@ fn graph_of<'p>(
     targets: &Targets<'p>,
 ) -> Result<Graph, AllocError>
     requires { (p : Plain) × AreTargets p instances.now targets.now }
-    ensures graph { (p : Plain) → AreTargets p instances.now targets.now → IfOk result (λ g. IsGraph g.firsts.items g.targets.items) }
-    ensures uses { (p : Plain) → AreTargets p instances.now targets.now → IfOk result (λ g. AreUses p g.firsts.items g.targets.items (length (all_entries p))) }
+    ensures graph { (p : Plain) → AreTargets p instances.now targets.now
+        → IfOk result (λ g. IsGraph g.firsts.items g.targets.items) }
+    ensures uses { (p : Plain) → AreTargets p instances.now targets.now
+        → IfOk result (λ g. AreUses p g.firsts.items g.targets.items (length (all_entries p))) }
 {
     let mut graph = Graph::new(alloc)?;
     for i in 0..instances.len() {
@@ -175,7 +192,8 @@ pub fn order_of_uses<'p>(
     targets: &Targets<'p>,
 ) -> Result<Order, AllocError>
     requires { (p : Plain) × AreTargets p instances.now targets.now }
-    ensures { (p : Plain) → AreTargets p instances.now targets.now → IfOk result (λ o. AreOrdered p o.order.items o.circular.items) }
+    ensures { (p : Plain) → AreTargets p instances.now targets.now
+        → IfOk result (λ o. AreOrdered p o.order.items o.circular.items) }
 {
     let graph = graph_of(alloc, instances, targets)?;
     order_of(alloc, &graph)

@@ -45,8 +45,11 @@ pub fn bare_of(expr: &Expr) -> &Expr
 /// Whether what a module declares stands for something: a formal parameter needs an actual one.
 fn stands(instances: &Instances<'_>, i: usize, found: Found<'_>) -> bool
     requires { HasInstance instances.now i }
-    ensures something { (p : Plain) (s : Scope) (x : List ℕ) → AreInstances p instances.now → scope_at p i ≡ Some s → IsFound p s x found.entry → IsTrue result → HasMeaning p s x }
-    ensures nothing { (p : Plain) (s : Scope) (x : List ℕ) → AreInstances p instances.now → scope_at p i ≡ Some s → IsFound p s x found.entry → result ≡ false → meaning p s x ≡ None }
+    ensures something { (p : Plain) (s : Scope) (x : List ℕ) → AreInstances p instances.now
+        → scope_at p i ≡ Some s → IsFound p s x found.entry → IsTrue result → HasMeaning p s x }
+    ensures nothing { (p : Plain) (s : Scope) (x : List ℕ) → AreInstances p instances.now
+        → scope_at p i ≡ Some s → IsFound p s x found.entry → result ≡ false
+        → meaning p s x ≡ None }
 {
     match found {
         Found::Stored(_) => true,
@@ -62,8 +65,10 @@ fn stands(instances: &Instances<'_>, i: usize, found: Found<'_>) -> bool
 /// What the instance's module declares under a name, if it stands for something there.
 fn found_at<'p>(instances: &Instances<'p>, i: usize, name: &Name) -> Option<Found<'p>>
     requires { HasInstance instances.now i }
-    ensures some { (p : Plain) (s : Scope) → AreInstances p instances.now → scope_at p i ≡ Some s → IfSome result (λ f. IsFound p s name.now f × HasMeaning p s name.now) }
-    ensures none { (p : Plain) (s : Scope) → AreInstances p instances.now → scope_at p i ≡ Some s → IfNone result (meaning p s name.now ≡ None) }
+    ensures some { (p : Plain) (s : Scope) → AreInstances p instances.now → scope_at p i ≡ Some s
+        → IfSome result (λ f. IsFound p s name.now f × HasMeaning p s name.now) }
+    ensures none { (p : Plain) (s : Scope) → AreInstances p instances.now → scope_at p i ≡ Some s
+        → IfNone result (meaning p s name.now ≡ None) }
 {
     let found = instances.find(i, name)?;
     if stands(instances, i, found) {
@@ -74,7 +79,8 @@ fn found_at<'p>(instances: &Instances<'p>, i: usize, name: &Name) -> Option<Foun
 
 /// What a formal parameter leads to, where it is known.
 fn known_outcome<'p>(known: &Option<Target<'p>>) -> Result<Outcome<'p>, AllocError>
-    ensures { (p : Plain) (states : States) (s : Scope) (x : List ℕ) → LeadsTo p s x known.now → IfOk result (Finding p states s x) }
+    ensures { (p : Plain) (states : States) (s : Scope) (x : List ℕ) → LeadsTo p s x known.now
+        → IfOk result (Finding p states s x) }
 {
     match known {
         None => Ok(Outcome::Nothing),
@@ -85,7 +91,8 @@ fn known_outcome<'p>(known: &Option<Target<'p>>) -> Result<Outcome<'p>, AllocErr
 /// What a formal parameter leads to.
 fn parameter<'p>(targets: &Targets<'p>, at: Parameter) -> Result<Outcome<'p>, AllocError>
     requires { (known : State) × (state_at targets.now.states at ≡ Some known) }
-    ensures { (p : Plain) (s : Scope) (x : List ℕ) → AreStates p targets.now.states → IsParameter p at s x → IfOk result (Finding p targets.now.states s x) }
+    ensures { (p : Plain) (s : Scope) (x : List ℕ) → AreStates p targets.now.states
+        → IsParameter p at s x → IfOk result (Finding p targets.now.states s x) }
 {
     match targets.states.get(at) {
         State::Unseen | State::Waiting => Ok(Outcome::Needs(at)),
@@ -101,7 +108,8 @@ pub fn entry_node(
     name: &Name,
 ) -> Option<usize>
     requires { HasStarted instances.now targets.now i }
-    ensures { (p : Plain) (s : Scope) → AreStarted p instances.now targets.now → scope_at p i ≡ Some s → IsNamed p s name.now result }
+    ensures { (p : Plain) (s : Scope) → AreStarted p instances.now targets.now
+        → scope_at p i ≡ Some s → IsNamed p s name.now result }
 {
     let k = instances.entry_at(i, name)?;
     Some(targets.nodes.node(i, k))
@@ -116,7 +124,9 @@ fn defined<'p>(
     right: &'p Expr,
 ) -> Outcome<'p>
     requires { HasStarted instances.now targets.now i }
-    ensures { (p : Plain) (s : Scope) → AreStarted p instances.now targets.now → scope_at p i ≡ Some s → IsFound p s name.now (Found.Defined right.entry) → Finding p targets.now.states s name.now result }
+    ensures { (p : Plain) (s : Scope) → AreStarted p instances.now targets.now
+        → scope_at p i ≡ Some s → IsFound p s name.now (Found.Defined right.entry)
+        → Finding p targets.now.states s name.now result }
 {
     match entry_node(instances, targets, i, name) {
         None => Outcome::Nothing,
@@ -137,8 +147,11 @@ fn outcome_of<'p>(
     name: &'p Name,
     found: Found<'p>,
 ) -> Result<Outcome<'p>, AllocError>
-    requires { (p : Plain) × (s : Scope) × AreStarted p instances.now targets.now × (scope_at p i ≡ Some s) × IsFound p s name.now found }
-    ensures { (p : Plain) (s : Scope) → AreStarted p instances.now targets.now → scope_at p i ≡ Some s → IsFound p s name.now found.entry → IfOk result (Finding p targets.now.states s name.now) }
+    requires { (p : Plain) × (s : Scope) × AreStarted p instances.now targets.now
+        × (scope_at p i ≡ Some s) × IsFound p s name.now found }
+    ensures { (p : Plain) (s : Scope) → AreStarted p instances.now targets.now
+        → scope_at p i ≡ Some s → IsFound p s name.now found.entry
+        → IfOk result (Finding p targets.now.states s name.now) }
 {
     match found {
         Found::Parameter(place) => parameter(targets, Parameter { instance: i, place }),
@@ -162,7 +175,9 @@ pub fn first<'p>(
     name: &'p Name,
 ) -> Result<Outcome<'p>, AllocError>
     requires { HasStarted instances.now targets.now i }
-    ensures { (p : Plain) (s : Scope) (line : ℕ) → AreStarted p instances.now targets.now → scope_at p i ≡ Some s → IfOk result (Walking p targets.now.states s (Written.Here line name.now)) }
+    ensures { (p : Plain) (s : Scope) (line : ℕ) → AreStarted p instances.now targets.now
+        → scope_at p i ≡ Some s
+        → IfOk result (Walking p targets.now.states s (Written.Here line name.now)) }
 {
     match found_at(instances, i, name) {
         Some(found) => outcome_of(alloc, instances, targets, i, name, found),
@@ -181,8 +196,11 @@ fn field<'p>(
     front: Target<'p>,
     name: &'p Name,
 ) -> Result<Outcome<'p>, AllocError>
-    requires { (p : Plain) × (s : Scope) × (q : Written) × AreStarted p instances.now targets.now × Resolves p s q (Some front) }
-    ensures { (p : Plain) (s : Scope) (q : Written) → AreStarted p instances.now targets.now → Resolves p s q (Some front.entry) → IfOk result (Walking p targets.now.states s (Written.Field q name.now)) }
+    requires { (p : Plain) × (s : Scope) × (q : Written) × AreStarted p instances.now targets.now
+        × Resolves p s q (Some front) }
+    ensures { (p : Plain) (s : Scope) (q : Written) → AreStarted p instances.now targets.now
+        → Resolves p s q (Some front.entry)
+        → IfOk result (Walking p targets.now.states s (Written.Field q name.now)) }
 {
     let Target::Instance(number) = front else {
         return Ok(Outcome::Nothing);
@@ -195,7 +213,8 @@ fn field<'p>(
 
 /// The bounds and the elements of an array, if the type is one.
 fn array_of(plain: &Type) -> Option<(u32, u32, &Type)>
-    ensures some { IfSome result (λ a. plain_type plain.now ≡ Stored.Array a.0 a.1 (plain_type a.2.now)) }
+    ensures some { IfSome result (λ a. plain_type plain.now ≡ Stored.Array a.0 a.1
+        (plain_type a.2.now)) }
     ensures none { IfNone result (is_array (plain_type plain.now) ≡ false) }
 {
     match &plain.kind {
@@ -206,7 +225,9 @@ fn array_of(plain: &Type) -> Option<(u32, u32, &Type)>
 
 /// What an index, read in the instance i, selects behind a path that denotes the target.
 fn element<'p>(i: usize, front: Target<'p>, index: &'p Expr) -> Result<Outcome<'p>, AllocError>
-    ensures { (p : Plain) (states : States) (s : Scope) (q : Written) → scope_at p i ≡ Some s → Resolves p s q (Some front.entry) → IfOk result (Walking p states s (Written.Index q (plain_expr index.now))) }
+    ensures { (p : Plain) (states : States) (s : Scope) (q : Written) → scope_at p i ≡ Some s
+        → Resolves p s q (Some front.entry)
+        → IfOk result (Walking p states s (Written.Index q (plain_expr index.now))) }
 {
     let Target::Stored {
         home,
@@ -243,8 +264,11 @@ pub fn follow<'p>(
     front: Outcome<'p>,
     part: &'p PathPart,
 ) -> Result<Outcome<'p>, AllocError>
-    requires { (p : Plain) × (s : Scope) × (q : Written) × AreStarted p instances.now targets.now × (scope_at p i ≡ Some s) × Walking p targets.now.states s q front }
-    ensures { (p : Plain) (s : Scope) (q : Written) → AreStarted p instances.now targets.now → scope_at p i ≡ Some s → Walking p targets.now.states s q front.entry → IfOk result (Walking p targets.now.states s (extended q part.now)) }
+    requires { (p : Plain) × (s : Scope) × (q : Written) × AreStarted p instances.now targets.now
+        × (scope_at p i ≡ Some s) × Walking p targets.now.states s q front }
+    ensures { (p : Plain) (s : Scope) (q : Written) → AreStarted p instances.now targets.now
+        → scope_at p i ≡ Some s → Walking p targets.now.states s q front.entry
+        → IfOk result (Walking p targets.now.states s (extended q part.now)) }
 {
     match front {
         Outcome::Nothing => Ok(Outcome::Nothing),
@@ -266,7 +290,10 @@ pub fn walk_parts<'p>(
     parts: &'p [PathPart],
 ) -> Result<Outcome<'p>, AllocError>
     requires { HasStarted instances.now targets.now i }
-    ensures { (p : Plain) (s : Scope) (line : ℕ) → AreStarted p instances.now targets.now → scope_at p i ≡ Some s → IfOk result (Walking p targets.now.states s (followed (Written.Here line name.now) parts.now)) }
+    ensures { (p : Plain) (s : Scope) (line : ℕ) → AreStarted p instances.now targets.now
+        → scope_at p i ≡ Some s
+        → IfOk result (Walking p targets.now.states s (followed (Written.Here line name.now)
+        parts.now)) }
 {
     let mut outcome = first(alloc, instances, targets, i, name)?;
     for part in parts {
@@ -284,7 +311,9 @@ pub fn walk<'p>(
     path: &'p Path,
 ) -> Result<Outcome<'p>, AllocError>
     requires { HasStarted instances.now targets.now i }
-    ensures { (p : Plain) (s : Scope) → AreStarted p instances.now targets.now → scope_at p i ≡ Some s → IfOk result (Walking p targets.now.states s (plain_path path.now)) }
+    ensures { (p : Plain) (s : Scope) → AreStarted p instances.now targets.now
+        → scope_at p i ≡ Some s
+        → IfOk result (Walking p targets.now.states s (plain_path path.now)) }
 {
     walk_parts(alloc, instances, targets, i, &path.first, &path.parts)
 }
@@ -316,8 +345,10 @@ pub fn actual_outcome<'p>(
     targets: &Targets<'p>,
     at: Parameter,
 ) -> Result<Outcome<'p>, AllocError>
-    requires { (p : Plain) × (known : State) × AreStarted p instances.now targets.now × (state_at targets.now.states at ≡ Some known) }
-    ensures { (p : Plain) → AreStarted p instances.now targets.now → IfOk result (Deciding p targets.now.states at) }
+    requires { (p : Plain) × (known : State) × AreStarted p instances.now targets.now
+        × (state_at targets.now.states at ≡ Some known) }
+    ensures { (p : Plain) → AreStarted p instances.now targets.now
+        → IfOk result (Deciding p targets.now.states at) }
 {
     let Some((around, actual)) = instances.actual(at.instance, at.place) else {
         return Ok(Outcome::Nothing);
@@ -335,7 +366,8 @@ pub fn actual_outcome<'p>(
 
 /// The number of the instance that the target is, if it is one.
 pub fn instance_number(target: &Target<'_>) -> Option<usize>
-    ensures { (p : Plain) (s : Scope) (q : Written) → Resolves p s q (Some target.now) → LeadsInto p s q result }
+    ensures { (p : Plain) (s : Scope) (q : Written) → Resolves p s q (Some target.now)
+        → LeadsInto p s q result }
 {
     match target {
         Target::Instance(number) => Some(*number),
@@ -355,7 +387,9 @@ fn instance_by<'p>(
     parts: &'p [PathPart],
 ) -> Result<Option<usize>, AllocError>
     requires { HasTargets instances.now targets.now i }
-    ensures { (p : Plain) (s : Scope) (line : ℕ) → AreTargets p instances.now targets.now → scope_at p i ≡ Some s → IfOk result (LeadsInto p s (followed (Written.Here line name.now) parts.now)) }
+    ensures { (p : Plain) (s : Scope) (line : ℕ) → AreTargets p instances.now targets.now
+        → scope_at p i ≡ Some s
+        → IfOk result (LeadsInto p s (followed (Written.Here line name.now) parts.now)) }
 {
     match walk_parts(alloc, instances, targets, i, name, parts)? {
         Outcome::Found(target) => Ok(instance_number(&target)),
@@ -374,7 +408,9 @@ pub fn named_by<'p>(
     parts: &'p [PathPart],
 ) -> Result<Option<usize>, AllocError>
     requires { HasTargets instances.now targets.now i }
-    ensures { (p : Plain) (s : Scope) (line : ℕ) → AreTargets p instances.now targets.now → scope_at p i ≡ Some s → IfOk result (NamesNode p s (followed (Written.Here line name.now) parts.now)) }
+    ensures { (p : Plain) (s : Scope) (line : ℕ) → AreTargets p instances.now targets.now
+        → scope_at p i ≡ Some s
+        → IfOk result (NamesNode p s (followed (Written.Here line name.now) parts.now)) }
 {
     let Some((last, front)) = parts.split_last() else {
         return Ok(entry_node(instances, targets, i, name));
