@@ -8,11 +8,12 @@ use bdd_nodes::Steps;
 use bit_encode::orders::declared_order;
 use diagram_sets::DiagramSets;
 use kripke_model::models::Ruled;
-use region_sets::{StateSets, TreeSets};
+use region_sets::StateSets;
 use std::alloc::{AllocError, Global};
 use std::marker::Brand;
 use std::sync::ledger::{Blank, Ledger};
 use trans_parts::{BuildRefusal, Parts};
+use tree_sets::TreeSets;
 
 /// The most triples of a store.
 const LIMIT: u32 = 1_000_000;

@@ -1,10 +1,8 @@
 -- What the pins of an object stand for, and what a call does to them.
-use Rattle.std.specs.Prelude.{◌≡◌, ◌⊎◌, ℕ, ◌+◌, ◌-◌, ◌<◌, ◌≤◌, Bool, true, false, ◌||◌, ◌==◌, List, [], ◌∷◌, length, Option, Some, None, IsSome, Result, Ok, Err, IfErr, ◌↔◌, max, slice_get, MatchOption}
-use Rattle.std.specs.List.{position}
-use Rattle.kripke_model.specs.System.{System, State, Variable}
-use Rattle.kripke_model.specs.declared.expressions.Value.{Value}
+use Rattle.std.specs.Prelude.{◌≡◌, ◌⊎◌, ℕ, ◌+◌, ◌-◌, ◌<◌, ◌≤◌, Bool, true, false, ◌||◌, ◌==◌, List, [], ◌∷◌, length, Option, Some, None, IsSome, Result, Ok, Err, IfErr, ◌↔◌, slice_get, MatchOption}
+use Rattle.kripke_model.specs.System.{System, State}
 use Rattle.kripke_model.specs.Term.{has_path_operator}
-use Rattle.kripke_model.specs.Evaluation.{Holds, same}
+use Rattle.kripke_model.specs.Evaluation.{Holds}
 use Rattle.path_laws.specs.StateSet.{StateSet}
 use Rattle.region_sets.specs.declared.pins.Pin.{Pin}
 use Rattle.region_sets.specs.declared.pins.SetRefusal.{SetRefusal}
