@@ -28,7 +28,7 @@ use Rattle.fair_rules.specs.FreePart.{constraint_nodes, path_nodes, path_nodes_o
 use Rattle.fair_rules.proofs.LeafSets.{evaluable_leaf}
 use Rattle.proof_form.specs.Form.{FreePart, entries_sets, layer_sets, map_free, map_free_entry}
 use Rattle.proof_form.specs.Meaning.{entries_for, free_proof}
-use Rattle.proof_form.proofs.Preordered.{some_nodes}
+use Rattle.fair_rules.proofs.Nodes.{some_nodes}
 use Rattle.claim_sets.specs.declared.claims.Claim.{Claim}
 use Rattle.claim_sets.specs.declared.entry_sets.Ground.{Ground}
 use Rattle.claim_sets.specs.Claimed.{AreClaims, ClaimView, HasModelLeaves, claims_of, claims_slots, view_at}

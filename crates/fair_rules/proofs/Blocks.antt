@@ -1,7 +1,8 @@
 -- A block whose lines hold proves its claim.
-use Rattle.std.proofs.Common.{◌≡◌, ◌⊎◌, ◌↔◌, inl, inr, ℕ, zero, suc, ◌+◌, ◌<◌, ◌≤◌, Bool, true, false, ◌&&◌, List, [], ◌∷◌, ◌++◌, length, get_or, Option, Some, None, refl, sym, ◌∙◌, ap, subst, arith, eqb, ltb, cond, ap₂, subst₂}
+use Rattle.std.proofs.Common.{◌≡◌, ◌⊎◌, ◌↔◌, inl, inr, ℕ, zero, suc, ◌+◌, ◌<◌, Bool, true, false, ◌&&◌, List, [], ◌∷◌, ◌++◌, length, get_or, Option, Some, None, refl, sym, ◌∙◌, ap, subst, arith, eqb, ap₂, subst₂}
 use Rattle.std.specs.Prelude.{All}
-use Rattle.std.proofs.lemmas.Bool.{false≢true, or_cases, and_parts, and_from, or_left, or_right, eqb-true, lt-ltb, le-ltb, eq-eqb, ne_eqb, cond-true, cond-false}
+use Rattle.std.specs.Option.{option_and_then}
+use Rattle.std.proofs.lemmas.Bool.{false≢true, or_cases, and_parts, and_from, or_left, or_right, eqb-true, cond-true, cond-false}
 use Rattle.std.proofs.lemmas.List.Elements.{All-nil}
 use Rattle.kripke_model.specs.Ctl.{Ctl}
 use Rattle.kripke_model.specs.System.{System, State}
@@ -14,8 +15,10 @@ use Rattle.fair_rules.specs.Rules.{Layer, AreNonfair, MeetsEU, MeetsAU, MeetsAR,
 use Rattle.fair_rules.specs.Claims.{Entry, Proof, either, both, join_layers, claimed, absent_argument, Meets, AreMet, IsProof}
 use Rattle.fair_rules.specs.Fixpoints.{without}
 use Rattle.fair_rules.specs.Checks.{Check, IsMet, AllHold, layer_lines, until_lines, reach_lines}
-use Rattle.fair_rules.specs.Block.{Listed, Block, ClaimHolds, same_sign, entry_of, proof_of, Demand, demand_at, HasRule, IsAsked, entry_lines, asked_lines, listed_lines, claim_lines, block_lines, IsProofBlock}
+use Rattle.fair_rules.specs.Block.{Listed, Block, ClaimHolds, same_sign, entry_of, proof_of, Demand, demand, demand_at, HasRule, IsAsked, entry_lines, asked_lines, listed_lines, claim_lines, block_lines, IsProofBlock}
+use Rattle.fair_rules.specs.Nodes.{node_at}
 use Rattle.fair_rules.proofs.ClaimsSound.{in_join_layers}
+use Rattle.fair_rules.proofs.Nodes.{own_node, parts_there}
 use Rattle.fair_rules.proofs.Fixpoints.{join_layers_in, decided, in_without, without_parts}
 use Rattle.fair_rules.proofs.Theorems.{true_claim_sound, false_claim_sound}
 use Rattle.fair_rules.proofs.Checks.{layer_moves, layer_hold, until_lines_hold, reach_lines_hold, UntilSets, hold_left, hold_right, hold_both, one_check, two_checks, none}
@@ -40,11 +43,13 @@ module _ (m : System) (visited : List StateSet) (fair f g set : StateSet) (reach
   er_there h = record {
     inside = h 1 0 none (omega arith);
     stays = (reach_lines_hold m set visited reaches).0 (hold_left m (reach_lines set visited reaches) until_part (λ n. h (suc (suc n))));
-    first = λ s is_state e.
-        let a = and_parts (f s) (both g fair s) (u.0 s is_state e) in
-        let b = and_parts (g s) (fair s) a.1 in
-        (a.0, b.0, b.1);
-    later = u.1;
+    until = record {
+      first = λ s is_state e.
+          let a = and_parts (f s) (both g fair s) (u.0 s is_state e) in
+          let b = and_parts (g s) (fair s) a.1 in
+          (a.0, b.0, b.1);
+      later = u.1;
+    };
   }
     where
       u : UntilSets m g (both f (both g fair)) untils
@@ -56,7 +61,7 @@ module _ (m : System) (visited : List StateSet) (fair f g set : StateSet) (reach
       (hold_after m [] (until_lines g (both f (both g fair)) untils) (All-nil (IsMet m)) ((until_lines_hold m g (both f (both g fair)) untils).1 u))))
     where
       u : UntilSets m g (both f (both g fair)) untils
-      u = (λ s is_state e. let x = rule.first s is_state e in and_from (f s) (both g fair s) x.0 (and_from (g s) (fair s) x.1 x.2), rule.later)
+      u = (λ s is_state e. let x = rule.until.first s is_state e in and_from (f s) (both g fair s) x.0 (and_from (g s) (fair s) x.1 x.2), rule.until.later)
 
 module _ (m : System) (visited avoided : List StateSet) where
   pub nonfair_lines_hold : (layers : List Layer) → AllHold m (layer_lines avoided everything nothing nothing layers) ↔ AreNonfair m avoided layers
@@ -170,102 +175,38 @@ module _ (m : System) (visited avoided : List StateSet) where
           (er_there m visited p.fair f g set reaches untils, er_back m visited p.fair f g set reaches untils)
       go _ _ f g has = absurd has
 
--- ---- the nodes of a formula
-
-module _ (m : System) (p : Proof) where
-  -- what is asked of a node is asked within the numbers of the formula's nodes
-  InRange : Ctl → ℕ → ℕ → Type 0
-  InRange f n i = (n ≤ i) × (i < n + node_count f)
-
-  choose : (b : Bool) (x y : Option Demand) (d : Demand) → cond b x y ≡ Some d → ((b ≡ true) × (x ≡ Some d)) ⊎ ((b ≡ false) × (y ≡ Some d))
-  choose true x y d e = inl (refl, e)
-  choose false x y d e = inr (refl, e)
-
-  demand_range : (f : Ctl) (n i : ℕ) (sign : Bool) (d : Demand) → demand_at m p f n i sign ≡ Some d → InRange f n i
-  unfolding InRange
-  demand_range (Ctl.Leaf e) n i sign d h = absurd cc
-  demand_range (Ctl.Not f) n i sign d h = let r = demand_range f (n + 1) i sign d h in (omega (arith, r.0), omega (arith, r.1))
-  demand_range (Ctl.And f g) n i sign d h = elim (choose (ltb i (n + 1 + node_count f)) (demand_at m p f (n + 1) i sign) (demand_at m p g (n + 1 + node_count f) i sign) d h) [
-    | inl x ↦ (let r = demand_range f (n + 1) i sign d x.1 in (omega (arith, r.0), omega (arith, r.1)))
-    | inr y ↦ (let r = demand_range g (n + 1 + node_count f) i sign d y.1 in (omega (arith, r.0), omega (arith, r.1)))
-  ]
-  demand_range (Ctl.Or f g) n i sign d h = elim (choose (ltb i (n + 1 + node_count f)) (demand_at m p f (n + 1) i sign) (demand_at m p g (n + 1 + node_count f) i sign) d h) [
-    | inl x ↦ (let r = demand_range f (n + 1) i sign d x.1 in (omega (arith, r.0), omega (arith, r.1)))
-    | inr y ↦ (let r = demand_range g (n + 1 + node_count f) i sign d y.1 in (omega (arith, r.0), omega (arith, r.1)))
-  ]
-  demand_range (Ctl.Implies f g) n i sign d h = elim (choose (ltb i (n + 1 + node_count f)) (demand_at m p f (n + 1) i sign) (demand_at m p g (n + 1 + node_count f) i sign) d h) [
-    | inl x ↦ (let r = demand_range f (n + 1) i sign d x.1 in (omega (arith, r.0), omega (arith, r.1)))
-    | inr y ↦ (let r = demand_range g (n + 1 + node_count f) i sign d y.1 in (omega (arith, r.0), omega (arith, r.1)))
-  ]
-  demand_range (Ctl.Iff f g) n i sign d h = elim (choose (ltb i (n + 1 + node_count f)) (demand_at m p f (n + 1) i sign) (demand_at m p g (n + 1 + node_count f) i sign) d h) [
-    | inl x ↦ (let r = demand_range f (n + 1) i sign d x.1 in (omega (arith, r.0), omega (arith, r.1)))
-    | inr y ↦ (let r = demand_range g (n + 1 + node_count f) i sign d y.1 in (omega (arith, r.0), omega (arith, r.1)))
-  ]
-  demand_range (Ctl.Quant op f) n i sign d h = elim (choose (eqb i n) _ (demand_at m p f (n + 1) i sign) d h) [
-    | inl x ↦ (omega (arith, eqb-true i n x.0), omega (arith, eqb-true i n x.0))
-    | inr y ↦ (let r = demand_range f (n + 1) i sign d y.1 in (omega (arith, r.0), omega (arith, r.1)))
-  ]
-  demand_range (Ctl.Until all f g) n i sign d h = elim (choose (eqb i n) _ (cond (ltb i (n + 1 + node_count f)) (demand_at m p f (n + 1) i sign) (demand_at m p g (n + 1 + node_count f) i sign)) d h) [
-    | inl x ↦ (omega (arith, eqb-true i n x.0), omega (arith, eqb-true i n x.0))
-    | inr z ↦ elim (choose (ltb i (n + 1 + node_count f)) (demand_at m p f (n + 1) i sign) (demand_at m p g (n + 1 + node_count f) i sign) d z.1) [
-      | inl x ↦ (let r = demand_range f (n + 1) i sign d x.1 in (omega (arith, r.0), omega (arith, r.1)))
-      | inr y ↦ (let r = demand_range g (n + 1 + node_count f) i sign d y.1 in (omega (arith, r.0), omega (arith, r.1)))
-    ]
-  ]
-
 -- ---- from the demands of all nodes to the formula
 
-module _ (m : System) (visited avoided : List StateSet) (p : Proof) where
-  abbrev Answered : Ctl → ℕ → Type 0
-  Answered f n = (i : ℕ) (sign : Bool) (d : Demand) → demand_at m p f n i sign ≡ Some d → Meets m visited avoided p d.rule (p.entries i sign) d.first d.last
+module _ (m : System) (visited avoided : List StateSet) (p : Proof) (f : Ctl) (n : ℕ) where
+  abbrev Answered : Type 0
+  Answered = (i : ℕ) (sign : Bool) (d : Demand) → demand_at m p f n i sign ≡ Some d → Meets m visited avoided p d.rule (p.entries i sign) d.first d.last
 
-  module _ (f g : Ctl) (n : ℕ) (answered : (i : ℕ) (sign : Bool) (d : Demand)
-      → cond (ltb i (n + 1 + node_count f)) (demand_at m p f (n + 1) i sign) (demand_at m p g (n + 1 + node_count f) i sign) ≡ Some d
-      → n + 1 ≤ i → Meets m visited avoided p d.rule (p.entries i sign) d.first d.last) where
-    to_left : Answered f (n + 1)
-    unfolding InRange
-    to_left i sign d h =
-        let r = demand_range m p f (n + 1) i sign d h in
-        answered i sign d (cond-true (ltb i (n + 1 + node_count f)) (demand_at m p f (n + 1) i sign) (demand_at m p g (n + 1 + node_count f) i sign) (lt-ltb i (n + 1 + node_count f) r.1) ∙ h) r.0
+  own_demand : (c : Ctl) (k : ℕ) (sign : Bool) → node_at f n k ≡ Some c → demand_at m p f n k sign ≡ demand m p c k sign
+  own_demand c k sign at = ap (option_and_then (λ g. demand m p g k sign)) at
 
-    to_right : Answered g (n + 1 + node_count f)
-    unfolding InRange
-    to_right i sign d h =
-        let r = demand_range m p g (n + 1 + node_count f) i sign d h in
-        answered i sign d (cond-false (ltb i (n + 1 + node_count f)) (demand_at m p f (n + 1) i sign) (demand_at m p g (n + 1 + node_count f) i sign) (le-ltb i (n + 1 + node_count f) r.0) ∙ h) (omega (arith, r.0))
-
-  met_from : (f : Ctl) (n : ℕ) → Answered f n → AreMet m visited avoided p f n
-  unfolding InRange
-  met_from (Ctl.Leaf e) n answered = tt
-  met_from (Ctl.Not f) n answered = met_from f (n + 1) answered
-  met_from (Ctl.And f g) n answered =
-      (met_from f (n + 1) (to_left f g n (λ i sign d h l. answered i sign d h)), met_from g (n + 1 + node_count f) (to_right f g n (λ i sign d h l. answered i sign d h)))
-  met_from (Ctl.Or f g) n answered =
-      (met_from f (n + 1) (to_left f g n (λ i sign d h l. answered i sign d h)), met_from g (n + 1 + node_count f) (to_right f g n (λ i sign d h l. answered i sign d h)))
-  met_from (Ctl.Implies f g) n answered =
-      (met_from f (n + 1) (to_left f g n (λ i sign d h l. answered i sign d h)), met_from g (n + 1 + node_count f) (to_right f g n (λ i sign d h l. answered i sign d h)))
-  met_from (Ctl.Iff f g) n answered =
-      (met_from f (n + 1) (to_left f g n (λ i sign d h l. answered i sign d h)), met_from g (n + 1 + node_count f) (to_right f g n (λ i sign d h l. answered i sign d h)))
-  met_from (Ctl.Quant op f) n answered = (
-    λ sign.
-        let d : Demand = record { rule = rule_of op sign; first = absent_argument (rule_of op sign); last = claimed m p f (n + 1) sign } in
-        answered n sign d (cond-true (eqb n n) (Some d) (demand_at m p f (n + 1) n sign) (eq-eqb n n refl)),
-    met_from f (n + 1) (λ i sign d h.
-        let r = demand_range m p f (n + 1) i sign d h in
-        answered i sign d (cond-false (eqb i n) _ (demand_at m p f (n + 1) i sign) (ne_eqb i n (λ e. omega (arith, r.0, e))) ∙ h)),
+  met_at : Answered → (c : Ctl) (k : ℕ) → node_at f n k ≡ Some c → AreMet m visited avoided p c k
+  met_at answered (Ctl.Leaf e) k at = tt
+  met_at answered (Ctl.Not g) k at = met_at answered g (k + 1) (parts_there f n k (Ctl.Not g) at)
+  met_at answered (Ctl.And g h) k at =
+      let r = parts_there f n k (Ctl.And g h) at in (met_at answered g (k + 1) r.0, met_at answered h (k + 1 + node_count g) r.1)
+  met_at answered (Ctl.Or g h) k at =
+      let r = parts_there f n k (Ctl.Or g h) at in (met_at answered g (k + 1) r.0, met_at answered h (k + 1 + node_count g) r.1)
+  met_at answered (Ctl.Implies g h) k at =
+      let r = parts_there f n k (Ctl.Implies g h) at in (met_at answered g (k + 1) r.0, met_at answered h (k + 1 + node_count g) r.1)
+  met_at answered (Ctl.Iff g h) k at =
+      let r = parts_there f n k (Ctl.Iff g h) at in (met_at answered g (k + 1) r.0, met_at answered h (k + 1 + node_count g) r.1)
+  met_at answered (Ctl.Quant op g) k at = (
+    λ sign. answered k sign (record { rule = rule_of op sign; first = absent_argument (rule_of op sign); last = claimed m p g (k + 1) sign }) (own_demand (Ctl.Quant op g) k sign at),
+    met_at answered g (k + 1) (parts_there f n k (Ctl.Quant op g) at),
   )
-  met_from (Ctl.Until all f g) n answered = (
-    λ sign.
-        let d : Demand = record { rule = until_rule all sign; first = claimed m p f (n + 1) sign; last = claimed m p g (n + 1 + node_count f) sign } in
-        answered n sign d (cond-true (eqb n n) (Some d) (cond (ltb n (n + 1 + node_count f)) (demand_at m p f (n + 1) n sign) (demand_at m p g (n + 1 + node_count f) n sign)) (eq-eqb n n refl)),
-    met_from f (n + 1) (to_left f g n below),
-    met_from g (n + 1 + node_count f) (to_right f g n below),
-  )
-    where
-      below : (i : ℕ) (sign : Bool) (d : Demand)
-          → cond (ltb i (n + 1 + node_count f)) (demand_at m p f (n + 1) i sign) (demand_at m p g (n + 1 + node_count f) i sign) ≡ Some d
-          → n + 1 ≤ i → Meets m visited avoided p d.rule (p.entries i sign) d.first d.last
-      below i sign d h l = answered i sign d (cond-false (eqb i n) _ (cond (ltb i (n + 1 + node_count f)) (demand_at m p f (n + 1) i sign) (demand_at m p g (n + 1 + node_count f) i sign)) (ne_eqb i n (λ e. omega (arith, l, e))) ∙ h)
+  met_at answered (Ctl.Until all g h) k at =
+      let r = parts_there f n k (Ctl.Until all g h) at in (
+        λ sign.
+            answered k sign (record { rule = until_rule all sign; first = claimed m p g (k + 1) sign; last = claimed m p h (k + 1 + node_count g) sign })
+            (own_demand (Ctl.Until all g h) k sign at),
+        met_at answered g (k + 1) r.0,
+        met_at answered h (k + 1 + node_count g) r.1,
+      )
 
 -- ---- the listed entries
 
@@ -366,7 +307,7 @@ module _ (m : System) (visited avoided : List StateSet) (b : Block) (f : Ctl) (n
   block_proof = record {
     nonfair = (nonfair_lines_hold m visited avoided b.nonfair).0 (λ k. hold_left m nonfair_part (fair_part ++ (listed_part ++ claim_part)) lines (suc k));
     fair = (reach_lines_hold m b.fair visited b.reaches).0 (λ k. hold_left m fair_part (listed_part ++ claim_part) after_nonfair (suc k));
-    entries = met_from m visited avoided p f n answered;
+    entries = met_at m visited avoided p f n answered f n (own_node f n n refl);
   }
 
 -- a block that is a proof of its claim has a claim that holds

@@ -7,7 +7,7 @@ use Rattle.std.proofs.lemmas.List.{get_or_append_left, get_or-append-add, get_or
 use Rattle.kripke_model.specs.System.{System, State}
 use Rattle.path_laws.specs.StateSet.{StateSet, ◌∈◌}
 use Rattle.fair_rules.specs.SetLists.{nothing, set_at, InSome, InEarlier, IsInside, SomeNext, EachNext}
-use Rattle.fair_rules.specs.Rules.{Layer, layer_at, reach_at, InEarlierLayer, Stays, IsFairSet}
+use Rattle.fair_rules.specs.Rules.{Layer, layer_at, reach_at, InEarlierLayer, Stays, AreReachSets, IsFairSet}
 use Rattle.fair_rules.specs.Claims.{either, both, join}
 use Rattle.fair_rules.specs.Checks.{Check, IsMet, AllHold, layer_lines, step_lines, until_lines, reach_lines}
 use Rattle.fair_rules.proofs.ClaimsSound.{in_join}
@@ -202,30 +202,31 @@ until_lines_hold m f first (set ∷ sets) = (λ h. (h 0 0 none (omega arith), th
 -- what the rule says of one constraint
 abbrev ReachFor : System → StateSet → StateSet → List StateSet → Type 0
 ReachFor m visit set sets =
-    IsInside m set (InSome sets) × ((i : ℕ) → IsInside m (set_at sets i) (λ s. s ∈ set))
-    × ((i : ℕ) → IsInside m (set_at sets i) (SomeNext m (λ t. ((t ∈ set) × t ∈ visit) ⊎ InEarlier sets i t)))
+    IsInside m set (InSome sets) × AreReachSets m visit set sets
 
 reach_for : (m : System) (visit set : StateSet) (sets : List StateSet) → IsInside m set (λ s. s ∈ join sets) → AllHold m (step_lines set (both set visit) nothing sets) → ReachFor m visit set sets
 reach_for m visit set sets whole h = (
   λ s is_state e. in_join sets s (whole s is_state e),
-  λ i s is_state e. (steps_from m set (both set visit) nothing sets h i s is_state e).0,
-  λ i s is_state e.
-      let r : SomeNext m (λ t. (t ∈ both set visit) ⊎ ((t ∈ nothing) ⊎ InEarlier sets i t)) s = (steps_from m set (both set visit) nothing sets h i s is_state e).1 in (
-        r.0,
-        r.1,
-        r.2,
-        elim r.3 [
-          | inl there ↦ inl (and_parts (set r.0) (visit r.0) there)
-          | inr (inl never) ↦ absurd (false≢true never)
-          | inr (inr before) ↦ inr before
-        ],
-      ),
+  record {
+    inside = λ i s is_state e. (steps_from m set (both set visit) nothing sets h i s is_state e).0;
+    moves = λ i s is_state e.
+        let r : SomeNext m (λ t. (t ∈ both set visit) ⊎ ((t ∈ nothing) ⊎ InEarlier sets i t)) s = (steps_from m set (both set visit) nothing sets h i s is_state e).1 in (
+          r.0,
+          r.1,
+          r.2,
+          elim r.3 [
+            | inl there ↦ inl (and_parts (set r.0) (visit r.0) there)
+            | inr (inl never) ↦ absurd (false≢true never)
+            | inr (inr before) ↦ inr before
+          ],
+        );
+  },
 )
 
 reach_hold : (m : System) (visit set : StateSet) (sets : List StateSet) → ReachFor m visit set sets → AllHold m (step_lines set (both set visit) nothing sets)
-reach_hold m visit set sets (covered, inside, moves) = steps_hold m set (both set visit) nothing sets (λ k s is_state e.
-    let x : SomeNext m (λ t. ((t ∈ set) × t ∈ visit) ⊎ InEarlier sets k t) s = moves k s is_state e in (
-      inside k s is_state e,
+reach_hold m visit set sets (covered, leads) = steps_hold m set (both set visit) nothing sets (λ k s is_state e.
+    let x : SomeNext m (λ t. ((t ∈ set) × t ∈ visit) ⊎ InEarlier sets k t) s = leads.moves k s is_state e in (
+      leads.inside k s is_state e,
       (
         x.0,
         x.1,
@@ -241,7 +242,7 @@ reach_lines_each : (m : System) (set : StateSet) (visited : List StateSet) (reac
     → (k : ℕ) → k < length visited → ReachFor m (set_at visited k) set (reach_at reaches k)
 reach_lines_each m set [] reaches h k l = absurd (omega arith)
 reach_lines_each m set (visit ∷ visited) [] h zero l =
-    (λ s is_state e. absurd (false≢true (h 0 0 none (omega arith) s is_state e)), λ i s is_state e. absurd (false≢true e), λ i s is_state e. absurd (false≢true e))
+    (λ s is_state e. absurd (false≢true (h 0 0 none (omega arith) s is_state e)), record { inside = λ i s is_state e. absurd (false≢true e); moves = λ i s is_state e. absurd (false≢true e) })
 reach_lines_each m set (visit ∷ visited) [] h (suc k) l = reach_lines_each m set visited [] (λ n. h (suc n)) k (omega arith)
 reach_lines_each m set (visit ∷ visited) (sets ∷ reaches) h zero l =
     reach_for m visit set sets (h 0 0 none (omega arith)) (hold_left m (step_lines set (both set visit) nothing sets) (reach_lines set visited reaches) (λ n. h (suc n)))
@@ -264,8 +265,7 @@ pub reach_lines_hold : (m : System) (set : StateSet) (visited : List StateSet) (
 reach_lines_hold m set visited reaches = (
   λ h. record {
     covered = λ k l. (reach_lines_each m set visited reaches h k l).0;
-    inside = λ k i l. (reach_lines_each m set visited reaches h k l).1 i;
-    moves = λ k i l. (reach_lines_each m set visited reaches h k l).2 i;
+    leads = λ k l. (reach_lines_each m set visited reaches h k l).1;
   },
-  λ fair. reach_lines_back m set visited reaches (λ k l. (fair.covered k l, λ i. fair.inside k i l, λ i. fair.moves k i l)),
+  λ fair. reach_lines_back m set visited reaches (λ k l. (fair.covered k l, fair.leads k l)),
 )

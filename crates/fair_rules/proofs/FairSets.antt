@@ -43,7 +43,7 @@ module _ (m : System) (visited : List StateSet) (set : StateSet) (reaches : List
   Moved x y = Step m x.state y.state × ((y.state ∈ set_at visited x.target) × (y.target ≡ after (length visited) x.target) ⊎ (y.target ≡ x.target) × (y.index < x.index))
 
   step_from : (x : Here) → (y : Here) × Moved x y
-  step_from x = go (rule.moves x.target x.index x.wanted x.state x.is_state x.reached)
+  step_from x = go ((rule.leads x.target x.wanted).moves x.index x.state x.is_state x.reached)
     where
       go : (t : State) × IsState m t × Step m x.state t × (((t ∈ set) × t ∈ set_at visited x.target) ⊎ InEarlier (reach_at reaches x.target) x.index t) → (y : Here) × Moved x y
       go (t, is_state, step, inl (inside, met)) =
@@ -51,7 +51,7 @@ module _ (m : System) (visited : List StateSet) (set : StateSet) (reaches : List
           let r : InSome (reach_at reaches k) t = rule.covered k (after_wanted x.target) t is_state inside in
           (record { state = t; is_state = is_state; inside = inside; target = k; wanted = after_wanted x.target; index = r.0; reached = r.1 }, (step, inl (met, refl)))
       go (t, is_state, step, inr (i, l, there)) =
-          (record { state = t; is_state = is_state; inside = rule.inside x.target i x.wanted t is_state there; target = x.target; wanted = x.wanted; index = i; reached = there }, (step, inr (refl, l)))
+          (record { state = t; is_state = is_state; inside = (rule.leads x.target x.wanted).inside i t is_state there; target = x.target; wanted = x.wanted; index = i; reached = there }, (step, inr (refl, l)))
 
   abbrev place : Here → ℕ → Here
   place x zero = x

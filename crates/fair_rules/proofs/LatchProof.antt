@@ -88,8 +88,7 @@ visits = record { inside = λ k s is_state e. refl; moves = moves }
 no_fair_set : IsFairSet latch (visited_sets latch) nothing ([] ∷ [] ∷ [])
 no_fair_set = record {
   covered = λ k h s is_state e. absurd (false≢true e);
-  inside = λ k i h s is_state e. absurd (empty k i s e);
-  moves = λ k i h s is_state e. absurd (empty k i s e);
+  leads = λ k h. record { inside = λ i s is_state e. absurd (empty k i s e); moves = λ i s is_state e. absurd (empty k i s e) };
 }
   where
     empty : (k i : ℕ) (s : State) → s ∈ set_at (reach_at ([] ∷ [] ∷ []) k) i → ⊥

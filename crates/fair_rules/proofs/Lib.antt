@@ -14,5 +14,6 @@ pub mod Splits
 pub mod FreePart
 pub mod Falsified
 pub mod LatchProof
+pub mod Nodes
 pub mod Checks
 pub mod Blocks

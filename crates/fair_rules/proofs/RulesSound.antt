@@ -71,7 +71,7 @@ module _ (m : System) (count : ℕ) (C : ℕ → State → Type 0) (visited avoi
         here s is_state inside = (b.0, b.1, b.2, released)
           where
             x : (s ∈ f) × (s ∈ g) × s ∈ fair
-            x = rule.first s is_state inside
+            x = rule.until.first s is_state inside
 
             b : (p : Lasso) × Fair p × (at p 0 ≡ s) × ((n : ℕ) → at p n ∈ fair)
             b = begin s is_state x.2
@@ -95,7 +95,7 @@ module _ (m : System) (count : ℕ) (C : ℕ → State → Type 0) (visited avoi
         below zero i s h is_state inside = absurd (omega arith)
         below (suc b) zero s h is_state inside = here s is_state inside
         below (suc b) (suc i) s h is_state inside =
-            let x = rule.later (suc i) (omega arith) s is_state inside in
+            let x = rule.until.later (suc i) (omega arith) s is_state inside in
             longer s x.1.0 is_state x.0 x.1.2 (below b x.1.3.0 x.1.0 (omega (arith, x.1.3.1, h)) x.1.1 x.1.3.2)
 
   -- ---- every path

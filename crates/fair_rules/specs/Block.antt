@@ -1,5 +1,6 @@
 -- A proof as it is written: its lines in order, what each has to show, and its claim.
-use Rattle.std.specs.Prelude.{◌≡◌, ℕ, ◌+◌, ◌&&◌, ◌==◌, nat_lt, Bool, true, false, not, List, [], ◌∷◌, ◌++◌, All, Option, Some, None, if◌then◌else◌}
+use Rattle.std.specs.Prelude.{◌≡◌, ℕ, ◌+◌, ◌&&◌, ◌==◌, Bool, true, false, not, List, [], ◌∷◌, ◌++◌, All, Option, Some, None, if◌then◌else◌}
+use Rattle.std.specs.Option.{option_and_then}
 use Rattle.kripke_model.specs.Ctl.{Ctl}
 use Rattle.kripke_model.specs.System.{System, State}
 use Rattle.kripke_model.specs.Truth.{Initials}
@@ -9,6 +10,7 @@ use Rattle.fair_rules.specs.SetLists.{everything, nothing}
 use Rattle.fair_rules.specs.Rules.{Layer}
 use Rattle.fair_rules.specs.Claims.{Entry, Proof, either, both, join_layers, claimed, absent_argument}
 use Rattle.fair_rules.specs.Fixpoints.{without}
+use Rattle.fair_rules.specs.Nodes.{node_at}
 use Rattle.fair_rules.specs.Checks.{Check, AllHold, layer_lines, until_lines, reach_lines}
 
 pub record Listed : Type 0 where
@@ -42,22 +44,16 @@ pub record Demand : Type 0 where
   pub first : StateSet
   pub last : StateSet
 
--- what is asked of node i, in a formula whose first node has number n; only temporal nodes are asked
+-- what is asked of a formula whose first node has number n; only temporal nodes are asked
+abbrev pub demand : System → Proof → Ctl → ℕ → Bool → Option Demand
+demand m p (Ctl.Quant op f) n sign = Some (record { rule = rule_of op sign; first = absent_argument (rule_of op sign); last = claimed m p f (n + 1) sign })
+demand m p (Ctl.Until all f g) n sign =
+    Some (record { rule = until_rule all sign; first = claimed m p f (n + 1) sign; last = claimed m p g (n + 1 + node_count f) sign })
+demand m p f n sign = None
+
+-- and of its node i
 abbrev pub demand_at : System → Proof → Ctl → ℕ → ℕ → Bool → Option Demand
-demand_at m p (Ctl.Leaf e) n i sign = None
-demand_at m p (Ctl.Not f) n i sign = demand_at m p f (n + 1) i sign
-demand_at m p (Ctl.And f g) n i sign = if nat_lt i (n + 1 + node_count f) then demand_at m p f (n + 1) i sign else demand_at m p g (n + 1 + node_count f) i sign
-demand_at m p (Ctl.Or f g) n i sign = if nat_lt i (n + 1 + node_count f) then demand_at m p f (n + 1) i sign else demand_at m p g (n + 1 + node_count f) i sign
-demand_at m p (Ctl.Implies f g) n i sign = if nat_lt i (n + 1 + node_count f) then demand_at m p f (n + 1) i sign else demand_at m p g (n + 1 + node_count f) i sign
-demand_at m p (Ctl.Iff f g) n i sign = if nat_lt i (n + 1 + node_count f) then demand_at m p f (n + 1) i sign else demand_at m p g (n + 1 + node_count f) i sign
-demand_at m p (Ctl.Quant op f) n i sign =
-    if i == n
-    then Some (record { rule = rule_of op sign; first = absent_argument (rule_of op sign); last = claimed m p f (n + 1) sign })
-    else demand_at m p f (n + 1) i sign
-demand_at m p (Ctl.Until all f g) n i sign =
-    if i == n
-    then Some (record { rule = until_rule all sign; first = claimed m p f (n + 1) sign; last = claimed m p g (n + 1 + node_count f) sign })
-    else if nat_lt i (n + 1 + node_count f) then demand_at m p f (n + 1) i sign else demand_at m p g (n + 1 + node_count f) i sign
+demand_at m p f n i sign = option_and_then (λ g. demand m p g i sign) (node_at f n i)
 
 -- the entry is one of the rule
 abbrev pub HasRule : Rule → Entry → Type 0

@@ -4,6 +4,7 @@ pub mod ConstraintSets
 pub mod Conclusions
 pub mod Claims
 pub mod WalkConditions
+pub mod Nodes
 pub mod LeafConstraints
 pub mod Laws
 pub mod Fixpoints

@@ -32,12 +32,15 @@ AreNonfair m avoided layers =
 abbrev pub reach_at : List (List StateSet) → ℕ → List StateSet
 reach_at reaches k = slice_index_or reaches k []
 
+-- reach sets: each lies inside the set, a step from a state of the set that is in `visit`, or from an earlier one
+pub record AreReachSets (m : System) (visit set : StateSet) (sets : List StateSet) : Type 0 where
+  pub inside : (i : ℕ) → IsInside m (set_at sets i) (λ s. s ∈ set)
+  pub moves : (i : ℕ) → IsInside m (set_at sets i) (SomeNext m (λ t. ((t ∈ set) × t ∈ visit) ⊎ InEarlier sets i t))
+
 -- for each constraint, its reach sets lead from each state of the set to a state of the set where it is true
 pub record IsFairSet (m : System) (visited : List StateSet) (set : StateSet) (reaches : List (List StateSet)) : Type 0 where
   pub covered : (k : ℕ) → k < length visited → IsInside m set (InSome (reach_at reaches k))
-  pub inside : (k i : ℕ) → k < length visited → IsInside m (set_at (reach_at reaches k) i) (λ s. s ∈ set)
-  pub moves : (k i : ℕ) → k < length visited → IsInside m (set_at (reach_at reaches k) i)
-      (SomeNext m (λ t. ((t ∈ set) × t ∈ set_at visited k) ⊎ InEarlier (reach_at reaches k) i t))
+  pub leads : (k : ℕ) → k < length visited → AreReachSets m (set_at visited k) set (reach_at reaches k)
 
 -- ---- the rules of temporal nodes: f and g are the sets of the arguments
 
@@ -65,9 +68,13 @@ pub record MeetsAR (m : System) (nonfair : List Layer) (f g set : StateSet) : Ty
   pub inside : IsInside m set (λ s. s ∈ g)
   pub moves : IsInside m set (λ s. (s ∈ f) ⊎ EachNext m (λ t. (t ∈ set) ⊎ InSomeLayer nonfair t) s)
 
--- a fair set inside g, or first a set in f and g, where fair paths begin, and later ones in g, a step from an earlier one
+-- the first set lies in f and g, where fair paths begin, and each later one in g, a step from an earlier one
+pub record AreUntils (m : System) (fair f g : StateSet) (untils : List StateSet) : Type 0 where
+  pub first : IsInside m (set_at untils 0) (λ s. (s ∈ f) × (s ∈ g) × s ∈ fair)
+  pub later : (k : ℕ) → 0 < k → IsInside m (set_at untils k) (λ s. (s ∈ g) × SomeNext m (InEarlier untils k) s)
+
+-- a fair set inside g, or sets under `until`
 pub record MeetsER (m : System) (visited : List StateSet) (fair f g set : StateSet) (reaches : List (List StateSet)) (untils : List StateSet) : Type 0 where
   pub inside : IsInside m set (λ s. s ∈ g)
   pub stays : IsFairSet m visited set reaches
-  pub first : IsInside m (set_at untils 0) (λ s. (s ∈ f) × (s ∈ g) × s ∈ fair)
-  pub later : (k : ℕ) → 0 < k → IsInside m (set_at untils k) (λ s. (s ∈ g) × SomeNext m (InEarlier untils k) s)
+  pub until : AreUntils m fair f g untils

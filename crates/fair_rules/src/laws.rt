@@ -3,7 +3,8 @@
 ghost use Rattle.std.specs.Prelude.{IfSome, IsSome};
 ghost use Rattle.fair_rules.specs.Laws.{AreModelSets, BlocksSound, ClaimsSound, FairSetExact, FairSetSound, FalsifiedFalse, FreeProofsSound, NonfairSound, ProofsExact, ProofsSound};
 ghost use Rattle.fair_rules.specs.LeafConstraints.{avoided_sets, visited_sets};
-ghost use Rattle.fair_rules.specs.WalkConditions.{AgreesWith, node_at};
+ghost use Rattle.fair_rules.specs.Nodes.{node_at};
+ghost use Rattle.fair_rules.specs.WalkConditions.{AgreesWith};
 ghost use Rattle.kripke_model.specs.Leaves.{HasLeafConstraints};
 ghost use Rattle.kripke_model.specs.WellFormed.{ctl_of};
 ghost use Rattle.kripke_model.specs.Walk.{IsFairWalk};

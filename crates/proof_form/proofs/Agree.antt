@@ -1,6 +1,7 @@
 -- Lines ask about sets on the states of the model alone: proofs of one form whose sets agree there show the same.
 use Rattle.std.proofs.Common.{◌≡◌, ℕ, zero, suc, ◌+◌, Bool, true, false, not, ◌&&◌, ◌||◌, List, [], ◌∷◌, ◌++◌, Option, Some, None, refl, sym, ◌∙◌, subst}
-use Rattle.std.specs.Prelude.{All, if◌then◌else◌, ◌==◌, nat_lt}
+use Rattle.std.specs.Prelude.{All, if◌then◌else◌, ◌==◌}
+use Rattle.std.specs.Option.{option_and_then}
 use Rattle.std.proofs.lemmas.List.Elements.{All-cons, All-head, All-tail}
 use Rattle.kripke_model.specs.Ctl.{Ctl}
 use Rattle.kripke_model.specs.Signs.{Rule, node_count}
@@ -13,7 +14,8 @@ use Rattle.fair_rules.specs.Claims.{Entry, Proof, either, both, join, join_layer
 use Rattle.fair_rules.specs.Fixpoints.{without}
 use Rattle.fair_rules.specs.Checks.{Check, IsMet, LineHolds, IsFirstBad, layer_lines, step_lines, until_lines, reach_lines}
 use Rattle.proof_form.specs.Agrees.{SameOn}
-use Rattle.fair_rules.specs.Block.{Listed, Block, same_sign, entry_of, proof_of, Demand, demand_at, asked_lines, listed_lines, claim_lines, block_lines}
+use Rattle.fair_rules.specs.Block.{Listed, Block, same_sign, entry_of, proof_of, Demand, demand, demand_at, asked_lines, listed_lines, claim_lines, block_lines}
+use Rattle.fair_rules.specs.Nodes.{node_at}
 
 module _ (m : System) where
   -- ---- two checks, two lines, two lists of lines
@@ -238,21 +240,14 @@ module _ (m : System) where
       asked : {r : Rule} {F G F' G' : StateSet} → SameOn m F F' → SameOn m G G'
           → AgreeDemand (Some (record { rule = r; first = F; last = G })) (Some (record { rule = r; first = F'; last = G' }))
 
-    either_demand : (b : Bool) {x y u v : Option Demand} → AgreeDemand x u → AgreeDemand y v → AgreeDemand (if b then x else y) (if b then u else v)
-    either_demand true a b = a
-    either_demand false a b = b
+    own_same : (o : Option Ctl) (i : ℕ) (sign : Bool) → AgreeDemand (option_and_then (λ c. demand m p c i sign) o) (option_and_then (λ c. demand m q c i sign) o)
+    own_same (Some (Ctl.Quant op f)) i sign = asked (λ s is_state. refl) (claimed_same f (i + 1) sign)
+    own_same (Some (Ctl.Until all f g)) i sign = asked (claimed_same f (i + 1) sign) (claimed_same g (i + 1 + node_count f) sign)
+    own_same None i sign = nothing_asked
+    own_same (Some _) i sign = nothing_asked
 
     pub demand_same : (f : Ctl) (n i : ℕ) (sign : Bool) → AgreeDemand (demand_at m p f n i sign) (demand_at m q f n i sign)
-    demand_same (Ctl.Leaf e) n i sign = nothing_asked
-    demand_same (Ctl.Not f) n i sign = demand_same f (n + 1) i sign
-    demand_same (Ctl.And f g) n i sign = either_demand (nat_lt i (n + 1 + node_count f)) (demand_same f (n + 1) i sign) (demand_same g (n + 1 + node_count f) i sign)
-    demand_same (Ctl.Or f g) n i sign = either_demand (nat_lt i (n + 1 + node_count f)) (demand_same f (n + 1) i sign) (demand_same g (n + 1 + node_count f) i sign)
-    demand_same (Ctl.Implies f g) n i sign = either_demand (nat_lt i (n + 1 + node_count f)) (demand_same f (n + 1) i sign) (demand_same g (n + 1 + node_count f) i sign)
-    demand_same (Ctl.Iff f g) n i sign = either_demand (nat_lt i (n + 1 + node_count f)) (demand_same f (n + 1) i sign) (demand_same g (n + 1 + node_count f) i sign)
-    demand_same (Ctl.Quant op f) n i sign = either_demand (i == n) (asked (λ s is_state. refl) (claimed_same f (n + 1) sign)) (demand_same f (n + 1) i sign)
-    demand_same (Ctl.Until all f g) n i sign =
-        either_demand (i == n) (asked (claimed_same f (n + 1) sign) (claimed_same g (n + 1 + node_count f) sign))
-        (either_demand (nat_lt i (n + 1 + node_count f)) (demand_same f (n + 1) i sign) (demand_same g (n + 1 + node_count f) i sign))
+    demand_same f n i sign = own_same (node_at f n i) i sign
 
     -- ---- the lines of entries and of the claim
 

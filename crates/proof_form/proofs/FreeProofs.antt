@@ -1,13 +1,12 @@
 -- A free part whose lines hold proves what it claims of each constraint's formula.
-use Rattle.std.proofs.Common.{◌≡◌, ℕ, zero, suc, ◌+◌, ◌-◌, ◌<◌, ◌≤◌, Bool, true, false, List, [], ◌∷◌, ◌++◌, map, length, get_or, Option, Some, None, refl, sym, ◌∙◌, ap, subst, subst₂, arith}
-use Rattle.std.specs.Prelude.{All, if◌then◌else◌, ◌==◌, nat_lt, pos, option_map, IsSomeAnd}
+use Rattle.std.proofs.Common.{◌≡◌, ℕ, zero, suc, ◌+◌, ◌-◌, ◌<◌, Bool, true, false, List, [], ◌∷◌, ◌++◌, map, length, get_or, Option, Some, None, refl, sym, ◌∙◌, ap, subst, subst₂, arith}
+use Rattle.std.specs.Prelude.{All, if◌then◌else◌, ◌==◌, pos, option_map, IsSomeAnd}
 use Rattle.std.specs.Option.{option_and_then}
-use Rattle.std.proofs.lemmas.Bool.{false≢true, or_right, eqb-true, lt-ltb, cond-true}
+use Rattle.std.proofs.lemmas.Bool.{false≢true, or_right, eqb-true}
 use Rattle.std.proofs.lemmas.List.Elements.{All-nil, All-cons, All-head, All-tail}
-use Rattle.std.proofs.lemmas.Option.{slice_get-get_or}
+use Rattle.std.proofs.lemmas.Option.{option_and_then_some, slice_get-get_or}
 use Rattle.kripke_model.specs.declared.expressions.Value.TheVariants.{Number}
 use Rattle.kripke_model.specs.Ctl.{Ctl, formula_of}
-use Rattle.kripke_model.specs.Signs.{node_count}
 use Rattle.kripke_model.specs.System.{System, Condition}
 use Rattle.kripke_model.specs.Term.{Term}
 use Rattle.path_laws.specs.StateSet.{StateSet}
@@ -15,51 +14,17 @@ use Rattle.fair_rules.specs.SetLists.{everything, nothing}
 use Rattle.fair_rules.specs.Claims as claims
 use Rattle.fair_rules.specs.Claims.{claimed, IsProof}
 use Rattle.fair_rules.specs.Checks.{Check, IsMet, AllHold, layer_lines, reach_lines}
-use Rattle.fair_rules.specs.Block.{Block, Demand, IsAsked, demand_at, asked_lines, listed_lines, claim_lines, block_lines}
+use Rattle.fair_rules.specs.Block.{Block, Demand, IsAsked, demand, demand_at, asked_lines, listed_lines, claim_lines, block_lines}
 use Rattle.fair_rules.specs.FreePart.{AreFreeProofs}
+use Rattle.fair_rules.specs.Nodes.{node_at}
 use Rattle.fair_rules.proofs.Blocks.{block_proof}
 use Rattle.fair_rules.proofs.Checks.{hold_left, hold_right, hold_both, one_check}
 use Rattle.fair_rules.proofs.LeafSets.{formula_is_leaf}
+use Rattle.fair_rules.proofs.Nodes.{in_whole}
 use Rattle.proof_form.specs.Form.{Entry, FreeEntry, FreePart}
 use Rattle.proof_form.specs.Shape.{HasRule, HasConstraintRule, FitsFreely, constraint_formula}
 use Rattle.proof_form.specs.Meaning.{layer_of, entry_of, listed_of, entries_for, free_proof, free_visited, free_avoided, free_demand, free_entry_lines, free_lines}
 use Rattle.proof_form.proofs.Asked.{is_asked}
-
--- ---- what is asked stands among the formula's nodes
-
-module _ (m : System) (p : claims.Proof) where
-  in_parts : (first : Bool) (x y : Option Demand) (d : Demand) (i k l : ℕ) → k ≤ l → (x ≡ Some d → i < k) → (y ≡ Some d → i < l) → (if first then x else y) ≡ Some d → i < l
-  in_parts true x y d i k l le left right h = let r = left h in omega (arith, r)
-  in_parts false x y d i k l le left right h = right h
-
-  in_node : (i n l : ℕ) (x y : Option Demand) (d : Demand) → n < l → (y ≡ Some d → i < l) → (if i == n then x else y) ≡ Some d → i < l
-  in_node i n l x y d less inner h = go (i == n) refl h
-    where
-      go : (b : Bool) → (i == n) ≡ b → (if b then x else y) ≡ Some d → i < l
-      go true e k = let same = eqb-true i n e in omega (arith, same)
-      go false e k = inner k
-
-  below_parts : (f g : Ctl) (n i : ℕ) (sign : Bool) (d : Demand)
-      → (demand_at m p f (n + 1) i sign ≡ Some d → i < n + 1 + node_count f)
-      → (demand_at m p g (n + 1 + node_count f) i sign ≡ Some d → i < n + 1 + node_count f + node_count g)
-      → (if nat_lt i (n + 1 + node_count f) then demand_at m p f (n + 1) i sign else demand_at m p g (n + 1 + node_count f) i sign) ≡ Some d
-      → i < n + 1 + node_count f + node_count g
-  below_parts f g n i sign d left right h =
-      in_parts (nat_lt i (n + 1 + node_count f)) (demand_at m p f (n + 1) i sign) (demand_at m p g (n + 1 + node_count f) i sign) d i
-      (n + 1 + node_count f) (n + 1 + node_count f + node_count g) (omega arith) left right h
-
-  below : (f : Ctl) (n i : ℕ) (sign : Bool) (d : Demand) → demand_at m p f n i sign ≡ Some d → i < n + node_count f
-  below (Ctl.Leaf e) n i sign d h = absurd cc
-  below (Ctl.Not f) n i sign d h = let r = below f (n + 1) i sign d h in omega (arith, r)
-  below (Ctl.And f g) n i sign d h = let r = below_parts f g n i sign d (below f (n + 1) i sign d) (below g (n + 1 + node_count f) i sign d) h in omega (arith, r)
-  below (Ctl.Or f g) n i sign d h = let r = below_parts f g n i sign d (below f (n + 1) i sign d) (below g (n + 1 + node_count f) i sign d) h in omega (arith, r)
-  below (Ctl.Implies f g) n i sign d h = let r = below_parts f g n i sign d (below f (n + 1) i sign d) (below g (n + 1 + node_count f) i sign d) h in omega (arith, r)
-  below (Ctl.Iff f g) n i sign d h = let r = below_parts f g n i sign d (below f (n + 1) i sign d) (below g (n + 1 + node_count f) i sign d) h in omega (arith, r)
-  below (Ctl.Quant op f) n i sign d h =
-      in_node i n (n + node_count (Ctl.Quant op f)) _ (demand_at m p f (n + 1) i sign) d (omega arith) (λ e. let r = below f (n + 1) i sign d e in omega (arith, r)) h
-  below (Ctl.Until all f g) n i sign d h =
-      in_node i n (n + node_count (Ctl.Until all f g)) _ (if nat_lt i (n + 1 + node_count f) then demand_at m p f (n + 1) i sign else demand_at m p g (n + 1 + node_count f) i sign) d (omega arith)
-      (λ e. let r = below_parts f g n i sign d (below f (n + 1) i sign d) (below g (n + 1 + node_count f) i sign d) e in omega (arith, r)) h
 
 -- ---- the proof of one constraint
 
@@ -90,7 +55,7 @@ module _ (m : System) (part : FreePart StateSet) (k : ℕ) (c : Condition) (here
   -- what the whole asks is what the formula asks
   asked_whole : (i : ℕ) (sign : Bool) (d : Demand) → demand_at m own f 1 i sign ≡ Some d → demand_at m own whole 0 i sign ≡ Some d
   asked_whole i sign d h =
-      cond-true (nat_lt i (1 + node_count f)) (demand_at m own f 1 i sign) None (lt-ltb i (1 + node_count f) (below m own f 1 i sign d h)) ∙ h
+      option_and_then_some (λ c. demand m own c i sign) (node_at f 1 i) d h (λ c at asks. ap (option_and_then (λ c. demand m own c i sign)) ((in_whole whole 0).0 i c at) ∙ asks)
 
   asked_in : (e : Entry StateSet) → HasRule f e → IsAsked m own whole 0 (listed_of e)
   asked_in e h = let a = is_asked m own f e h in (a.0, asked_whole e.node e.plus a.0 a.1, a.2)
@@ -174,8 +139,7 @@ leaf_proof m c k = record {
   nonfair = λ i s is_state e. absurd (false≢true e);
   fair = record {
     covered = λ i less s is_state e. absurd (false≢true e);
-    inside = λ i j less s is_state e. absurd (false≢true e);
-    moves = λ i j less s is_state e. absurd (false≢true e);
+    leads = λ i less. record { inside = λ j s is_state e. absurd (false≢true e); moves = λ j s is_state e. absurd (false≢true e) };
   };
   entries = tt;
 }

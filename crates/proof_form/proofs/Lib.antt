@@ -10,6 +10,7 @@ pub mod Pieces
 pub mod Counted
 pub mod Taken
 pub mod Ended
+pub mod NodeLists
 pub mod Preordered
 pub mod RuleAt
 pub mod Rising

@@ -1,28 +1,21 @@
 -- The nodes of a formula in a list, from those of its parts.
-use Rattle.std.proofs.Common.{◌≡◌, ℕ, zero, suc, ◌+◌, ◌-◌, ◌<◌, List, [], ◌∷◌, ◌++◌, length, map, get_or, refl, sym, ◌∙◌, ap, arith, length-append, append_assoc}
+use Rattle.std.proofs.Common.{◌≡◌, ℕ, zero, suc, ◌+◌, ◌-◌, ◌<◌, List, [], ◌∷◌, ◌++◌, length, map, get_or, Some, refl, sym, ◌∙◌, ap, arith, length-append, append_assoc}
 use Rattle.kripke_model.specs.Ctl.{Ctl}
 use Rattle.kripke_model.specs.Signs.{node_count}
 use Rattle.proof_form.specs.declared.preorder.Unary.{Unary}
 use Rattle.proof_form.specs.declared.preorder.Unary.TheVariants as unary
 use Rattle.proof_form.specs.declared.preorder.Binary.{Binary}
 use Rattle.proof_form.specs.declared.preorder.Binary.TheVariants as binary
-use Rattle.std.proofs.lemmas.List.{length-map, get_or_append_left, get_or-append-add}
+use Rattle.std.proofs.lemmas.List.{length-map}
+use Rattle.fair_rules.specs.Nodes.{node_at as node_of}
+use Rattle.fair_rules.proofs.Nodes.{parts}
 use Rattle.proof_form.specs.declared.preorder.Node.{Node}
 use Rattle.proof_form.specs.Preorder.{NodeView, one_of, two_of, node_view, node_views, nodes_from}
+use Rattle.proof_form.proofs.NodeLists.{joined, one_each, at_node}
 
 map-append : {A B : Type 0} (f : A → B) (xs ys : List A) → map f (xs ++ ys) ≡ map f xs ++ map f ys
 map-append f [] ys = refl
 map-append f (x ∷ xs) ys = ap (λ zs. f x ∷ zs) (map-append f xs ys)
-
-pub some_nodes : (f : Ctl) → 0 < node_count f
-some_nodes (Ctl.Leaf e) = omega arith
-some_nodes (Ctl.Not f) = omega arith
-some_nodes (Ctl.And f g) = omega arith
-some_nodes (Ctl.Or f g) = omega arith
-some_nodes (Ctl.Implies f g) = omega arith
-some_nodes (Ctl.Iff f g) = omega arith
-some_nodes (Ctl.Quant op f) = omega arith
-some_nodes (Ctl.Until all f g) = omega arith
 
 pub one_count : (kind : Unary) (f : Ctl) → node_count (one_of kind f) ≡ 1 + node_count f
 one_count unary.Not f = refl
@@ -35,10 +28,6 @@ two_count binary.Implies f g = refl
 two_count binary.Iff f g = refl
 two_count (binary.Until all) f g = refl
 
-pub one_nodes : (kind : Unary) (f : Ctl) (b : ℕ) → nodes_from (one_of kind f) b ≡ nodes_from f b ++ (NodeView.One kind ∷ [])
-one_nodes unary.Not f b = refl
-one_nodes (unary.Quantified op) f b = refl
-
 pub two_nodes : (kind : Binary) (f g : Ctl) (b : ℕ)
     → nodes_from (two_of kind f g) b ≡ nodes_from g b ++ (nodes_from f (b + node_count g) ++ (NodeView.Two kind (b + node_count g - 1) ∷ []))
 two_nodes binary.And f g b = refl
@@ -47,19 +36,40 @@ two_nodes binary.Implies f g b = refl
 two_nodes binary.Iff f g b = refl
 two_nodes (binary.Until all) f g b = refl
 
-three : (x y z : List NodeView) (nx ny nz : ℕ) → length x ≡ nx → length y ≡ ny → length z ≡ nz → length (x ++ (y ++ z)) ≡ nx + (ny + nz)
-three x y z nx ny nz a b c = omega (arith, length-append x (y ++ z), length-append y z)
+-- a node's own place, in a list with so many in front of those of its parts
+abbrev pub own_view : Ctl → ℕ → NodeView
+own_view (Ctl.Leaf e) b = NodeView.Leaf e
+own_view (Ctl.Not f) b = NodeView.One unary.Not
+own_view (Ctl.And f g) b = NodeView.Two binary.And (b + node_count g - 1)
+own_view (Ctl.Or f g) b = NodeView.Two binary.Or (b + node_count g - 1)
+own_view (Ctl.Implies f g) b = NodeView.Two binary.Implies (b + node_count g - 1)
+own_view (Ctl.Iff f g) b = NodeView.Two binary.Iff (b + node_count g - 1)
+own_view (Ctl.Quant op f) b = NodeView.One (unary.Quantified op)
+own_view (Ctl.Until all f g) b = NodeView.Two (binary.Until all) (b + node_count g - 1)
+
+abbrev views_of : Ctl → ℕ → ℕ → List NodeView
+views_of f n b = nodes_from f b
+
+by_views : (d : NodeView) (c : Ctl) (n b : ℕ) → nodes_from c b ≡ joined d views_of (λ c n b. own_view c b) (parts c) n b (own_view c b ∷ [])
+by_views d (Ctl.Leaf e) n b = refl
+by_views d (Ctl.Not f) n b = refl
+by_views d (Ctl.And f g) n b = refl
+by_views d (Ctl.Or f g) n b = refl
+by_views d (Ctl.Implies f g) n b = refl
+by_views d (Ctl.Iff f g) n b = refl
+by_views d (Ctl.Quant op f) n b = refl
+by_views d (Ctl.Until all f g) n b = refl
 
 -- there is one for each
 pub nodes_length : (f : Ctl) (b : ℕ) → length (nodes_from f b) ≡ node_count f
-nodes_length (Ctl.Leaf e) b = refl
-nodes_length (Ctl.Not f) b = omega (arith, length-append (nodes_from f b) (NodeView.One unary.Not ∷ []), nodes_length f b)
-nodes_length (Ctl.And f g) b = omega (arith, three (nodes_from g b) (nodes_from f (b + node_count g)) (NodeView.Two binary.And (b + node_count g - 1) ∷ []) (node_count g) (node_count f) 1 (nodes_length g b) (nodes_length f (b + node_count g)) refl)
-nodes_length (Ctl.Or f g) b = omega (arith, three (nodes_from g b) (nodes_from f (b + node_count g)) (NodeView.Two binary.Or (b + node_count g - 1) ∷ []) (node_count g) (node_count f) 1 (nodes_length g b) (nodes_length f (b + node_count g)) refl)
-nodes_length (Ctl.Implies f g) b = omega (arith, three (nodes_from g b) (nodes_from f (b + node_count g)) (NodeView.Two binary.Implies (b + node_count g - 1) ∷ []) (node_count g) (node_count f) 1 (nodes_length g b) (nodes_length f (b + node_count g)) refl)
-nodes_length (Ctl.Iff f g) b = omega (arith, three (nodes_from g b) (nodes_from f (b + node_count g)) (NodeView.Two binary.Iff (b + node_count g - 1) ∷ []) (node_count g) (node_count f) 1 (nodes_length g b) (nodes_length f (b + node_count g)) refl)
-nodes_length (Ctl.Quant op f) b = omega (arith, length-append (nodes_from f b) (NodeView.One (unary.Quantified op) ∷ []), nodes_length f b)
-nodes_length (Ctl.Until all f g) b = omega (arith, three (nodes_from g b) (nodes_from f (b + node_count g)) (NodeView.Two (binary.Until all) (b + node_count g - 1) ∷ []) (node_count g) (node_count f) 1 (nodes_length g b) (nodes_length f (b + node_count g)) refl)
+nodes_length f b = one_each nothing_there views_of (λ c n b. own_view c b) (by_views nothing_there) f 0 b
+  where
+    nothing_there : NodeView
+    nothing_there = NodeView.One unary.Not
+
+-- node i at its place
+pub view_there : (f : Ctl) (i k : ℕ) (d : NodeView) (c : Ctl) → node_of f 1 i ≡ Some c → k + i ≡ node_count f → get_or (nodes_from f 0) k d ≡ own_view c (k + 1 - node_count c)
+view_there f i k d c at e = at_node d views_of (λ c n b. own_view c b) (by_views d) f 1 0 i k c at (omega (arith, e)) ∙ ap (own_view c) (omega arith)
 
 pub one_smaller : (kind : Unary) (f c : Ctl) → c ≡ one_of kind f → node_count f < node_count c
 one_smaller kind f c is = omega (arith, ap node_count is, one_count kind f)
@@ -96,20 +106,3 @@ pub node_at : (nodes : List Node) (k : ℕ) (x : Node) → k < length nodes → 
 node_at [] k x lt is d = absurd (omega (arith, lt))
 node_at (n ∷ nodes) zero x lt is d = ap node_view is
 node_at (n ∷ nodes) (suc k) x lt is d = node_at nodes k x (omega (arith, lt)) is d
-
--- ---- three lists in a row, of which the last has one element
-
-module _ {A : Type 0} (d : A) where
-  pub in_last : (xs : List A) (z : A) (k : ℕ) → k ≡ length xs → get_or (xs ++ (z ∷ [])) k d ≡ z
-  in_last xs z k e = ap (λ j. get_or (xs ++ (z ∷ [])) j d) (omega (arith, e)) ∙ get_or-append-add xs (z ∷ []) 0 d
-
-  pub in_first : (xs ys : List A) (k : ℕ) → k < length xs → get_or (xs ++ ys) k d ≡ get_or xs k d
-  in_first xs ys k lt = get_or_append_left xs ys d k lt
-
-  pub in_middle : (xs ys zs : List A) (k j : ℕ) → j ≡ length xs + k → k < length ys → get_or (xs ++ (ys ++ zs)) j d ≡ get_or ys k d
-  in_middle xs ys zs k j e lt =
-      ap (λ i. get_or (xs ++ (ys ++ zs)) i d) e ∙ get_or-append-add xs (ys ++ zs) k d ∙ get_or_append_left ys zs d k lt
-
-  pub in_third : (xs ys : List A) (z : A) (j : ℕ) → j ≡ length xs + length ys → get_or (xs ++ (ys ++ (z ∷ []))) j d ≡ z
-  in_third xs ys z j e =
-      ap (λ i. get_or (xs ++ (ys ++ (z ∷ []))) i d) e ∙ get_or-append-add xs (ys ++ (z ∷ [])) (length ys) d ∙ in_last ys z (length ys) refl

@@ -6,7 +6,7 @@ use Rattle.kripke_model.specs.Leaves.{HasLeafConstraints}
 use Rattle.kripke_model.specs.Signs.{Rule, rule_of, until_rule}
 use Rattle.kripke_model.specs.Step.{IsState}
 use Rattle.kripke_model.specs.System.{System, constraint_count}
-use Rattle.fair_rules.specs.WalkConditions.{node_at}
+use Rattle.fair_rules.specs.Nodes.{node_at}
 use Rattle.proof_form.specs.Form as form
 use Rattle.proof_form.specs.Form.{Proof, FreePart, FreeEntry, Entry, Layer, FairPart, EX, AX, AR, EU, AU, ER}
 

@@ -18,7 +18,7 @@ use Rattle.fair_rules.specs.SetLists.{everything, nothing}
 use Rattle.proof_form.specs.Form.{Entry, FairPart, Layer, entries_sets, fair_sets, layer_sets, map_entry, map_layer}
 use Rattle.proof_form.specs.Meaning.{block_of, layer_of, listed_of}
 use Rattle.proof_form.specs.Shape.{Avoids, FitsConstraints, HasRule}
-use Rattle.proof_form.proofs.Preordered.{some_nodes}
+use Rattle.fair_rules.proofs.Nodes.{some_nodes}
 use Rattle.proof_lines.specs.declared.cases.Case.{Case}
 use Rattle.claim_sets.specs.declared.claims.Claim.{Claim}
 use Rattle.proof_lines.specs.declared.frames.Frame.{Frame}

@@ -11,7 +11,7 @@ use Rattle.kripke_model.specs.System.{System, Condition}
 use Rattle.kripke_model.specs.Term.{Term}
 use Rattle.region_sets.specs.Sets.{Sets}
 use Rattle.fair_rules.specs.Claims as claims
-use Rattle.fair_rules.specs.WalkConditions.{node_at}
+use Rattle.fair_rules.specs.Nodes.{node_at}
 use Rattle.fair_rules.proofs.LeafSets.{formula_is_leaf}
 use Rattle.proof_form.specs.Form.{Entry, FreeEntry}
 use Rattle.proof_form.specs.Shape.{HasConstraintRule, HasRule, constraint_formula, kind_of, rule_for}

@@ -6,7 +6,7 @@ use Rattle.kripke_model.specs.Ctl.{formula_of}
 use Rattle.kripke_model.specs.Flat.{IsFlat}
 use Rattle.kripke_model.specs.Signs.{Rule as Kind}
 use Rattle.kripke_model.specs.System.{System}
-use Rattle.fair_rules.specs.WalkConditions.{node_at}
+use Rattle.fair_rules.specs.Nodes.{node_at}
 use Rattle.proof_form.specs.Form.{FreeEntry}
 use Rattle.proof_form.specs.Shape.{HasRule, HasConstraintRule, StandsBefore, rule_for, kind_of, constraint_formula}
 use Rattle.proof_text.specs.EntryHeads.{signed_words}

@@ -220,8 +220,7 @@ demand = record { rule = Rule.AU; first = everything; last = set_now }
 no_fair_set : IsFairSet latch seen (set 0) ([] ∷ [] ∷ [])
 no_fair_set = record {
   covered = λ k h s is_state e. absurd (false≢true (sym (no_state s) ∙ e));
-  inside = λ k i h s is_state e. absurd (empty k i s e);
-  moves = λ k i h s is_state e. absurd (empty k i s e);
+  leads = λ k h. record { inside = λ i s is_state e. absurd (empty k i s e); moves = λ i s is_state e. absurd (empty k i s e) };
 }
   where
     empty : (k i : ℕ) (s : State) → s ∈ set_at (reach_at ([] ∷ [] ∷ []) k) i → ⊥

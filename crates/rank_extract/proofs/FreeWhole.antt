@@ -29,6 +29,7 @@ use Rattle.proof_form.proofs.Asked.{all_asked}
 use Rattle.rank_extract.specs.FreeMade.{AreBothSigns, AreWrittenFor, numbered, numbered_from, written_free}
 use Rattle.rank_extract.specs.Given.{written_layer, wanted}
 use Rattle.rank_extract.specs.Laws.{IsWholeFree}
+use Rattle.fair_rules.proofs.Nodes.{own_node}
 use Rattle.rank_extract.proofs.FreeEntries.{EachPart, part_first, part_rest, found_for, all_numbered, numbered_rising}
 use Rattle.rank_extract.proofs.FreeRules.{nonfair, nonfair_met, fair_met, free_rules, entries_met, claimed_true, claimed_false}
 use Rattle.rank_extract.proofs.LeafCover.{leaf_true, leaf_false}
@@ -93,7 +94,7 @@ module _ (m : System) (visited : List StateSet) (whole : IsWhole m visited) (Z f
   both_shaped f es (inl leaf) = subst (All (λ e. HasRule f e × FitsConstraints (length visited) e.rule)) (sym leaf.1) (All-nil (λ e. HasRule f e × FitsConstraints (length visited) e.rule))
   both_shaped f es (inr (at, computed, is)) =
       subst (All (λ e. HasRule f e × FitsConstraints (length visited) e.rule)) (sym is)
-      (all_of (λ e. HasRule f e × FitsConstraints (length visited) e.rule) (wanted fair at f 1 true true) (wanted_shaped fair at m visited Z f f 1 true true computed (λ i low high. refl)))
+      (all_of (λ e. HasRule f e × FitsConstraints (length visited) e.rule) (wanted fair at f 1 true true) (wanted_shaped fair at m visited Z f f 1 true true computed (own_node f 1 1 refl)))
 
   both_rising : (f : Ctl) (es : List (Entry StateSet)) → AreBothSigns m visited Z fair f es → AreRising es
   both_rising f es (inl leaf) = subst AreRising (sym leaf.1) tt

@@ -1,6 +1,7 @@
 -- A proof that meets its obligations holds line by line.
-use Rattle.std.proofs.Common.{◌≡◌, ℕ, zero, suc, ◌+◌, Bool, true, false, List, [], ◌∷◌, Option, Some, None, refl, sym, ap, subst, subst₂, eqb, ltb, cond, eqb-true}
-use Rattle.std.specs.Prelude.{All}
+use Rattle.std.proofs.Common.{◌≡◌, ℕ, zero, suc, ◌+◌, Bool, true, false, List, [], ◌∷◌, Option, Some, None, refl, sym, ap, subst}
+use Rattle.std.specs.Prelude.{All, unwrap_or}
+use Rattle.std.proofs.lemmas.Option.{option_and_then_some}
 use Rattle.std.proofs.lemmas.List.Elements.{All-nil, All-head, All-tail}
 use Rattle.kripke_model.specs.Ctl.{Ctl}
 use Rattle.kripke_model.specs.System.{System, State}
@@ -9,7 +10,9 @@ use Rattle.path_laws.specs.StateSet.{StateSet}
 use Rattle.fair_rules.specs.SetLists.{everything, nothing}
 use Rattle.fair_rules.specs.Claims.{Entry, Proof, claimed, absent_argument, Meets, AreMet, IsProof, ClaimsTrue, ClaimsFalse}
 use Rattle.fair_rules.specs.Checks.{Check, IsMet, AllHold, layer_lines, reach_lines}
-use Rattle.fair_rules.specs.Block.{Listed, Block, proof_of, Demand, demand_at, IsAsked, asked_lines, listed_lines, claim_lines, block_lines}
+use Rattle.fair_rules.specs.Block.{Listed, Block, proof_of, Demand, demand, demand_at, IsAsked, asked_lines, listed_lines, claim_lines, block_lines}
+use Rattle.fair_rules.specs.Nodes.{node_at}
+use Rattle.fair_rules.proofs.Nodes.{OfParts, parts, inherited}
 use Rattle.fair_rules.proofs.Blocks.{nonfair_lines_hold, entry_lines_hold}
 use Rattle.fair_rules.proofs.Checks.{hold_both, reach_lines_hold, one_check}
 
@@ -29,39 +32,29 @@ module _ (m : System) (vs avs : List StateSet) (p : Proof) where
   abbrev Answers : Option Demand → ℕ → Bool → Type 0
   Answers o i sign = (d : Demand) → o ≡ Some d → Meets m vs avs p d.rule (p.entries i sign) d.first d.last
 
-  choose : (b : Bool) (x y : Option Demand) (i : ℕ) (sign : Bool) → (b ≡ true → Answers x i sign) → (b ≡ false → Answers y i sign) → Answers (cond b x y) i sign
-  choose true x y i sign h k = h refl
-  choose false x y i sign h k = k refl
+  asked_is : (x : Demand) (i : ℕ) (sign : Bool) → Meets m vs avs p x.rule (p.entries i sign) x.first x.last → Answers (Some x) i sign
+  asked_is x i sign h d e = subst (λ (y : Demand). Meets m vs avs p y.rule (p.entries i sign) y.first y.last) (ap (λ o. unwrap_or o x) e) h
 
-  or_else : Option Demand → Demand → Demand
-  or_else None d = d
-  or_else (Some x) d = x
+  own_met : (c : Ctl) (i : ℕ) (sign : Bool) → AreMet m vs avs p c i → Answers (demand m p c i sign) i sign
+  own_met (Ctl.Quant op f) i sign h = asked_is (record { rule = rule_of op sign; first = absent_argument (rule_of op sign); last = claimed m p f (i + 1) sign }) i sign (h.0 sign)
+  own_met (Ctl.Until all f g) i sign h =
+      asked_is (record { rule = until_rule all sign; first = claimed m p f (i + 1) sign; last = claimed m p g (i + 1 + node_count f) sign }) i sign (h.0 sign)
+  own_met _ i sign h = λ d none. absurd cc
 
-  asked_is : (x : Demand) (i n : ℕ) (sign : Bool) → i ≡ n → Meets m vs avs p x.rule (p.entries n sign) x.first x.last → Answers (Some x) i sign
-  unfolding or_else
-  asked_is x i n sign same h d e =
-      subst₂ (λ (y : Demand) (j : ℕ). Meets m vs avs p y.rule (p.entries j sign) y.first y.last) (ap (λ o. or_else o x) e) (sym same) h
+  parts_met : (c : Ctl) (n : ℕ) → AreMet m vs avs p c n → OfParts (AreMet m vs avs p) (parts c) n
+  parts_met (Ctl.Leaf e) n h = tt
+  parts_met (Ctl.Not f) n h = h
+  parts_met (Ctl.And f g) n h = h
+  parts_met (Ctl.Or f g) n h = h
+  parts_met (Ctl.Implies f g) n h = h
+  parts_met (Ctl.Iff f g) n h = h
+  parts_met (Ctl.Quant op f) n h = h.1
+  parts_met (Ctl.Until all f g) n h = (h.1, h.2)
 
   -- what is asked of a node is met
   answers : (f : Ctl) (n : ℕ) → AreMet m vs avs p f n → (i : ℕ) (sign : Bool) → Answers (demand_at m p f n i sign) i sign
-  answers (Ctl.Leaf e) n h i sign = λ d none. absurd cc
-  answers (Ctl.Not f) n h i sign = answers f (n + 1) h i sign
-  answers (Ctl.And f g) n h i sign =
-      choose (ltb i (n + 1 + node_count f)) (demand_at m p f (n + 1) i sign) (demand_at m p g (n + 1 + node_count f) i sign) i sign (λ b. answers f (n + 1) h.0 i sign) (λ b. answers g (n + 1 + node_count f) h.1 i sign)
-  answers (Ctl.Or f g) n h i sign =
-      choose (ltb i (n + 1 + node_count f)) (demand_at m p f (n + 1) i sign) (demand_at m p g (n + 1 + node_count f) i sign) i sign (λ b. answers f (n + 1) h.0 i sign) (λ b. answers g (n + 1 + node_count f) h.1 i sign)
-  answers (Ctl.Implies f g) n h i sign =
-      choose (ltb i (n + 1 + node_count f)) (demand_at m p f (n + 1) i sign) (demand_at m p g (n + 1 + node_count f) i sign) i sign (λ b. answers f (n + 1) h.0 i sign) (λ b. answers g (n + 1 + node_count f) h.1 i sign)
-  answers (Ctl.Iff f g) n h i sign =
-      choose (ltb i (n + 1 + node_count f)) (demand_at m p f (n + 1) i sign) (demand_at m p g (n + 1 + node_count f) i sign) i sign (λ b. answers f (n + 1) h.0 i sign) (λ b. answers g (n + 1 + node_count f) h.1 i sign)
-  answers (Ctl.Quant op f) n h i sign =
-      let x : Demand = record { rule = rule_of op sign; first = absent_argument (rule_of op sign); last = claimed m p f (n + 1) sign } in
-      choose (eqb i n) (Some x) (demand_at m p f (n + 1) i sign) i sign (λ b. asked_is x i n sign (eqb-true i n b) (h.0 sign)) (λ b. answers f (n + 1) h.1 i sign)
-  answers (Ctl.Until all f g) n h i sign =
-      let x : Demand = record { rule = until_rule all sign; first = claimed m p f (n + 1) sign; last = claimed m p g (n + 1 + node_count f) sign } in
-      choose (eqb i n) (Some x) (cond (ltb i (n + 1 + node_count f)) (demand_at m p f (n + 1) i sign) (demand_at m p g (n + 1 + node_count f) i sign)) i sign
-      (λ b. asked_is x i n sign (eqb-true i n b) (h.0 sign))
-      (λ b. choose (ltb i (n + 1 + node_count f)) (demand_at m p f (n + 1) i sign) (demand_at m p g (n + 1 + node_count f) i sign) i sign (λ b. answers f (n + 1) h.1 i sign) (λ b. answers g (n + 1 + node_count f) h.2 i sign))
+  answers f n h i sign d asked =
+      option_and_then_some (λ c. demand m p c i sign) (node_at f n i) d asked (λ c at own. own_met c i sign (inherited (AreMet m vs avs p) parts_met f n i c at h) d own)
 
   -- the lines of an entry that is the proof's own for its node and sign
   pub entry_hold : (f : Ctl) (n : ℕ) (e : Listed) → AreMet m vs avs p f n → IsAsked m p f n e → p.entries e.node e.plus ≡ e.entry

@@ -109,17 +109,19 @@ module _ (m : System) (visited vs avs : List StateSet) (fair : StateSet) (nonfai
   pub fair_set : (set : StateSet) (lists : List (List StateSet)) → IsFairSet m visited set lists → IsFairSet m vs set lists
   fair_set set lists h = record {
     covered = λ k l. h.covered k (omega (arith, l, shorter));
-    inside = λ k i l. h.inside k i (omega (arith, l, shorter));
-    moves = λ k i l s is_state e.
-        let x = h.moves k i (omega (arith, l, shorter)) s is_state e in (
-          x.0,
-          x.1,
-          x.2,
-          elim x.3 [
-            | inl there ↦ inl (there.0, visits k x.0 x.1 there.1)
-            | inr before ↦ inr before
-          ],
-        );
+    leads = λ k l. let sets = h.leads k (omega (arith, l, shorter)) in record {
+      inside = sets.inside;
+      moves = λ i s is_state e.
+          let x = sets.moves i s is_state e in (
+            x.0,
+            x.1,
+            x.2,
+            elim x.3 [
+              | inl there ↦ inl (there.0, visits k x.0 x.1 there.1)
+              | inr before ↦ inr before
+            ],
+          );
+    };
   }
 
   module _ (f g f' g' set : StateSet) (more_f : IsInside m f (λ s. s ∈ f')) (more_g : IsInside m g (λ s. s ∈ g')) where
@@ -163,8 +165,10 @@ module _ (m : System) (visited vs avs : List StateSet) (fair : StateSet) (nonfai
     er_meets inside lists untils h = record {
       inside = λ s is_state e. more_g s is_state (h.inside s is_state e);
       stays = fair_set inside lists h.stays;
-      first = λ s is_state e. let x = h.first s is_state e in (more_f s is_state x.0, more_g s is_state x.1, x.2);
-      later = λ k l s is_state e. let x = h.later k l s is_state e in (more_g s is_state x.0, x.1);
+      until = record {
+        first = λ s is_state e. let x = h.until.first s is_state e in (more_f s is_state x.0, more_g s is_state x.1, x.2);
+        later = λ k l s is_state e. let x = h.until.later k l s is_state e in (more_g s is_state x.0, x.1);
+      };
     }
 
     pub given_meets : (count : ℕ) (rule : Rule) (some : Bool) (ranks : RanksView) → FitsRule count rule some ranks → MeetsRule m visited nonfair fair rule f g set ranks

@@ -26,6 +26,7 @@ use Rattle.proof_form.specs.Meaning.{layer_of, entry_of, listed_of, block_of, fr
 use Rattle.proof_form.specs.Shape.{ComesBefore, HasRule, FitsConstraints, Avoids, FitsFreely}
 use Rattle.proof_form.proofs.Asked.{all_asked}
 use Rattle.rank_extract.specs.Given.{written_layer, wanted, wants, written_proof, ShowsSets}
+use Rattle.fair_rules.proofs.Nodes.{own_node}
 use Rattle.rank_extract.proofs.Lookups.{look_up}
 use Rattle.rank_extract.proofs.NodeEntries.{written, avoid_all, fair_set}
 use Rattle.rank_extract.proofs.Covers.{covers, meets}
@@ -126,7 +127,7 @@ module _ (m : System) (F : Ctl) (visited : List StateSet) (Z fair : StateSet) (l
     shown_entries = wanted fair at F 1 (is_none st) (is_some st)
 
     shaped : Each (IsShaped fair at m visited Z F) shown_entries
-    shaped = wanted_shaped fair at m visited Z F F 1 plus minus computed (λ i low high. refl)
+    shaped = wanted_shaped fair at m visited Z F F 1 plus minus computed (own_node F 1 1 refl)
 
     shown_claims : (p : claims.Proof) → (is_none st ≡ true → IsInside m (at 1).plus (λ s. s ∈ claims.claimed m p F 1 true)) → (is_some st ≡ true → IsInside m (at 1).minus (λ s. s ∈ claims.claimed m p F 1 false))
         → ShowsSets m (at 1) st → ClaimsBy m p F 1 st

@@ -1,7 +1,6 @@
 -- The entries that are wanted are in shape.
-use Rattle.std.proofs.Common.{◌≡◌, inl, inr, ℕ, ◌+◌, ◌<◌, ◌≤◌, Bool, true, false, not, ◌||◌, List, [], ◌∷◌, ◌++◌, length, Option, Some, refl, sym, ◌∙◌, ap, arith, eqb, ltb, cond, All, AllPairs}
+use Rattle.std.proofs.Common.{◌≡◌, inl, inr, ℕ, ◌+◌, ◌<◌, ◌≤◌, Bool, true, false, not, ◌||◌, List, [], ◌∷◌, ◌++◌, length, Option, Some, refl, sym, ◌∙◌, ap, arith, All, AllPairs}
 use Rattle.std.specs.Option.{option_and_then}
-use Rattle.std.proofs.lemmas.Bool.{cond-true, cond-false, eq-eqb, ne_eqb, lt-ltb, le-ltb}
 use Rattle.std.proofs.lemmas.List.Elements.{All-nil, All-cons}
 use Rattle.std.proofs.lemmas.List.Kept.{AllPairs-cons}
 use Rattle.kripke_model.specs.Ctl.{Ctl}
@@ -9,7 +8,8 @@ use Rattle.kripke_model.specs.Signs.{Rule, rule_of, until_rule, node_count}
 use Rattle.kripke_model.specs.System.{System}
 use Rattle.path_laws.specs.StateSet.{StateSet}
 use Rattle.fair_rules.specs.Block.{same_sign}
-use Rattle.fair_rules.specs.WalkConditions.{node_at}
+use Rattle.fair_rules.specs.Nodes.{node_at}
+use Rattle.fair_rules.proofs.Nodes.{parts_there}
 use Rattle.fair_fixpoint.specs.Nodes.{NodeView, AreComputed}
 use Rattle.fair_fixpoint.specs.NodeRules.{sign_set}
 use Rattle.fair_fixpoint.specs.Formulas.{is_existential}
@@ -92,33 +92,8 @@ module _ (fair : StateSet) (at : ℕ → NodeView) where
   -- ---- their rules
 
   module _ (m : System) (visited : List StateSet) (Z : StateSet) (top : Ctl) where
-    -- the formula's nodes are nodes of the whole one
-    abbrev pub ArePartOf : Ctl → ℕ → Type 0
-    ArePartOf f n = (i : ℕ) → n ≤ i → i < n + node_count f → node_at top 1 i ≡ node_at f n i
-
     abbrev pub IsShaped : Entry StateSet → Type 0
     IsShaped e = HasRule top e × FitsConstraints (length visited) e.rule
-
-    -- behind a node
-    behind : (f : Ctl) (n i : ℕ) (x : Option Ctl) → n + 1 ≤ i → cond (eqb i n) (Some f) x ≡ x
-    behind f n i x low = cond-false (eqb i n) (Some f) x (ne_eqb i n (λ e. omega (arith, low, e)))
-
-    module _ (c f g : Ctl) (n : ℕ) (part : (i : ℕ) → n ≤ i → i < n + 1 + node_count f + node_count g
-        → node_at top 1 i ≡ cond (eqb i n) (Some c) (cond (ltb i (n + 1 + node_count f)) (node_at f (n + 1) i) (node_at g (n + 1 + node_count f) i))) where
-      left_part : ArePartOf f (n + 1)
-      left_part i low high =
-          part i (omega (arith, low)) (omega (arith, high))
-          ∙ behind c n i (cond (ltb i (n + 1 + node_count f)) (node_at f (n + 1) i) (node_at g (n + 1 + node_count f) i)) low
-          ∙ cond-true (ltb i (n + 1 + node_count f)) (node_at f (n + 1) i) (node_at g (n + 1 + node_count f) i) (lt-ltb i (n + 1 + node_count f) high)
-
-      right_part : ArePartOf g (n + 1 + node_count f)
-      right_part i low high =
-          part i (omega (arith, low)) high
-          ∙ behind c n i (cond (ltb i (n + 1 + node_count f)) (node_at f (n + 1) i) (node_at g (n + 1 + node_count f) i)) (omega (arith, low))
-          ∙ cond-false (ltb i (n + 1 + node_count f)) (node_at f (n + 1) i) (node_at g (n + 1 + node_count f) i) (le-ltb i (n + 1 + node_count f) low)
-
-    one_part : (c f : Ctl) (n : ℕ) → ((i : ℕ) → n ≤ i → i < n + 1 + node_count f → node_at top 1 i ≡ cond (eqb i n) (Some c) (node_at f (n + 1) i)) → ArePartOf f (n + 1)
-    one_part c f n part i low high = part i (omega (arith, low)) high ∙ behind c n i (node_at f (n + 1) i) low
 
     own_shaped : (c : Ctl) (n : ℕ) (some plus minus : Bool) → node_at top 1 n ≡ Some c
         → ((sign : Bool) → (rule : Rule) × (rule_for sign c ≡ Some rule) × FitsRule (length visited) rule (same_sign some sign) (at n).ranks)
@@ -138,41 +113,34 @@ module _ (fair : StateSet) (at : ℕ → NodeView) where
         go false true = (one false, tt)
         go false false = tt
 
-    pub wanted_shaped : (f : Ctl) (n : ℕ) (plus minus : Bool) → AreComputed m visited Z fair at f n → ArePartOf f n → Each IsShaped (wanted fair at f n plus minus)
-    wanted_shaped (Ctl.Leaf e) n plus minus c part = tt
-    wanted_shaped (Ctl.Not f) n plus minus c part = wanted_shaped f (n + 1) minus plus c.2 (one_part (Ctl.Not f) f n (λ i low high. part i low (omega (arith, high))))
-    wanted_shaped (Ctl.And f g) n plus minus c part =
-        let whole : (i : ℕ) → n ≤ i → i < n + 1 + node_count f + node_count g
-        → node_at top 1 i ≡ cond (eqb i n) (Some (Ctl.And f g)) (cond (ltb i (n + 1 + node_count f)) (node_at f (n + 1) i) (node_at g (n + 1 + node_count f) i)) = λ i low high. part i low (omega (arith, high)) in
+    pub wanted_shaped : (f : Ctl) (n : ℕ) (plus minus : Bool) → AreComputed m visited Z fair at f n → node_at top 1 n ≡ Some f → Each IsShaped (wanted fair at f n plus minus)
+    wanted_shaped (Ctl.Leaf e) n plus minus c here = tt
+    wanted_shaped (Ctl.Not f) n plus minus c here = wanted_shaped f (n + 1) minus plus c.2 (parts_there top 1 n (Ctl.Not f) here)
+    wanted_shaped (Ctl.And f g) n plus minus c here =
+        let r = parts_there top 1 n (Ctl.And f g) here in
         each_both IsShaped (wanted fair at f (n + 1) plus minus) (wanted fair at g (n + 1 + node_count f) plus minus)
-        (wanted_shaped f (n + 1) plus minus c.2 (left_part (Ctl.And f g) f g n whole)) (wanted_shaped g (n + 1 + node_count f) plus minus c.3 (right_part (Ctl.And f g) f g n whole))
-    wanted_shaped (Ctl.Or f g) n plus minus c part =
-        let whole : (i : ℕ) → n ≤ i → i < n + 1 + node_count f + node_count g
-        → node_at top 1 i ≡ cond (eqb i n) (Some (Ctl.Or f g)) (cond (ltb i (n + 1 + node_count f)) (node_at f (n + 1) i) (node_at g (n + 1 + node_count f) i)) = λ i low high. part i low (omega (arith, high)) in
+        (wanted_shaped f (n + 1) plus minus c.2 r.0) (wanted_shaped g (n + 1 + node_count f) plus minus c.3 r.1)
+    wanted_shaped (Ctl.Or f g) n plus minus c here =
+        let r = parts_there top 1 n (Ctl.Or f g) here in
         each_both IsShaped (wanted fair at f (n + 1) plus minus) (wanted fair at g (n + 1 + node_count f) plus minus)
-        (wanted_shaped f (n + 1) plus minus c.2 (left_part (Ctl.Or f g) f g n whole)) (wanted_shaped g (n + 1 + node_count f) plus minus c.3 (right_part (Ctl.Or f g) f g n whole))
-    wanted_shaped (Ctl.Implies f g) n plus minus c part =
-        let whole : (i : ℕ) → n ≤ i → i < n + 1 + node_count f + node_count g
-        → node_at top 1 i ≡ cond (eqb i n) (Some (Ctl.Implies f g)) (cond (ltb i (n + 1 + node_count f)) (node_at f (n + 1) i) (node_at g (n + 1 + node_count f) i)) = λ i low high. part i low (omega (arith, high)) in
+        (wanted_shaped f (n + 1) plus minus c.2 r.0) (wanted_shaped g (n + 1 + node_count f) plus minus c.3 r.1)
+    wanted_shaped (Ctl.Implies f g) n plus minus c here =
+        let r = parts_there top 1 n (Ctl.Implies f g) here in
         each_both IsShaped (wanted fair at f (n + 1) minus plus) (wanted fair at g (n + 1 + node_count f) plus minus)
-        (wanted_shaped f (n + 1) minus plus c.2 (left_part (Ctl.Implies f g) f g n whole)) (wanted_shaped g (n + 1 + node_count f) plus minus c.3 (right_part (Ctl.Implies f g) f g n whole))
-    wanted_shaped (Ctl.Iff f g) n plus minus c part =
-        let whole : (i : ℕ) → n ≤ i → i < n + 1 + node_count f + node_count g
-        → node_at top 1 i ≡ cond (eqb i n) (Some (Ctl.Iff f g)) (cond (ltb i (n + 1 + node_count f)) (node_at f (n + 1) i) (node_at g (n + 1 + node_count f) i)) = λ i low high. part i low (omega (arith, high)) in
+        (wanted_shaped f (n + 1) minus plus c.2 r.0) (wanted_shaped g (n + 1 + node_count f) plus minus c.3 r.1)
+    wanted_shaped (Ctl.Iff f g) n plus minus c here =
+        let r = parts_there top 1 n (Ctl.Iff f g) here in
         each_both IsShaped (wanted fair at f (n + 1) (plus || minus) (plus || minus)) (wanted fair at g (n + 1 + node_count f) (plus || minus) (plus || minus))
-        (wanted_shaped f (n + 1) (plus || minus) (plus || minus) c.2 (left_part (Ctl.Iff f g) f g n whole)) (wanted_shaped g (n + 1 + node_count f) (plus || minus) (plus || minus) c.3 (right_part (Ctl.Iff f g) f g n whole))
-    wanted_shaped (Ctl.Quant op f) n plus minus c part =
+        (wanted_shaped f (n + 1) (plus || minus) (plus || minus) c.2 r.0) (wanted_shaped g (n + 1 + node_count f) (plus || minus) (plus || minus) c.3 r.1)
+    wanted_shaped (Ctl.Quant op f) n plus minus c here =
         each_both IsShaped (own_entries fair at n (is_existential op) plus minus) (wanted fair at f (n + 1) plus minus)
-        (own_shaped (Ctl.Quant op f) n (is_existential op) plus minus
-        (part n (omega arith) (omega arith) ∙ cond-true (eqb n n) (Some (Ctl.Quant op f)) (node_at f (n + 1) n) (eq-eqb n n refl))
+        (own_shaped (Ctl.Quant op f) n (is_existential op) plus minus here
         (λ sign. (rule_of op sign, refl, quant_fits m visited Z fair op (at (n + 1)) (at n) sign c.1)))
-        (wanted_shaped f (n + 1) plus minus c.2 (one_part (Ctl.Quant op f) f n (λ i low high. part i low (omega (arith, high)))))
-    wanted_shaped (Ctl.Until all f g) n plus minus c part =
-        let whole : (i : ℕ) → n ≤ i → i < n + 1 + node_count f + node_count g
-        → node_at top 1 i ≡ cond (eqb i n) (Some (Ctl.Until all f g)) (cond (ltb i (n + 1 + node_count f)) (node_at f (n + 1) i) (node_at g (n + 1 + node_count f) i)) = λ i low high. part i low (omega (arith, high)) in
+        (wanted_shaped f (n + 1) plus minus c.2 (parts_there top 1 n (Ctl.Quant op f) here))
+    wanted_shaped (Ctl.Until all f g) n plus minus c here =
+        let r = parts_there top 1 n (Ctl.Until all f g) here in
         each_both IsShaped (own_entries fair at n (not all) plus minus) (wanted fair at f (n + 1) plus minus ++ wanted fair at g (n + 1 + node_count f) plus minus)
-        (own_shaped (Ctl.Until all f g) n (not all) plus minus
-        (part n (omega arith) (omega arith) ∙ cond-true (eqb n n) (Some (Ctl.Until all f g)) (cond (ltb n (n + 1 + node_count f)) (node_at f (n + 1) n) (node_at g (n + 1 + node_count f) n)) (eq-eqb n n refl))
+        (own_shaped (Ctl.Until all f g) n (not all) plus minus here
         (λ sign. (until_rule all sign, refl, until_fits m visited fair all (at (n + 1)) (at (n + 1 + node_count f)) (at n) sign c.1)))
         (each_both IsShaped (wanted fair at f (n + 1) plus minus) (wanted fair at g (n + 1 + node_count f) plus minus)
-        (wanted_shaped f (n + 1) plus minus c.2 (left_part (Ctl.Until all f g) f g n whole)) (wanted_shaped g (n + 1 + node_count f) plus minus c.3 (right_part (Ctl.Until all f g) f g n whole)))
+        (wanted_shaped f (n + 1) plus minus c.2 r.0) (wanted_shaped g (n + 1 + node_count f) plus minus c.3 r.1))

@@ -1,5 +1,5 @@
 use Rattle.fair_rules.proofs.WalkLaw.{walk_law_at}
-use Rattle.fair_rules.specs.WalkConditions.{node_at}
+use Rattle.fair_rules.specs.Nodes.{node_at}
 use Rattle.kripke_model.specs.WellFormed.{ctl_of}
 use Rattle.fair_rules.proofs.laws.walk_law.Goals as goal
 

@@ -1,6 +1,7 @@
 use Rattle.std.proofs.Common.{arith, refl}
 use Rattle.kripke_model.specs.WellFormed.{ctl_of}
-use Rattle.proof_form.proofs.Preordered.{one_smaller, first_smaller, last_smaller, longer, some_nodes, two_added}
+use Rattle.fair_rules.proofs.Nodes.{some_nodes}
+use Rattle.proof_form.proofs.Preordered.{one_smaller, first_smaller, last_smaller, longer, two_added}
 use Rattle.proof_form.proofs.preorder.+add_nodes.Goals as goal
 
 pub add_nodes-requires : goal.add_nodes-requires
