@@ -25,7 +25,8 @@ pub enum Constraints<'a> {
 /// All states, or none.
 fn all_or_none<S: StateSets>(sets: &mut S, all: bool) -> Result<Pin, SetRefusal>
     ensures call { IsCall 1 (S.seen sets.old) (S.seen sets.new) (pin_slots result) result }
-    ensures set { IfOk result (λ pin. SameOn (S.seen sets.old).over (region (S.seen sets.new) pin) (whole all)) }
+    ensures set { IfOk result (λ pin. SameOn (S.seen sets.old).over (region (S.seen sets.new) pin)
+        (whole all)) }
     ensures products { S.products sets.new ≡ S.products sets.old }
 {
     if all { sets.full() } else { sets.empty() }
@@ -37,7 +38,8 @@ fn unmet<S: StateSets>(sets: &mut S, k: u32) -> Result<Pin, SetRefusal>
     requires within { k ≤ constraint_count (S.seen sets.old).over }
     requires leaf { IsLeafConstraint (S.seen sets.old).over k }
     ensures call { IsCall 3 (S.seen sets.old) (S.seen sets.new) (pin_slots result) result }
-    ensures set { IfOk result (λ pin. SameOn (S.seen sets.old).over (region (S.seen sets.new) pin) (leaf_side (S.seen sets.old).over false (k - 1))) }
+    ensures set { IfOk result (λ pin. SameOn (S.seen sets.old).over (region (S.seen sets.new) pin)
+        (leaf_side (S.seen sets.old).over false (k - 1))) }
     ensures products { S.products sets.new ≡ S.products sets.old }
 {
     let full = sets.full()?;
@@ -61,7 +63,8 @@ fn leaf_pin<S: StateSets>(sets: &mut S, k: u32, sign: bool) -> Result<Pin, SetRe
     requires within { k ≤ constraint_count (S.seen sets.old).over }
     requires leaf { IsLeafConstraint (S.seen sets.old).over k }
     ensures call { IsCall 3 (S.seen sets.old) (S.seen sets.new) (pin_slots result) result }
-    ensures set { IfOk result (λ pin. SameOn (S.seen sets.old).over (region (S.seen sets.new) pin) (leaf_side (S.seen sets.old).over sign (k - 1))) }
+    ensures set { IfOk result (λ pin. SameOn (S.seen sets.old).over (region (S.seen sets.new) pin)
+        (leaf_side (S.seen sets.old).over sign (k - 1))) }
     ensures products { S.products sets.new ≡ S.products sets.old }
 {
     if sign {

@@ -46,7 +46,8 @@ fn is_for(entry: &Entry<Pin>, node: usize, plus: bool) -> bool
 fn find_own(entries: &[Entry<Pin>], node: usize, plus: bool) -> Option<&Rule<Pin>>
     ensures entry { (sets : Sets) → found_entry sets (option_copied result)
         ≡ blocks.entry_of (map listed_of (map (map_entry (region sets)) entries.now)) node plus }
-    ensures among { (k : ℕ) → is_one_of k (found_slots (option_copied result)) ≡ true → is_one_of k (slots (entries_sets entries.now)) ≡ true }
+    ensures among { (k : ℕ) → is_one_of k (found_slots (option_copied result)) ≡ true
+        → is_one_of k (slots (entries_sets entries.now)) ≡ true }
 {
     for entry in entries {
         if is_for(entry, node, plus) {
@@ -64,7 +65,8 @@ fn find_free(
     plus: bool,
 ) -> Option<&Rule<Pin>>
     ensures entry { (sets : Sets) → found_entry sets (option_copied result)
-        ≡ blocks.entry_of (entries_for constraint (map (map_free_entry (region sets)) entries.now)) node plus }
+        ≡ blocks.entry_of (entries_for constraint (map (map_free_entry (region sets)) entries.now))
+        node plus }
     ensures among { (k : ℕ) → is_one_of k (found_slots (option_copied result)) ≡ true
         → is_one_of k (slots (entries_sets (map (λ e. e.entry) entries.now))) ≡ true }
 {
@@ -78,8 +80,10 @@ fn find_free(
 
 /// What is given for a sign of a node.
 fn find<'a>(entries: &Entries<'a>, node: usize, plus: bool) -> Option<&'a Rule<Pin>>
-    ensures entry { (sets : Sets) → found_entry sets (option_copied result) ≡ blocks.entry_of (listed_in sets entries.now) node plus }
-    ensures among { (k : ℕ) → is_one_of k (found_slots (option_copied result)) ≡ true → is_one_of k (entry_slots entries.now) ≡ true }
+    ensures entry { (sets : Sets) → found_entry sets (option_copied result)
+        ≡ blocks.entry_of (listed_in sets entries.now) node plus }
+    ensures among { (k : ℕ) → is_one_of k (found_slots (option_copied result)) ≡ true
+        → is_one_of k (entry_slots entries.now) ≡ true }
 {
     match entries {
         Entries::Own(own) => find_own(own, node, plus),
@@ -92,7 +96,8 @@ fn join_with<S: StateSets>(sets: &mut S, a: &Pin, b: Pin) -> Result<Pin, SetRefu
     requires a { IsLive (S.seen sets.old) a.now.slot }
     requires b { IsLive (S.seen sets.old) b.slot }
     ensures call { IsReplacing (S.seen sets.old) (S.seen sets.new) b result }
-    ensures set { IfOk result (λ pin. region (S.seen sets.new) pin ≡ either (region (S.seen sets.old) a.now) (region (S.seen sets.old) b)) }
+    ensures set { IfOk result (λ pin. region (S.seen sets.new) pin
+        ≡ either (region (S.seen sets.old) a.now) (region (S.seen sets.old) b)) }
     ensures products { S.products sets.new ≡ S.products sets.old }
 {
     let set = sets.join(a, &b);
@@ -111,9 +116,10 @@ fn rule_pin<S: StateSets>(
     requires rule { AreLive (S.seen sets.old) (slots (rule_sets (seen_rule rule.now))) }
     requires argument { IsLive (S.seen sets.old) argument.now.slot }
     ensures call { IsCall 2 (S.seen sets.old) (S.seen sets.new) (pin_slots result) result }
-    ensures set { IfOk result (λ pin. (layers : List rules.Layer) → join_layers layers ≡ region (S.seen sets.old) nonfair.now
-        → region (S.seen sets.new) pin
-        ≡ entry_set layers (entry_of (map_rule (region (S.seen sets.old)) (seen_rule rule.now))) (region (S.seen sets.old) argument.now)) }
+    ensures set { IfOk result (λ pin. (layers : List rules.Layer)
+        → join_layers layers ≡ region (S.seen sets.old) nonfair.now → region (S.seen sets.new) pin
+        ≡ entry_set layers (entry_of (map_rule (region (S.seen sets.old)) (seen_rule rule.now)))
+        (region (S.seen sets.old) argument.now)) }
     ensures products { S.products sets.new ≡ S.products sets.old }
 {
     match rule {
@@ -145,7 +151,8 @@ pub fn entry_pin<S: StateSets>(
     requires argument { IsLive (S.seen sets.old) argument.now.slot }
     ensures call { IsCall 2 (S.seen sets.old) (S.seen sets.new) (pin_slots result) result }
     ensures set { IfOk result (λ pin. (p : claims.Proof) → IsGroundOf (S.seen sets.old) ground.now p
-        → region (S.seen sets.new) pin ≡ entry_set p.nonfair (p.entries node plus) (region (S.seen sets.old) argument.now)) }
+        → region (S.seen sets.new) pin ≡ entry_set p.nonfair (p.entries node plus)
+        (region (S.seen sets.old) argument.now)) }
     ensures products { S.products sets.new ≡ S.products sets.old }
 {
     match find(&ground.entries, node, plus) {

@@ -52,10 +52,13 @@ fn path_claims<S: StateSets>(
 ) -> Result<Vec<Claim>, SetRefusal>
     requires ground { IsGround (S.seen sets.old) ground.now }
     requires leaves { HasModelLeaves (S.seen sets.old).over (ctl_of formula.now) }
-    ensures call { IsCall (2 * path_nodes (ctl_of formula.now) + 8) (S.seen sets.old) (S.seen sets.new) (claims_result_slots result) result }
-    ensures pins { IfOk result (λ claims. length (claims_slots claims.items) ≡ 2 * path_nodes (ctl_of formula.now)) }
+    ensures call { IsCall (2 * path_nodes (ctl_of formula.now) + 8) (S.seen sets.old)
+        (S.seen sets.new) (claims_result_slots result) result }
+    ensures pins { IfOk result (λ claims. length (claims_slots claims.items)
+        ≡ 2 * path_nodes (ctl_of formula.now)) }
     ensures claims { IfOk result (λ claims. (p : Proof) → IsGroundOf (S.seen sets.old) ground.now p
-        → ArePathClaims (S.seen sets.old).over (S.seen sets.new) p (ctl_of formula.now) claims.items) }
+        → ArePathClaims (S.seen sets.old).over (S.seen sets.new) p (ctl_of formula.now)
+        claims.items) }
     ensures products { S.products sets.new ≡ S.products sets.old }
 {
     if is_leaf(formula) {
@@ -77,10 +80,14 @@ fn constraint_list<S: StateSets>(
 ) -> Result<Vec<Claim>, SetRefusal>
     requires ground { IsFreeGround (S.seen sets.old) full.now nonfair.now part.now }
     requires leaves { HasModelLeaves (S.seen sets.old).over (ctl_of formula.now) }
-    ensures call { IsCall (2 * path_nodes (ctl_of formula.now) + 8) (S.seen sets.old) (S.seen sets.new) (claims_result_slots result) result }
-    ensures pins { IfOk result (λ claims. length (claims_slots claims.items) ≡ 2 * path_nodes (ctl_of formula.now)) }
-    ensures claims { IfOk result (λ claims. (j : ℕ) → j + 1 ≡ k → ArePathClaims (S.seen sets.old).over (S.seen sets.new)
-        (free_proof (Some (map_free (region (S.seen sets.old)) part.now)) j) (ctl_of formula.now) claims.items) }
+    ensures call { IsCall (2 * path_nodes (ctl_of formula.now) + 8) (S.seen sets.old)
+        (S.seen sets.new) (claims_result_slots result) result }
+    ensures pins { IfOk result (λ claims. length (claims_slots claims.items)
+        ≡ 2 * path_nodes (ctl_of formula.now)) }
+    ensures claims { IfOk result (λ claims. (j : ℕ) → j + 1 ≡ k
+        → ArePathClaims (S.seen sets.old).over (S.seen sets.new)
+        (free_proof (Some (map_free (region (S.seen sets.old)) part.now)) j) (ctl_of formula.now)
+        claims.items) }
     ensures products { S.products sets.new ≡ S.products sets.old }
 {
     let ground = Ground {
@@ -104,9 +111,11 @@ fn add_constraint<S: StateSets>(
     requires ground { IsFreeGround (S.seen sets.old) full.now nonfair.now part.now }
     requires leaves { HasModelLeaves (S.seen sets.old).over (ctl_of formula.now) }
     requires few { length lists.old.items < 4294967295 }
-    ensures listing { IsListing (2 * path_nodes (ctl_of formula.now) + 8) (2 * path_nodes (ctl_of formula.now)) (S.seen sets.old) (S.seen sets.new)
-        lists.old.items lists.new.items (ArePathClaims (S.seen sets.old).over (S.seen sets.new)
-        (free_proof (Some (map_free (region (S.seen sets.old)) part.now)) (length lists.old.items)) (ctl_of formula.now)) result }
+    ensures listing { IsListing (2 * path_nodes (ctl_of formula.now) + 8)
+        (2 * path_nodes (ctl_of formula.now)) (S.seen sets.old) (S.seen sets.new) lists.old.items
+        lists.new.items (ArePathClaims (S.seen sets.old).over (S.seen sets.new)
+        (free_proof (Some (map_free (region (S.seen sets.old)) part.now)) (length lists.old.items))
+        (ctl_of formula.now)) result }
     ensures products { S.products sets.new ≡ S.products sets.old }
 {
     let k = lists.len() as u32 + 1;
@@ -135,12 +144,15 @@ fn add_constraints<S: StateSets>(
     requires leaves { All (HasModelLeaves (S.seen sets.old).over) (map ctl_of formulas.now) }
     requires few { length formulas.now ≤ 4294967295 }
     requires none { lists.old.items ≡ [] }
-    ensures call { IsCall (2 * path_nodes_of (map ctl_of formulas.now) + 8) (S.seen sets.old) (S.seen sets.new) (lists_claims_slots lists.new.items) result }
+    ensures call { IsCall (2 * path_nodes_of (map ctl_of formulas.now) + 8) (S.seen sets.old)
+        (S.seen sets.new) (lists_claims_slots lists.new.items) result }
     ensures count { OnOk result (length lists.new.items ≡ length formulas.now) }
-    ensures pins { OnOk result (length (lists_claims_slots lists.new.items) ≡ 2 * path_nodes_of (map ctl_of formulas.now)) }
-    ensures claims { OnOk result ((k : ℕ) (f : Ctl) → k < length formulas.now → ArePathClaims (S.seen sets.old).over (S.seen sets.new)
-        (free_proof (Some (map_free (region (S.seen sets.old)) part.now)) k) (slice_index_or (map ctl_of formulas.now) k f)
-        (claims_at lists.new.items k)) }
+    ensures pins { OnOk result (length (lists_claims_slots lists.new.items)
+        ≡ 2 * path_nodes_of (map ctl_of formulas.now)) }
+    ensures claims { OnOk result ((k : ℕ) (f : Ctl) → k < length formulas.now
+        → ArePathClaims (S.seen sets.old).over (S.seen sets.new)
+        (free_proof (Some (map_free (region (S.seen sets.old)) part.now)) k)
+        (slice_index_or (map ctl_of formulas.now) k f) (claims_at lists.new.items k)) }
     ensures products { S.products sets.new ≡ S.products sets.old }
 {
     for k in 0..formulas.len() {
@@ -160,8 +172,10 @@ pub fn constraint_claims<S: StateSets>(
 ) -> Result<Vec<Vec<Claim>>, SetRefusal>
     requires over { (S.seen sets.old).over ≡ model.now }
     requires ground { IsFreeGround (S.seen sets.old) full.now nonfair.now part.now }
-    ensures call { IsCall (2 * constraint_nodes model.now + 8) (S.seen sets.old) (S.seen sets.new) (lists_result_slots result) result }
-    ensures pins { IfOk result (λ lists. length (lists_claims_slots lists.items) ≡ 2 * constraint_nodes model.now) }
+    ensures call { IsCall (2 * constraint_nodes model.now + 8) (S.seen sets.old) (S.seen sets.new)
+        (lists_result_slots result) result }
+    ensures pins { IfOk result (λ lists. length (lists_claims_slots lists.items)
+        ≡ 2 * constraint_nodes model.now) }
     ensures count { IfOk result (λ lists. length lists.items ≡ length model.now.constraints) }
     ensures fitting { IfOk result (λ lists. AreFitting model.now lists.items) }
     ensures claims { IfOk result (λ lists. HaveClaims model.now (S.seen sets.new)

@@ -13,7 +13,8 @@ use region_sets::{Pin, SetRefusal, StateSets};
 pub fn join_all<S: StateSets>(sets: &mut S, pins: &[Pin]) -> Result<Pin, SetRefusal>
     requires { AreLive (S.seen sets.old) (slots pins.now) }
     ensures call { IsCall 2 (S.seen sets.old) (S.seen sets.new) (pin_slots result) result }
-    ensures set { IfOk result (λ pin. region (S.seen sets.new) pin ≡ join (regions (S.seen sets.old) pins.now)) }
+    ensures set { IfOk result (λ pin. region (S.seen sets.new) pin
+        ≡ join (regions (S.seen sets.old) pins.now)) }
     ensures products { S.products sets.new ≡ S.products sets.old }
 {
     let mut all = sets.empty()?;

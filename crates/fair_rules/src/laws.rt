@@ -52,5 +52,6 @@ pub fn falsified_law(model: &Ruled)
 pub fn walk_law<W: Walk>(model: &Ruled, formula: &Formula, node: u32, walk: &W)
     requires there { IsSome (node_at (ctl_of formula.now) 1 node) }
     requires walk { IsFairWalk model.now (W.at walk.now) }
-    ensures { IfSome (node_at (ctl_of formula.now) 1 node) (λ f. AgreesWith model.now f (W.at walk.now)) }
+    ensures { IfSome (node_at (ctl_of formula.now) 1 node)
+        (λ f. AgreesWith model.now f (W.at walk.now)) }
 {}

@@ -15,7 +15,8 @@ use std::mem;
 /// Takes out the layers of an `AU` entry.
 fn strip_entry<S: StateSets>(alloc: Global, sets: &mut S, entry: &mut Entry<Pin>)
     requires { HasPins (S.seen sets.old) (slots (rule_sets entry.old.rule)) }
-    ensures { Lessens (S.seen sets.old) (S.seen sets.new) (slots (rule_sets entry.old.rule)) (slots (rule_sets entry.new.rule)) }
+    ensures { Lessens (S.seen sets.old) (S.seen sets.new) (slots (rule_sets entry.old.rule))
+        (slots (rule_sets entry.new.rule)) }
 {
     if let Rule::AU(layers) = &mut entry.rule {
         let taken = mem::replace(layers, Vec::new(alloc));
@@ -27,7 +28,8 @@ fn strip_entry<S: StateSets>(alloc: Global, sets: &mut S, entry: &mut Entry<Pin>
 fn strip_at<S: StateSets>(alloc: Global, sets: &mut S, entries: &mut Vec<Entry<Pin>>, k: usize)
     requires there { k < length entries.old.items }
     requires pins { HasPins (S.seen sets.old) (slots (entries_sets entries.old.items)) }
-    ensures less { Lessens (S.seen sets.old) (S.seen sets.new) (slots (entries_sets entries.old.items)) (slots (entries_sets entries.new.items)) }
+    ensures less { Lessens (S.seen sets.old) (S.seen sets.new)
+        (slots (entries_sets entries.old.items)) (slots (entries_sets entries.new.items)) }
     ensures count { length entries.new.items ≡ length entries.old.items }
 {
     strip_entry(alloc, sets, &mut entries[k])
@@ -36,7 +38,8 @@ fn strip_at<S: StateSets>(alloc: Global, sets: &mut S, entries: &mut Vec<Entry<P
 /// Takes out the layers of all entries.
 fn strip_entries<S: StateSets>(alloc: Global, sets: &mut S, entries: &mut Vec<Entry<Pin>>)
     requires { HasPins (S.seen sets.old) (slots (entries_sets entries.old.items)) }
-    ensures { Lessens (S.seen sets.old) (S.seen sets.new) (slots (entries_sets entries.old.items)) (slots (entries_sets entries.new.items)) }
+    ensures { Lessens (S.seen sets.old) (S.seen sets.new) (slots (entries_sets entries.old.items))
+        (slots (entries_sets entries.new.items)) }
 {
     for k in 0..entries.len() {
         strip_at(alloc, sets, entries, k);

@@ -134,7 +134,8 @@ fn test_extracted<S: StateSets>(
     change: Change,
 ) -> Result<Tested, SetRefusal>
     requires over { (S.seen sets.old).over ≡ model.now }
-    requires run { IsSomeAnd (spec_formula model.now 1) (λ f. IsLiveRun model.now f (S.seen sets.old) run.now) }
+    requires run { IsSomeAnd (spec_formula model.now 1)
+        (λ f. IsLiveRun model.now f (S.seen sets.old) run.now) }
     requires shown { Shows model.now (S.seen sets.old) run.now at }
     ensures { Keeps (S.seen sets.old) (S.seen sets.new) }
 {
@@ -167,7 +168,8 @@ fn decide_by<S: StateSets>(
     requires over { (S.seen sets.old).over ≡ model.now }
     requires spec { ctl_of formula.now ∷ [] ≡ map (λ c. formula_of c.expr) model.now.specs }
     requires run { IsWholeRun model.now (ctl_of formula.now) (S.seen sets.old) run.now }
-    requires decided { IsDecided model.now everything (ctl_of formula.now) (S.seen sets.old) run.now }
+    requires decided { IsDecided model.now everything (ctl_of formula.now) (S.seen sets.old)
+        run.now }
     requires live { AreLive (S.seen sets.old) (run_slots run.now) }
     ensures { Keeps (S.seen sets.old) (S.seen sets.new) }
 {

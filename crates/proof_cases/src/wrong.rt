@@ -288,7 +288,8 @@ fn add_reaches(alloc: Global, fair: &mut FairPart<Pin>, count: usize)
 /// The fair part without its lists.
 fn without_reaches<S: StateSets>(alloc: Global, sets: &mut S, fair: FairPart<Pin>) -> FairPart<Pin>
     requires { HasPins (S.seen sets.old) (slots (fair_sets fair)) }
-    ensures { Lessens (S.seen sets.old) (S.seen sets.new) (slots (fair_sets fair)) (slots (fair_sets result)) }
+    ensures { Lessens (S.seen sets.old) (S.seen sets.new) (slots (fair_sets fair))
+        (slots (fair_sets result)) }
 {
     let FairPart { inside, reach } = fair;
     release_lists(sets, reach);
@@ -306,7 +307,8 @@ fn emptied<S: StateSets>(
     count: usize,
 ) -> FairPart<Pin>
     requires { HasPins (S.seen sets.old) (slots (fair_sets fair)) }
-    ensures { Lessens (S.seen sets.old) (S.seen sets.new) (slots (fair_sets fair)) (slots (fair_sets result)) }
+    ensures { Lessens (S.seen sets.old) (S.seen sets.new) (slots (fair_sets fair))
+        (slots (fair_sets result)) }
 {
     let mut part = without_reaches(alloc, sets, fair);
     add_reaches(alloc, &mut part, count);
@@ -321,7 +323,8 @@ fn changed_fair<S: StateSets>(
     change: Change,
 ) -> FairPart<Pin>
     requires { HasPins (S.seen sets.old) (slots (fair_sets fair)) }
-    ensures { Lessens (S.seen sets.old) (S.seen sets.new) (slots (fair_sets fair)) (slots (fair_sets result)) }
+    ensures { Lessens (S.seen sets.old) (S.seen sets.new) (slots (fair_sets fair))
+        (slots (fair_sets result)) }
 {
     match change {
         Change::MoreReaches => {
@@ -344,7 +347,8 @@ fn changed_free<S: StateSets>(
     change: Change,
 ) -> Option<FreePart<Pin>>
     requires { HasPins (S.seen sets.old) (slots (free_sets_of free)) }
-    ensures { Lessens (S.seen sets.old) (S.seen sets.new) (slots (free_sets_of free)) (slots (free_sets_of result)) }
+    ensures { Lessens (S.seen sets.old) (S.seen sets.new) (slots (free_sets_of free))
+        (slots (free_sets_of result)) }
 {
     match change {
         Change::NoFreePart => {

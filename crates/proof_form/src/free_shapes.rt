@@ -81,7 +81,8 @@ pub fn has_constraint_rule<T>(
     tables: &[Vec<Node<'_>>],
     free: &FreeEntry<T>,
 ) -> bool
-    requires formulas { map ctl_of formulas.now ≡ map (λ c. formula_of c.expr) model.now.constraints }
+    requires formulas { map ctl_of formulas.now ≡ map (λ c. formula_of c.expr)
+        model.now.constraints }
     requires tables { AreTables formulas.now tables.now }
     ensures { IsTrue result ↔ HasConstraintRule model.now free.now }
 {

@@ -16,7 +16,8 @@ use std::alloc::{AllocFailed, Global};
 /// Adds a copy of the set to the list.
 fn copy_set<S: StateSets>(sets: &mut S, set: &Pin, copies: &mut Vec<Pin>) -> Result<(), SetRefusal>
     requires { IsLive (S.seen sets.old) set.now.slot }
-    ensures { AreCopied (S.seen sets.old) (S.seen sets.new) (set.now ∷ []) copies.old.items copies.new.items result }
+    ensures { AreCopied (S.seen sets.old) (S.seen sets.new) (set.now ∷ []) copies.old.items
+        copies.new.items result }
 {
     let copy = sets.copy(set)?;
     match copies.push(copy) {
@@ -36,7 +37,8 @@ fn copy_list<S: StateSets>(
     copies: &mut Vec<Pin>,
 ) -> Result<(), SetRefusal>
     requires { AreLive (S.seen sets.old) (slots list.now) }
-    ensures { AreCopied (S.seen sets.old) (S.seen sets.new) list.now copies.old.items copies.new.items result }
+    ensures { AreCopied (S.seen sets.old) (S.seen sets.new) list.now copies.old.items
+        copies.new.items result }
 {
     for set in list {
         copy_set(sets, set, copies)?;
@@ -51,8 +53,8 @@ fn copy_lists<S: StateSets>(
     copies: &mut Vec<Pin>,
 ) -> Result<(), SetRefusal>
     requires { AreLive (S.seen sets.old) (slots (flat_map (λ sets. sets) (lists_of lists.now))) }
-    ensures { AreCopied (S.seen sets.old) (S.seen sets.new) (flat_map (λ sets. sets) (lists_of lists.now))
-        copies.old.items copies.new.items result }
+    ensures { AreCopied (S.seen sets.old) (S.seen sets.new) (flat_map
+        (λ sets. sets) (lists_of lists.now)) copies.old.items copies.new.items result }
 {
     for list in lists {
         copy_list(sets, list, copies)?;
@@ -67,7 +69,8 @@ fn copy_layers<S: StateSets>(
     copies: &mut Vec<Pin>,
 ) -> Result<(), SetRefusal>
     requires { AreLive (S.seen sets.old) (slots (layer_sets layers.now)) }
-    ensures { AreCopied (S.seen sets.old) (S.seen sets.new) (layer_sets layers.now) copies.old.items copies.new.items result }
+    ensures { AreCopied (S.seen sets.old) (S.seen sets.new) (layer_sets layers.now) copies.old.items
+        copies.new.items result }
 {
     for layer in layers {
         copy_set(sets, &layer.set, copies)?;
@@ -82,7 +85,8 @@ fn copy_fair<S: StateSets>(
     copies: &mut Vec<Pin>,
 ) -> Result<(), SetRefusal>
     requires { AreLive (S.seen sets.old) (slots (fair_sets part.now)) }
-    ensures { AreCopied (S.seen sets.old) (S.seen sets.new) (fair_sets part.now) copies.old.items copies.new.items result }
+    ensures { AreCopied (S.seen sets.old) (S.seen sets.new) (fair_sets part.now) copies.old.items
+        copies.new.items result }
 {
     copy_set(sets, &part.inside, copies)?;
     copy_lists(sets, &part.reach, copies)
@@ -95,7 +99,8 @@ fn copy_rule<S: StateSets>(
     copies: &mut Vec<Pin>,
 ) -> Result<(), SetRefusal>
     requires { AreLive (S.seen sets.old) (slots (rule_sets (seen_rule rule.now))) }
-    ensures { AreCopied (S.seen sets.old) (S.seen sets.new) (rule_sets (seen_rule rule.now)) copies.old.items copies.new.items result }
+    ensures { AreCopied (S.seen sets.old) (S.seen sets.new) (rule_sets (seen_rule rule.now))
+        copies.old.items copies.new.items result }
 {
     match rule {
         Rule::EX(set) => copy_set(sets, set, copies),
@@ -117,7 +122,8 @@ fn copy_entries<S: StateSets>(
     copies: &mut Vec<Pin>,
 ) -> Result<(), SetRefusal>
     requires { AreLive (S.seen sets.old) (slots (entries_sets entries.now)) }
-    ensures { AreCopied (S.seen sets.old) (S.seen sets.new) (entries_sets entries.now) copies.old.items copies.new.items result }
+    ensures { AreCopied (S.seen sets.old) (S.seen sets.new) (entries_sets entries.now)
+        copies.old.items copies.new.items result }
 {
     for entry in entries {
         copy_entry(sets, entry, copies)?;
@@ -132,7 +138,8 @@ fn copy_entry<S: StateSets>(
     copies: &mut Vec<Pin>,
 ) -> Result<(), SetRefusal>
     requires { AreLive (S.seen sets.old) (slots (rule_sets entry.now.rule)) }
-    ensures { AreCopied (S.seen sets.old) (S.seen sets.new) (rule_sets entry.now.rule) copies.old.items copies.new.items result }
+    ensures { AreCopied (S.seen sets.old) (S.seen sets.new) (rule_sets entry.now.rule)
+        copies.old.items copies.new.items result }
 {
     copy_rule(sets, &entry.rule, copies)
 }
@@ -144,8 +151,8 @@ fn copy_free_entries<S: StateSets>(
     copies: &mut Vec<Pin>,
 ) -> Result<(), SetRefusal>
     requires { AreLive (S.seen sets.old) (slots (entries_sets (map (λ e. e.entry) entries.now))) }
-    ensures { AreCopied (S.seen sets.old) (S.seen sets.new) (entries_sets (map (λ e. e.entry) entries.now))
-        copies.old.items copies.new.items result }
+    ensures { AreCopied (S.seen sets.old) (S.seen sets.new)
+        (entries_sets (map (λ e. e.entry) entries.now)) copies.old.items copies.new.items result }
 {
     for free in entries {
         copy_entry(sets, &free.entry, copies)?;
@@ -160,7 +167,8 @@ fn copy_free<S: StateSets>(
     copies: &mut Vec<Pin>,
 ) -> Result<(), SetRefusal>
     requires { AreLive (S.seen sets.old) (slots (free_sets part.now)) }
-    ensures { AreCopied (S.seen sets.old) (S.seen sets.new) (free_sets part.now) copies.old.items copies.new.items result }
+    ensures { AreCopied (S.seen sets.old) (S.seen sets.new) (free_sets part.now) copies.old.items
+        copies.new.items result }
 {
     copy_layers(sets, &part.nonfair, copies)?;
     copy_fair(sets, &part.fair, copies)?;
@@ -174,7 +182,8 @@ fn copy_free_part<S: StateSets>(
     copies: &mut Vec<Pin>,
 ) -> Result<(), SetRefusal>
     requires { AreLive (S.seen sets.old) (slots (free_sets_of part.now)) }
-    ensures { AreCopied (S.seen sets.old) (S.seen sets.new) (free_sets_of part.now) copies.old.items copies.new.items result }
+    ensures { AreCopied (S.seen sets.old) (S.seen sets.new) (free_sets_of part.now) copies.old.items
+        copies.new.items result }
 {
     match part {
         None => Ok(()),
@@ -189,7 +198,8 @@ fn copy_proof<S: StateSets>(
     copies: &mut Vec<Pin>,
 ) -> Result<(), SetRefusal>
     requires { AreLive (S.seen sets.old) (proof_slots proof.now) }
-    ensures { AreCopied (S.seen sets.old) (S.seen sets.new) (sets_of proof.now) copies.old.items copies.new.items result }
+    ensures { AreCopied (S.seen sets.old) (S.seen sets.new) (sets_of proof.now) copies.old.items
+        copies.new.items result }
 {
     copy_free_part(sets, &proof.free, copies)?;
     copy_layers(sets, &proof.nonfair, copies)?;
@@ -204,8 +214,10 @@ pub fn gather<S: StateSets>(
     proof: &Proof<Pin>,
 ) -> Result<Vec<Pin>, SetRefusal>
     requires { AreLive (S.seen sets.old) (proof_slots proof.now) }
-    ensures call { IsCall (length (sets_of proof.now)) (S.seen sets.old) (S.seen sets.new) (vec_slots result) result }
-    ensures copies { IfOk result (λ copies. AreCopies (S.seen sets.old) (S.seen sets.new) (sets_of proof.now) copies.items) }
+    ensures call { IsCall (length (sets_of proof.now)) (S.seen sets.old) (S.seen sets.new)
+        (vec_slots result) result }
+    ensures copies { IfOk result (λ copies. AreCopies (S.seen sets.old) (S.seen sets.new)
+        (sets_of proof.now) copies.items) }
 {
     let mut copies = Vec::new(alloc);
     match copy_proof(sets, proof, &mut copies) {

@@ -46,8 +46,10 @@ fn number_lists(
     numbers: &[u32],
     next: &mut usize,
 ) -> Result<Vec<Vec<u32>>, AllocError>
-    requires { next.old + length (flat_map (λ sets. sets) (lists_of lists.now)) ≤ length numbers.now }
-    ensures form { IfOk result (λ filled. lists_form (lists_of filled.items) ≡ lists_form (lists_of lists.now)) }
+    requires { next.old + length (flat_map (λ sets. sets) (lists_of lists.now))
+        ≤ length numbers.now }
+    ensures form { IfOk result (λ filled. lists_form (lists_of filled.items)
+        ≡ lists_form (lists_of lists.now)) }
     ensures numbers { IfOk result (λ filled.
         AreTaken numbers.now next.old next.new (flat_map (λ sets. sets) (lists_of filled.items))) }
 {
@@ -67,7 +69,8 @@ fn number_layers(
 ) -> Result<Vec<Layer<u32>>, AllocError>
     requires { next.old + length (layer_sets layers.now) ≤ length numbers.now }
     ensures form { IfOk result (λ filled. layers_form filled.items ≡ layers_form layers.now) }
-    ensures numbers { IfOk result (λ filled. AreTaken numbers.now next.old next.new (layer_sets filled.items)) }
+    ensures numbers { IfOk result (λ filled. AreTaken numbers.now next.old next.new
+        (layer_sets filled.items)) }
 {
     let mut filled = Vec::new(alloc);
     for layer in layers {
@@ -89,7 +92,8 @@ fn number_fair(
 ) -> Result<FairPart<u32>, AllocError>
     requires { next.old + length (fair_sets part.now) ≤ length numbers.now }
     ensures form { IfOk result (λ filled. fair_form filled ≡ fair_form part.now) }
-    ensures numbers { IfOk result (λ filled. AreTaken numbers.now next.old next.new (fair_sets filled)) }
+    ensures numbers { IfOk result (λ filled. AreTaken numbers.now next.old next.new
+        (fair_sets filled)) }
 {
     let inside = take_number(numbers, next);
     let reach = number_lists(alloc, &part.reach, numbers, next)?;
@@ -104,8 +108,10 @@ fn number_rule(
     next: &mut usize,
 ) -> Result<Rule<u32>, AllocError>
     requires { next.old + length (rule_sets (seen_rule rule.now)) ≤ length numbers.now }
-    ensures form { IfOk result (λ filled. rule_form (seen_rule filled) ≡ rule_form (seen_rule rule.now)) }
-    ensures numbers { IfOk result (λ filled. AreTaken numbers.now next.old next.new (rule_sets (seen_rule filled))) }
+    ensures form { IfOk result (λ filled. rule_form (seen_rule filled)
+        ≡ rule_form (seen_rule rule.now)) }
+    ensures numbers { IfOk result (λ filled. AreTaken numbers.now next.old next.new
+        (rule_sets (seen_rule filled))) }
 {
     Ok(match rule {
         Rule::EX(_) => Rule::EX(take_number(numbers, next)),
@@ -129,7 +135,8 @@ fn number_entry(
 ) -> Result<Entry<u32>, AllocError>
     requires { next.old + length (rule_sets entry.now.rule) ≤ length numbers.now }
     ensures form { IfOk result (λ filled. entry_form filled ≡ entry_form entry.now) }
-    ensures numbers { IfOk result (λ filled. AreTaken numbers.now next.old next.new (rule_sets filled.rule)) }
+    ensures numbers { IfOk result (λ filled. AreTaken numbers.now next.old next.new
+        (rule_sets filled.rule)) }
 {
     let rule = number_rule(alloc, &entry.rule, numbers, next)?;
     Ok(Entry {
@@ -148,7 +155,8 @@ fn number_entries(
 ) -> Result<Vec<Entry<u32>>, AllocError>
     requires { next.old + length (entries_sets entries.now) ≤ length numbers.now }
     ensures form { IfOk result (λ filled. entries_form filled.items ≡ entries_form entries.now) }
-    ensures numbers { IfOk result (λ filled. AreTaken numbers.now next.old next.new (entries_sets filled.items)) }
+    ensures numbers { IfOk result (λ filled. AreTaken numbers.now next.old next.new
+        (entries_sets filled.items)) }
 {
     let mut filled = Vec::new(alloc);
     for entry in entries {
@@ -164,8 +172,10 @@ fn number_free_entries(
     numbers: &[u32],
     next: &mut usize,
 ) -> Result<Vec<FreeEntry<u32>>, AllocError>
-    requires { next.old + length (entries_sets (map (λ e. e.entry) entries.now)) ≤ length numbers.now }
-    ensures form { IfOk result (λ filled. free_entries_form filled.items ≡ free_entries_form entries.now) }
+    requires { next.old + length (entries_sets (map (λ e. e.entry) entries.now))
+        ≤ length numbers.now }
+    ensures form { IfOk result (λ filled. free_entries_form filled.items
+        ≡ free_entries_form entries.now) }
     ensures numbers { IfOk result (λ filled.
         AreTaken numbers.now next.old next.new (entries_sets (map (λ e. e.entry) filled.items))) }
 {
@@ -189,7 +199,8 @@ fn number_free(
 ) -> Result<FreePart<u32>, AllocError>
     requires { next.old + length (free_sets part.now) ≤ length numbers.now }
     ensures form { IfOk result (λ filled. free_form filled ≡ free_form part.now) }
-    ensures numbers { IfOk result (λ filled. AreTaken numbers.now next.old next.new (free_sets filled)) }
+    ensures numbers { IfOk result (λ filled. AreTaken numbers.now next.old next.new
+        (free_sets filled)) }
 {
     let nonfair = number_layers(alloc, &part.nonfair, numbers, next)?;
     let fair = number_fair(alloc, &part.fair, numbers, next)?;
@@ -210,7 +221,8 @@ fn number_free_part(
 ) -> Result<Option<FreePart<u32>>, AllocError>
     requires { next.old + length (free_sets_of part.now) ≤ length numbers.now }
     ensures form { IfOk result (λ filled. free_form_of filled ≡ free_form_of part.now) }
-    ensures numbers { IfOk result (λ filled. AreTaken numbers.now next.old next.new (free_sets_of filled)) }
+    ensures numbers { IfOk result (λ filled. AreTaken numbers.now next.old next.new
+        (free_sets_of filled)) }
 {
     match part {
         None => Ok(None),

@@ -41,7 +41,8 @@ impl Rule<Pin> {
     pub fn release<S: StateSets>(self, sets: &mut S)
         requires live { AreLive (S.seen sets.old) (slots (rule_sets (seen_rule self))) }
         requires once { AreDistinct (slots (rule_sets (seen_rule self))) }
-        ensures pins { Adds (S.seen sets.new) (S.seen sets.old) (slots (rule_sets (seen_rule self))) }
+        ensures pins { Adds (S.seen sets.new) (S.seen sets.old)
+            (slots (rule_sets (seen_rule self))) }
         ensures fulls { (S.seen sets.new).fulls ≡ (S.seen sets.old).fulls }
     {
         match self {
@@ -89,9 +90,11 @@ pub fn release_entries<S: StateSets>(sets: &mut S, mut entries: Vec<Entry<Pin>>)
 
 /// Releases the sets of each entry for a constraint.
 pub fn release_free_entries<S: StateSets>(sets: &mut S, mut entries: Vec<FreeEntry<Pin>>)
-    requires live { AreLive (S.seen sets.old) (slots (entries_sets (map (λ e. e.entry) entries.items))) }
+    requires live { AreLive (S.seen sets.old)
+        (slots (entries_sets (map (λ e. e.entry) entries.items))) }
     requires once { AreDistinct (slots (entries_sets (map (λ e. e.entry) entries.items))) }
-    ensures pins { Adds (S.seen sets.new) (S.seen sets.old) (slots (entries_sets (map (λ e. e.entry) entries.items))) }
+    ensures pins { Adds (S.seen sets.new) (S.seen sets.old)
+        (slots (entries_sets (map (λ e. e.entry) entries.items))) }
     ensures fulls { (S.seen sets.new).fulls ≡ (S.seen sets.old).fulls }
 {
     while let Some(free) = entries.pop() {

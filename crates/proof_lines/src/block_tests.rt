@@ -42,12 +42,15 @@ fn main_lines<S: StateSets>(
     requires count { constraints_count frame.now.constraints ≡ constraint_count case.now.model.now }
     requires live { AreLive (S.seen sets.old) (claims_slots claims.now) }
     requires claims { AreClaims case.now.model.now (S.seen sets.old) claims.now
-        (claims_of case.now.model.now (own_proof (S.seen sets.old) case.now) (formula_in case.now) 1 0) }
+        (claims_of case.now.model.now (own_proof (S.seen sets.old) case.now) (formula_in case.now) 1
+        0) }
     ensures call { IsCall 8 (S.seen sets.old) (S.seen sets.new) [] result }
-    ensures tested { IfOk result (λ yes. AreTested case.now.model.now
-        (block_lines case.now.model.now (constraint_list (S.seen sets.old) frame.now.constraints true)
-        (constraint_list (S.seen sets.old) frame.now.constraints false) (block_of (states_of (S.seen sets.old) case.now))
-        (formula_in case.now) 1) line.old yes line.new) }
+    ensures tested { IfOk result
+        (λ yes. AreTested case.now.model.now (block_lines case.now.model.now
+        (constraint_list (S.seen sets.old) frame.now.constraints true)
+        (constraint_list (S.seen sets.old) frame.now.constraints false)
+        (block_of (states_of (S.seen sets.old) case.now)) (formula_in case.now) 1) line.old yes
+        line.new) }
     ensures products { S.products sets.new ≤ S.products sets.old
         + own_line_count case.now.proof.now }
 {
@@ -75,12 +78,16 @@ fn claimed_lines<'a, S: StateSets>(
     requires ends { AreEnds (S.seen sets.old) ends.now }
     requires lists { AreLists (S.seen sets.old) case.now.model.now lists.now }
     requires live { IsLive (S.seen sets.old) nonfair.now.slot }
-    requires nonfair { region (S.seen sets.old) nonfair.now ≡ join (regions (S.seen sets.old) (layer_sets case.now.proof.now.nonfair)) }
-    ensures call { IsCall (2 * node_count (formula_in case.now) + 10) (S.seen sets.old) (S.seen sets.new) [] result }
-    ensures tested { IfOk result (λ yes. AreTested case.now.model.now
-        (block_lines case.now.model.now (model_sides case.now.model.now (S.seen sets.old) lists.now true)
-        (model_sides case.now.model.now (S.seen sets.old) lists.now false) (block_of (states_of (S.seen sets.old) case.now))
-        (formula_in case.now) 1) line.old yes line.new) }
+    requires nonfair { region (S.seen sets.old) nonfair.now
+        ≡ join (regions (S.seen sets.old) (layer_sets case.now.proof.now.nonfair)) }
+    ensures call { IsCall (2 * node_count (formula_in case.now) + 10) (S.seen sets.old)
+        (S.seen sets.new) [] result }
+    ensures tested { IfOk result
+        (λ yes. AreTested case.now.model.now (block_lines case.now.model.now
+        (model_sides case.now.model.now (S.seen sets.old) lists.now true)
+        (model_sides case.now.model.now (S.seen sets.old) lists.now false)
+        (block_of (states_of (S.seen sets.old) case.now)) (formula_in case.now) 1) line.old yes
+        line.new) }
     ensures products { S.products sets.new ≤ S.products sets.old
         + own_line_count case.now.proof.now }
 {
@@ -116,11 +123,14 @@ pub fn own_block<S: StateSets>(
     requires case { IsCase (S.seen sets.old) case.now }
     requires ends { AreEnds (S.seen sets.old) ends.now }
     requires lists { AreLists (S.seen sets.old) case.now.model.now lists.now }
-    ensures call { IsCall (2 * node_count (formula_in case.now) + 12) (S.seen sets.old) (S.seen sets.new) [] result }
-    ensures tested { IfOk result (λ yes. AreTested case.now.model.now
-        (block_lines case.now.model.now (model_sides case.now.model.now (S.seen sets.old) lists.now true)
-        (model_sides case.now.model.now (S.seen sets.old) lists.now false) (block_of (states_of (S.seen sets.old) case.now))
-        (formula_in case.now) 1) line.old yes line.new) }
+    ensures call { IsCall (2 * node_count (formula_in case.now) + 12) (S.seen sets.old)
+        (S.seen sets.new) [] result }
+    ensures tested { IfOk result
+        (λ yes. AreTested case.now.model.now (block_lines case.now.model.now
+        (model_sides case.now.model.now (S.seen sets.old) lists.now true)
+        (model_sides case.now.model.now (S.seen sets.old) lists.now false)
+        (block_of (states_of (S.seen sets.old) case.now)) (formula_in case.now) 1) line.old yes
+        line.new) }
     ensures products { S.products sets.new ≤ S.products sets.old
         + own_line_count case.now.proof.now }
 {

@@ -38,7 +38,8 @@ fn begin_lines<S: StateSets>(sets: &S, model: &Ruled, s: &State, set: &Pin, line
     requires over { (S.seen sets.now).over ≡ model.now }
     requires live { IsLive (S.seen sets.now) set.now.slot }
     requires state { IsState model.now s.now }
-    ensures { AreTested model.now ((Check.Begins s.now (region (S.seen sets.now) set.now) ∷ []) ∷ [] ∷ []) line.old result line.new }
+    ensures { AreTested model.now ((Check.Begins s.now (region (S.seen sets.now) set.now) ∷ []) ∷ []
+        ∷ []) line.old result line.new }
 {
     if !begins(sets, model, s, set) {
         return false;

@@ -48,8 +48,10 @@ fn node_lines<S: StateSets>(
         → AreClaims (S.seen sets.old).over (S.seen sets.old) claims.now views → AreBefore views
         → AreTested (S.seen sets.old).over
         (asked_lines (constraint_list (S.seen sets.old) frame.now.constraints true)
-        (constraint_list (S.seen sets.old) frame.now.constraints false) p (demand_in views place sign)
-        (entry_of (map_rule (region (S.seen sets.old)) (seen_rule rule.now)))) line.old yes line.new) }
+        (constraint_list (S.seen sets.old) frame.now.constraints false) p
+        (demand_in views place sign)
+        (entry_of (map_rule (region (S.seen sets.old)) (seen_rule rule.now)))) line.old yes
+        line.new) }
     ensures products { S.products sets.new ≤ S.products sets.old
         + rule_line_count (seen_rule rule.now) }
 {
@@ -89,9 +91,10 @@ fn asked_entry<S: StateSets>(
     requires numbered { (1 ≤ entry.now.node) × (entry.now.node ≤ length claims.now) }
     requires fits { FitsConstraints (constraints_count frame.now.constraints) entry.now.rule }
     ensures call { IsCall 8 (S.seen sets.old) (S.seen sets.new) [] result }
-    ensures tested { IfOk result (λ yes. (p : Proof) (f : Ctl) → IsFrameOf (S.seen sets.old) frame.now p
-        → length claims.now ≡ node_count f
-        → AreClaims (S.seen sets.old).over (S.seen sets.old) claims.now (claims_of (S.seen sets.old).over p f 1 0)
+    ensures tested { IfOk result (λ yes. (p : Proof) (f : Ctl)
+        → IsFrameOf (S.seen sets.old) frame.now p → length claims.now ≡ node_count f
+        → AreClaims (S.seen sets.old).over (S.seen sets.old) claims.now
+        (claims_of (S.seen sets.old).over p f 1 0)
         → AreTested (S.seen sets.old).over
         (asked_lines (constraint_list (S.seen sets.old) frame.now.constraints true)
         (constraint_list (S.seen sets.old) frame.now.constraints false) p
@@ -115,15 +118,18 @@ pub fn own_lines<S: StateSets>(
     requires claims { AreLive (S.seen sets.old) (claims_slots claims.now) }
     requires entries { AreLive (S.seen sets.old) (slots (entries_sets entries.now)) }
     requires numbered { All (λ e. (1 ≤ e.node) × (e.node ≤ length claims.now)) entries.now }
-    requires fits { All (λ e. FitsConstraints (constraints_count frame.now.constraints) e.rule) entries.now }
+    requires fits { All (λ e. FitsConstraints (constraints_count frame.now.constraints) e.rule)
+        entries.now }
     ensures call { IsCall 8 (S.seen sets.old) (S.seen sets.new) [] result }
-    ensures tested { IfOk result (λ yes. (p : Proof) (f : Ctl) → IsFrameOf (S.seen sets.old) frame.now p
-        → length claims.now ≡ node_count f
-        → AreClaims (S.seen sets.old).over (S.seen sets.old) claims.now (claims_of (S.seen sets.old).over p f 1 0)
-        → AreTested (S.seen sets.old).over
-        (listed_lines (S.seen sets.old).over (constraint_list (S.seen sets.old) frame.now.constraints true)
+    ensures tested { IfOk result (λ yes. (p : Proof) (f : Ctl)
+        → IsFrameOf (S.seen sets.old) frame.now p → length claims.now ≡ node_count f
+        → AreClaims (S.seen sets.old).over (S.seen sets.old) claims.now
+        (claims_of (S.seen sets.old).over p f 1 0)
+        → AreTested (S.seen sets.old).over (listed_lines (S.seen sets.old).over
+        (constraint_list (S.seen sets.old) frame.now.constraints true)
         (constraint_list (S.seen sets.old) frame.now.constraints false) p f 1
-        (map listed_of (map (map_entry (region (S.seen sets.old))) entries.now))) line.old yes line.new) }
+        (map listed_of (map (map_entry (region (S.seen sets.old))) entries.now))) line.old yes
+        line.new) }
     ensures products { S.products sets.new ≤ S.products sets.old + entries_line_count entries.now }
 {
     for k in 0..entries.len() {
@@ -155,10 +161,11 @@ fn free_entry<S: StateSets>(
     ensures tested { IfOk result (λ yes. (part : FreePart StateSet)
         → ((k : ℕ) → IsFrameOf (S.seen sets.old) frame.now (free_proof (Some part) k))
         → HaveClaims (S.seen sets.old).over (S.seen sets.old) (free_proof (Some part)) lists.now
-        → AreTested (S.seen sets.old).over
-        (asked_lines free_visited free_avoided (free_proof (Some part) (free.now.constraint - 1))
-        (free_demand (S.seen sets.old).over part (map_free_entry (region (S.seen sets.old)) free.now))
-        (entry_of (map_rule (region (S.seen sets.old)) free.now.entry.rule))) line.old yes line.new) }
+        → AreTested (S.seen sets.old).over (asked_lines free_visited free_avoided
+        (free_proof (Some part) (free.now.constraint - 1)) (free_demand (S.seen sets.old).over part
+        (map_free_entry (region (S.seen sets.old)) free.now))
+        (entry_of (map_rule (region (S.seen sets.old)) free.now.entry.rule))) line.old yes
+        line.new) }
     ensures products { S.products sets.new ≤ S.products sets.old
         + rule_line_count free.now.entry.rule }
 {
@@ -179,8 +186,10 @@ pub fn free_entry_tests<S: StateSets>(
     requires all { frame.now.constraints ≡ constraints.All }
     requires lists { AreLive (S.seen sets.old) (lists_claims_slots lists.now) }
     requires few { length lists.now ≤ length (S.seen sets.old).over.constraints }
-    requires entries { AreLive (S.seen sets.old) (slots (entries_sets (map (λ e. e.entry) entries.now))) }
-    requires constraints { All (λ e. (1 ≤ e.constraint) × (e.constraint ≤ length lists.now)) entries.now }
+    requires entries { AreLive (S.seen sets.old)
+        (slots (entries_sets (map (λ e. e.entry) entries.now))) }
+    requires constraints { All (λ e. (1 ≤ e.constraint) × (e.constraint ≤ length lists.now))
+        entries.now }
     requires numbered { All (λ e. (1 ≤ e.entry.node)
         × (e.entry.node ≤ length (claims_at lists.now (e.constraint - 1)))) entries.now }
     requires fits { All (λ e. FitsConstraints 1 e.entry.rule) entries.now }

@@ -35,15 +35,19 @@ fn part_lines<S: StateSets>(
 ) -> Result<bool, SetRefusal>
     requires frame { IsFrame (S.seen sets.old) frame.now }
     requires all { frame.now.constraints ≡ constraints.All }
-    requires own { (k : ℕ) → IsFrameOf (S.seen sets.old) frame.now (free_proof (Some (map_free (region (S.seen sets.old)) part.now)) k) }
+    requires own { (k : ℕ)
+        → IsFrameOf (S.seen sets.old) frame.now
+        (free_proof (Some (map_free (region (S.seen sets.old)) part.now)) k) }
     requires live { AreLive (S.seen sets.old) (slots (free_sets part.now)) }
     requires shape { IsFreeInShape (S.seen sets.old).over part.now }
     requires lists { AreLists (S.seen sets.old) (S.seen sets.old).over lists.now }
     requires count { length lists.now ≡ length (S.seen sets.old).over.constraints }
-    requires claims { HaveClaims (S.seen sets.old).over (S.seen sets.old) (free_proof (Some (map_free (region (S.seen sets.old)) part.now))) lists.now }
+    requires claims { HaveClaims (S.seen sets.old).over (S.seen sets.old)
+        (free_proof (Some (map_free (region (S.seen sets.old)) part.now))) lists.now }
     ensures call { IsCall 8 (S.seen sets.old) (S.seen sets.new) [] result }
-    ensures tested { IfOk result (λ yes. AreTested (S.seen sets.old).over
-        (free_lines (S.seen sets.old).over (Some (map_free (region (S.seen sets.old)) part.now))) line.old yes line.new) }
+    ensures tested { IfOk result
+        (λ yes. AreTested (S.seen sets.old).over (free_lines (S.seen sets.old).over
+        (Some (map_free (region (S.seen sets.old)) part.now))) line.old yes line.new) }
     ensures products { S.products sets.new ≤ S.products sets.old + free_line_count part.now }
 {
     count(line);
@@ -69,10 +73,14 @@ pub fn free_block<'a, S: StateSets>(
     requires shape { IsFreeInShape model.now part.now }
     requires lists { AreLists (S.seen sets.old) model.now lists.now }
     requires count { length lists.now ≡ length model.now.constraints }
-    requires claims { HaveClaims model.now (S.seen sets.old) (free_proof (Some (map_free (region (S.seen sets.old)) part.now))) lists.now }
+    requires claims { HaveClaims model.now (S.seen sets.old)
+        (free_proof (Some (map_free (region (S.seen sets.old)) part.now))) lists.now }
     ensures call { IsCall 8 (S.seen sets.old) (S.seen sets.new) [] result }
-    ensures tested { IfOk result (λ yes. AreTested model.now
-        (free_lines model.now (Some (map_free (region (S.seen sets.old)) part.now))) line.old yes line.new) }
+    ensures tested { IfOk result
+        (λ yes.
+        AreTested model.now
+        (free_lines model.now (Some (map_free (region (S.seen sets.old)) part.now))) line.old yes
+        line.new) }
     ensures products { S.products sets.new ≤ S.products sets.old + free_line_count part.now }
 {
     let fair = &part.fair;

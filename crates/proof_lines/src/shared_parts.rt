@@ -30,9 +30,11 @@ fn nonfair_lines<S: StateSets>(
     requires avoids { All (Avoids (constraints_count frame.now.constraints)) nonfair.now }
     requires live { AreLive (S.seen sets.old) (slots (layer_sets nonfair.now)) }
     ensures call { IsCall 6 (S.seen sets.old) (S.seen sets.new) [] result }
-    ensures tested { IfOk result (λ yes. AreTested (S.seen sets.old).over
-        ([] ∷ layer_lines (constraint_list (S.seen sets.old) frame.now.constraints false) everything nothing nothing
-        (map layer_of (map (map_layer (region (S.seen sets.old))) nonfair.now))) line.old yes line.new) }
+    ensures tested { IfOk result
+        (λ yes. AreTested (S.seen sets.old).over
+        ([] ∷ layer_lines (constraint_list (S.seen sets.old) frame.now.constraints false) everything
+        nothing nothing (map layer_of (map (map_layer (region (S.seen sets.old))) nonfair.now)))
+        line.old yes line.new) }
     ensures products { S.products sets.new ≤ S.products sets.old + length nonfair.now }
 {
     count(line);
@@ -57,8 +59,10 @@ fn fair_lines<S: StateSets>(
     requires count { length fair.now.reach ≡ constraints_count frame.now.constraints }
     requires live { AreLive (S.seen sets.old) (slots (fair_sets fair.now)) }
     ensures call { IsCall 6 (S.seen sets.old) (S.seen sets.new) [] result }
-    ensures tested { IfOk result (λ yes. AreTested (S.seen sets.old).over
-        ([] ∷ reach_lines (region (S.seen sets.old) fair.now.inside) (constraint_list (S.seen sets.old) frame.now.constraints true)
+    ensures tested { IfOk result
+        (λ yes. AreTested (S.seen sets.old).over
+        ([] ∷ reach_lines (region (S.seen sets.old) fair.now.inside)
+        (constraint_list (S.seen sets.old) frame.now.constraints true)
         (map (map (region (S.seen sets.old))) fair.now.reach)) line.old yes line.new) }
     ensures products { S.products sets.new ≤ S.products sets.old + fair_line_count fair.now }
 {
@@ -89,10 +93,13 @@ pub fn shared_lines<S: StateSets>(
     requires count { length fair.now.reach ≡ constraints_count frame.now.constraints }
     requires live { AreLive (S.seen sets.old) (slots (fair_sets fair.now)) }
     ensures call { IsCall 6 (S.seen sets.old) (S.seen sets.new) [] result }
-    ensures tested { IfOk result (λ yes. AreTested (S.seen sets.old).over
-        (shared (constraint_list (S.seen sets.old) frame.now.constraints true) (constraint_list (S.seen sets.old) frame.now.constraints false)
-        (map layer_of (map (map_layer (region (S.seen sets.old))) nonfair.now)) (region (S.seen sets.old) fair.now.inside)
-        (map (map (region (S.seen sets.old))) fair.now.reach)) line.old yes line.new) }
+    ensures tested { IfOk result
+        (λ yes. AreTested (S.seen sets.old).over
+        (shared (constraint_list (S.seen sets.old) frame.now.constraints true)
+        (constraint_list (S.seen sets.old) frame.now.constraints false)
+        (map layer_of (map (map_layer (region (S.seen sets.old))) nonfair.now))
+        (region (S.seen sets.old) fair.now.inside) (map (map (region (S.seen sets.old)))
+        fair.now.reach)) line.old yes line.new) }
     ensures products { S.products sets.new ≤ S.products sets.old
         + (length nonfair.now + fair_line_count fair.now) }
 {

@@ -48,10 +48,13 @@ fn listed_lines<S: StateSets>(
     requires ground { IsFreeGround (S.seen sets.old) ends.now.full.now nonfair.now part.now }
     requires lists { AreLists (S.seen sets.old) case.now.model.now lists.now }
     requires count { length lists.now ≡ length case.now.model.now.constraints }
-    requires claims { HaveClaims case.now.model.now (S.seen sets.old) (free_proof (Some (map_free (region (S.seen sets.old)) part.now))) lists.now }
-    ensures call { IsCall (2 * node_count (formula_in case.now) + 12) (S.seen sets.old) (S.seen sets.new) [] result }
-    ensures tested { IfOk result (λ yes. AreTested case.now.model.now
-        (obligations case.now.model.now (formula_in case.now) (states_of (S.seen sets.old) case.now)) line.old yes line.new) }
+    requires claims { HaveClaims case.now.model.now (S.seen sets.old)
+        (free_proof (Some (map_free (region (S.seen sets.old)) part.now))) lists.now }
+    ensures call { IsCall (2 * node_count (formula_in case.now) + 12) (S.seen sets.old)
+        (S.seen sets.new) [] result }
+    ensures tested { IfOk result
+        (λ yes. AreTested case.now.model.now (obligations case.now.model.now (formula_in case.now)
+        (states_of (S.seen sets.old) case.now)) line.old yes line.new) }
     ensures products { S.products sets.new ≤ S.products sets.old
         + set_line_count case.now.proof.now }
 {
@@ -75,9 +78,11 @@ fn layered_lines<S: StateSets>(
     requires part { case.now.proof.now.free ≡ Some part.now }
     requires ends { AreEnds (S.seen sets.old) ends.now }
     requires ground { IsFreeGround (S.seen sets.old) ends.now.full.now nonfair.now part.now }
-    ensures call { IsCall (2 * (node_count (formula_in case.now) + constraint_nodes case.now.model.now) + 12) (S.seen sets.old) (S.seen sets.new) [] result }
-    ensures tested { IfOk result (λ yes. AreTested case.now.model.now
-        (obligations case.now.model.now (formula_in case.now) (states_of (S.seen sets.old) case.now)) line.old yes line.new) }
+    ensures call { IsCall (2 * (node_count (formula_in case.now) + constraint_nodes
+        case.now.model.now) + 12) (S.seen sets.old) (S.seen sets.new) [] result }
+    ensures tested { IfOk result
+        (λ yes. AreTested case.now.model.now (obligations case.now.model.now (formula_in case.now)
+        (states_of (S.seen sets.old) case.now)) line.old yes line.new) }
     ensures products { S.products sets.new ≤ S.products sets.old
         + set_line_count case.now.proof.now }
 {
@@ -99,9 +104,11 @@ fn part_then_block<S: StateSets>(
     requires case { IsCase (S.seen sets.old) case.now }
     requires part { case.now.proof.now.free ≡ Some part.now }
     requires ends { AreEnds (S.seen sets.old) ends.now }
-    ensures call { IsCall (2 * (node_count (formula_in case.now) + constraint_nodes case.now.model.now) + 13) (S.seen sets.old) (S.seen sets.new) [] result }
-    ensures tested { IfOk result (λ yes. AreTested case.now.model.now
-        (obligations case.now.model.now (formula_in case.now) (states_of (S.seen sets.old) case.now)) line.old yes line.new) }
+    ensures call { IsCall (2 * (node_count (formula_in case.now) + constraint_nodes
+        case.now.model.now) + 13) (S.seen sets.old) (S.seen sets.new) [] result }
+    ensures tested { IfOk result
+        (λ yes. AreTested case.now.model.now (obligations case.now.model.now (formula_in case.now)
+        (states_of (S.seen sets.old) case.now)) line.old yes line.new) }
     ensures products { S.products sets.new ≤ S.products sets.old
         + set_line_count case.now.proof.now }
 {
@@ -121,9 +128,11 @@ fn lines_between<S: StateSets>(
 ) -> Result<bool, SetRefusal>
     requires case { IsCase (S.seen sets.old) case.now }
     requires ends { AreEnds (S.seen sets.old) ends.now }
-    ensures call { IsCall (2 * (node_count (formula_in case.now) + constraint_nodes case.now.model.now) + 13) (S.seen sets.old) (S.seen sets.new) [] result }
-    ensures tested { IfOk result (λ yes. AreTested case.now.model.now
-        (obligations case.now.model.now (formula_in case.now) (states_of (S.seen sets.old) case.now)) line.old yes line.new) }
+    ensures call { IsCall (2 * (node_count (formula_in case.now) + constraint_nodes
+        case.now.model.now) + 13) (S.seen sets.old) (S.seen sets.new) [] result }
+    ensures tested { IfOk result
+        (λ yes. AreTested case.now.model.now (obligations case.now.model.now (formula_in case.now)
+        (states_of (S.seen sets.old) case.now)) line.old yes line.new) }
     ensures products { S.products sets.new ≤ S.products sets.old
         + set_line_count case.now.proof.now }
 {
@@ -147,9 +156,11 @@ pub fn test_lines<'a, S: StateSets>(
     requires leaves { HasModelLeaves model.now (ctl_of formula.now) }
     requires live { AreLive (S.seen sets.old) (proof_slots proof.now) }
     requires shape { IsInShape model.now (ctl_of formula.now) proof.now }
-    ensures call { IsCall (8 * (node_count (ctl_of formula.now) + constraint_nodes model.now + 2)) (S.seen sets.old) (S.seen sets.new) [] result }
-    ensures tested { IfOk result (λ yes. AreTested model.now
-        (obligations model.now (ctl_of formula.now) (over_states (S.seen sets.old) proof.now)) line.old yes line.new) }
+    ensures call { IsCall (8 * (node_count (ctl_of formula.now) + constraint_nodes model.now + 2))
+        (S.seen sets.old) (S.seen sets.new) [] result }
+    ensures tested { IfOk result
+        (λ yes. AreTested model.now (obligations model.now (ctl_of formula.now)
+        (over_states (S.seen sets.old) proof.now)) line.old yes line.new) }
     ensures products { S.products sets.new ≤ S.products sets.old + set_line_count proof.now }
 {
     let full = sets.full()?;
@@ -187,8 +198,10 @@ fn proves<S: StateSets>(
     requires over { (S.seen sets.old).over ≡ model.now }
     requires leaves { HasModelLeaves model.now (ctl_of formula.now) }
     requires live { AreLive (S.seen sets.old) (proof_slots proof.now) }
-    ensures call { IsCall (8 * (node_count (ctl_of formula.now) + constraint_nodes model.now + 2)) (S.seen sets.old) (S.seen sets.new) [] result }
-    ensures answer { IfOk result (λ yes. IsTrue yes ↔ IsProofOf model.now (ctl_of formula.now) (over_states (S.seen sets.old) proof.now)) }
+    ensures call { IsCall (8 * (node_count (ctl_of formula.now) + constraint_nodes model.now + 2))
+        (S.seen sets.old) (S.seen sets.new) [] result }
+    ensures answer { IfOk result (λ yes. IsTrue yes ↔ IsProofOf model.now (ctl_of formula.now)
+        (over_states (S.seen sets.old) proof.now)) }
     ensures products { S.products sets.new ≤ S.products sets.old + set_line_count proof.now }
 {
     if !is_in_shape(alloc, model, formula, proof)? {
@@ -225,7 +238,8 @@ pub fn obligations<S: StateSets>(
     requires over { (S.seen sets.old).over ≡ model.now }
     requires live { AreLive (S.seen sets.old) (proof_slots proof.now) }
     ensures call { IsCall (test_pins model.now spec) (S.seen sets.old) (S.seen sets.new) [] result }
-    ensures answer { IfOk result (λ yes. IsTrue yes ↔ ProvesSpec model.now spec (over_states (S.seen sets.old) proof.now)) }
+    ensures answer { IfOk result
+        (λ yes. IsTrue yes ↔ ProvesSpec model.now spec (over_states (S.seen sets.old) proof.now)) }
     ensures sound { IfOk result (λ yes. IsTrue yes → ClaimHolds model.now spec proof.now.claim) }
     ensures products { S.products sets.new ≤ S.products sets.old + set_line_count proof.now }
 {

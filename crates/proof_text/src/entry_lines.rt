@@ -60,7 +60,8 @@ fn sign_word(plus: bool) -> &'static [u8]
 
 // A node and a sign, and what stands behind them.
 fn push_signed(text: &mut Text, entry: &Entry<u32>) -> Result<(), AllocError>
-    ensures { OnOk result (text.new ≡ text.old ++ 32 ∷ decimal entry.now.node ++ 32 ∷ lines.sign_word entry.now.plus ++ rule_text entry.now.rule) }
+    ensures { OnOk result (text.new ≡ text.old ++ 32 ∷ decimal entry.now.node ++ 32
+        ∷ lines.sign_word entry.now.plus ++ rule_text entry.now.rule) }
 {
     push_spaced(text, entry.node)?;
     text.push(b" ")?;
@@ -76,7 +77,8 @@ fn push_entry(text: &mut Text, entry: &Entry<u32>) -> Result<(), AllocError>
 }
 
 pub(crate) fn push_entries(text: &mut Text, entries: &[Entry<u32>]) -> Result<(), AllocError>
-    ensures { OnOk result (text.new ≡ text.old ++ text_of (flat_map lines.entry_lines entries.now)) }
+    ensures { OnOk result (text.new ≡ text.old ++ text_of (flat_map lines.entry_lines
+        entries.now)) }
 {
     for entry in entries {
         push_entry(text, entry)?;
@@ -97,7 +99,8 @@ pub(crate) fn push_free_entries(
     text: &mut Text,
     entries: &[FreeEntry<u32>],
 ) -> Result<(), AllocError>
-    ensures { OnOk result (text.new ≡ text.old ++ text_of (flat_map lines.free_entry_lines entries.now)) }
+    ensures { OnOk result (text.new ≡ text.old ++ text_of (flat_map lines.free_entry_lines
+        entries.now)) }
 {
     for entry in entries {
         push_free_entry(text, entry)?;

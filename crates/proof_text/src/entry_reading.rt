@@ -51,7 +51,8 @@ fn head_in(
     requires nodes { node_views nodes.now ≡ nodes_from (ctl_of formula.now) 0 }
     requires few_nodes { node_count (ctl_of formula.now) ≤ 4294967295 }
     requires rising { AllPairs ComesBefore earlier.now }
-    ensures { Judges (FitsEntryHead (ctl_of formula.now) earlier.now) entry_head_line text.now result }
+    ensures { Judges (FitsEntryHead (ctl_of formula.now) earlier.now) entry_head_line text.now
+        result }
 {
     let head = signed_in(text)?;
     if !fits_head(alloc, head, formula, nodes, earlier) {
@@ -72,8 +73,8 @@ fn read_head(
     requires nodes { node_views nodes.now ≡ nodes_from (ctl_of formula.now) 0 }
     requires few_nodes { node_count (ctl_of formula.now) ≤ 4294967295 }
     requires rising { AllPairs ComesBefore earlier.now }
-    ensures { FindsNext (FitsEntryHead (ctl_of formula.now) earlier.now) (λ h. entry_head_line h ∷ [])
-        cursor.old result cursor.new }
+    ensures { FindsNext (FitsEntryHead (ctl_of formula.now) earlier.now)
+        (λ h. entry_head_line h ∷ []) cursor.old result cursor.new }
 {
     let line = cursor.line();
     let Some(text) = cursor.next() else {

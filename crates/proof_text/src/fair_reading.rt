@@ -15,7 +15,8 @@ use text_lines::faults::Fault;
 // The number of sets that lead to constraint k.
 fn reach_in(text: &[u8], k: usize) -> Option<u32>
     requires few { k ≤ 4294967295 }
-    ensures { Judges (λ n. n ≤ greatest_number) (λ n. lines.Words (codes "reach" ∷ decimal k ∷ decimal n ∷ [])) text.now result }
+    ensures { Judges (λ n. n ≤ greatest_number)
+        (λ n. lines.Words (codes "reach" ∷ decimal k ∷ decimal n ∷ [])) text.now result }
 {
     let (constraint, n) = numbers_behind(text, b"reach")?;
     if constraint as usize != k {
@@ -27,7 +28,9 @@ fn reach_in(text: &[u8], k: usize) -> Option<u32>
 fn read_reach_count(cursor: &mut Cursor<'_>, k: usize) -> Result<u32, Fault>
     requires room { cursor.old.line + length cursor.old.left ≤ 4294967295 }
     requires few { k ≤ 4294967295 }
-    ensures { Finds (λ n. n ≤ greatest_number) (λ n. lines.Words (codes "reach" ∷ decimal k ∷ decimal n ∷ []) ∷ []) cursor.old result cursor.new }
+    ensures { Finds (λ n. n ≤ greatest_number)
+        (λ n. lines.Words (codes "reach" ∷ decimal k ∷ decimal n ∷ []) ∷ []) cursor.old result
+        cursor.new }
 {
     let line = cursor.line();
     let Some(text) = cursor.next() else {
@@ -63,7 +66,8 @@ fn read_reaches(
     requires room { cursor.old.line + length cursor.old.left ≤ 4294967295 }
     requires few { count ≤ 4294967295 }
     requires some { 1 ≤ most }
-    ensures { Finds (AreLists most count) (lines.reach_lines 1) cursor.old (in_lists result) cursor.new }
+    ensures { Finds (AreLists most count) (lines.reach_lines 1) cursor.old (in_lists result)
+        cursor.new }
 {
     let mut lists = Vec::new(alloc);
     for k in 0..count {
@@ -78,7 +82,8 @@ fn read_reaches(
 fn read_inside(cursor: &mut Cursor<'_>, most: u64) -> Result<u32, Fault>
     requires room { cursor.old.line + length cursor.old.left ≤ 4294967295 }
     requires some { 1 ≤ most }
-    ensures { Finds (FitsSet most) (λ s. lines.Words (codes "fair" ∷ decimal s ∷ []) ∷ []) cursor.old result cursor.new }
+    ensures { Finds (FitsSet most) (λ s. lines.Words (codes "fair" ∷ decimal s ∷ []) ∷ [])
+        cursor.old result cursor.new }
 {
     let line = cursor.line();
     let Some(text) = cursor.next() else {

@@ -22,7 +22,8 @@ pub fn refusal_law(model: &Ruled)
 
 /// The nodes of each block of a proof file are a good table.
 pub fn nodes_law(model: &Ruled)
-    ensures { (file : File) (bytes : List ℕ) → Spells model.now file bytes → All (HasGoodNodes model.now) file.blocks }
+    ensures { (file : File) (bytes : List ℕ) → Spells model.now file bytes
+        → All (HasGoodNodes model.now) file.blocks }
 {}
 
 /// The header in declared order, with the texts of blocks of rising specifications behind it as

@@ -35,7 +35,8 @@ fn read_layer(cursor: &mut Cursor<'_>, count: usize, most: u64) -> Result<Layer<
     requires few { count ≤ 4294967295 }
     requires one { 1 ≤ count }
     requires some { 1 ≤ most }
-    ensures { Finds (FitsLayer count most) (λ l. lines.layer_line l ∷ []) cursor.old result cursor.new }
+    ensures { Finds (FitsLayer count most) (λ l. lines.layer_line l ∷ []) cursor.old result
+        cursor.new }
 {
     let line = cursor.line();
     let Some(text) = cursor.next() else {
@@ -56,7 +57,8 @@ pub(crate) fn read_layers(
     requires few { count ≤ 4294967295 }
     requires one { 1 ≤ count }
     requires some { 1 ≤ most }
-    ensures { Finds (AreLayers count most n) (map lines.layer_line) cursor.old (in_list result) cursor.new }
+    ensures { Finds (AreLayers count most n) (map lines.layer_line) cursor.old (in_list result)
+        cursor.new }
 {
     let mut layers = Vec::new(alloc);
     for _ in 0..n {
@@ -70,7 +72,8 @@ pub(crate) fn read_layers(
 
 fn read_layer_count(cursor: &mut Cursor<'_>) -> Result<u32, Fault>
     requires room { cursor.old.line + length cursor.old.left ≤ 4294967295 }
-    ensures { Finds (λ n. n ≤ greatest_number) (λ n. lines.counted (codes "nonfair") n ∷ []) cursor.old result cursor.new }
+    ensures { Finds (λ n. n ≤ greatest_number) (λ n. lines.counted (codes "nonfair") n ∷ [])
+        cursor.old result cursor.new }
 {
     let line = cursor.line();
     let Some(text) = cursor.next() else {
@@ -90,7 +93,8 @@ pub(crate) fn read_nonfair(
     requires few { count ≤ 4294967295 }
     requires one { 1 ≤ count }
     requires some { 1 ≤ most }
-    ensures { Finds (FitsLayers count most) lines.nonfair_lines cursor.old (in_list result) cursor.new }
+    ensures { Finds (FitsLayers count most) lines.nonfair_lines cursor.old (in_list result)
+        cursor.new }
 {
     let n = read_layer_count(cursor)?;
     let layers = read_layers(alloc, cursor, n, count, most)?;

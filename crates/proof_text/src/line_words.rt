@@ -27,7 +27,8 @@ pub(crate) fn takes_word(words: &mut Words<'_>, word: &[u8]) -> bool
 // The number that the next word writes. The word is taken in any case.
 pub(crate) fn takes_number(words: &mut Words<'_>) -> Option<u32>
     ensures some { IfSome result (λ n. words.old ≡ decimal n ∷ words.new) }
-    ensures none { result ≡ None → (n : ℕ) → n ≤ 4294967295 → (rest : List (List ℕ)) → words.old ≡ decimal n ∷ rest → ⊥ }
+    ensures none { result ≡ None → (n : ℕ) → n ≤ 4294967295 → (rest : List (List ℕ))
+        → words.old ≡ decimal n ∷ rest → ⊥ }
 {
     number(words.next()?)
 }
@@ -54,7 +55,8 @@ pub(crate) fn takes_last(words: &mut Words<'_>) -> Option<u32>
 // The number behind the word.
 fn number_left(words: &mut Words<'_>, word: &[u8]) -> Option<u32>
     ensures some { IfSome result (λ n. words.old ≡ word.now ∷ decimal n ∷ []) }
-    ensures none { result ≡ None → (n : ℕ) → n ≤ 4294967295 → words.old ≡ word.now ∷ decimal n ∷ [] → ⊥ }
+    ensures none { result ≡ None → (n : ℕ) → n ≤ 4294967295 → words.old ≡ word.now ∷ decimal n ∷ []
+        → ⊥ }
 {
     if !takes_word(words, word) {
         return None;
@@ -78,8 +80,10 @@ fn numbers_left(words: &mut Words<'_>, word: &[u8]) -> Option<(u32, u32)>
 
 // The number in a line of this word and a number.
 pub(crate) fn number_behind(text: &[u8], word: &[u8]) -> Option<u32>
-    ensures some { IfSome result (λ n. (n ≤ 4294967295) × AreWords text.now (word.now ∷ decimal n ∷ [])) }
-    ensures none { result ≡ None → (n : ℕ) → n ≤ 4294967295 → AreWords text.now (word.now ∷ decimal n ∷ []) → ⊥ }
+    ensures some { IfSome result (λ n. (n ≤ 4294967295)
+        × AreWords text.now (word.now ∷ decimal n ∷ [])) }
+    ensures none { result ≡ None → (n : ℕ) → n ≤ 4294967295
+        → AreWords text.now (word.now ∷ decimal n ∷ []) → ⊥ }
 {
     number_left(&mut Words::of(text), word)
 }

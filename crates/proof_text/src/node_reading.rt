@@ -59,7 +59,8 @@ fn read_node(
     table: &mut IndexSet<Triple>,
 ) -> Result<Triple, Fault>
     requires { cursor.old.line + length cursor.old.left ≤ 4294967295 }
-    ensures found { IsFound line_text (IsGoodLine levels) (FitsNode table.old.keys) (one_node table.old.keys) cursor.old result cursor.new }
+    ensures found { IsFound line_text (IsGoodLine levels) (FitsNode table.old.keys)
+        (one_node table.old.keys) cursor.old result cursor.new }
     ensures table { IfOk result (λ t. table.new.keys ≡ table.old.keys ++ t ∷ []) }
 {
     let line = cursor.line();
@@ -83,7 +84,8 @@ pub(crate) fn read_nodes(
     levels: u32,
 ) -> Result<Vec<Triple>, Fault>
     requires { cursor.old.line + length cursor.old.left ≤ 4294967295 }
-    ensures { IsFound line_text (IsGoodLine levels) (FitMany FitsNode count []) (lines_of_many one_node []) cursor.old (in_list result) cursor.new }
+    ensures { IsFound line_text (IsGoodLine levels) (FitMany FitsNode count [])
+        (lines_of_many one_node []) cursor.old (in_list result) cursor.new }
 {
     // a count reserves no memory: the table grows as nodes come
     let mut table = IndexSet::new(alloc);

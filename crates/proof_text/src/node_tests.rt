@@ -35,7 +35,8 @@ pub(crate) fn is_good(levels: u32, nodes: &[Triple], node: &Triple) -> bool
 
 /// Adds a node, and says whether it is none of the earlier ones.
 pub(crate) fn is_new(nodes: &mut IndexSet<Triple>, node: Triple) -> Result<bool, AllocError>
-    ensures { IfOk result (λ yes. MatchBool yes ((nodes.new.keys ≡ nodes.old.keys ++ node ∷ []) × (Contains nodes.old.keys node → ⊥)) (Contains nodes.old.keys node)) }
+    ensures { IfOk result (λ yes. MatchBool yes ((nodes.new.keys ≡ nodes.old.keys ++ node ∷ [])
+        × (Contains nodes.old.keys node → ⊥)) (Contains nodes.old.keys node)) }
 {
     let yes = nodes.insert(node)?;
     Ok(yes)

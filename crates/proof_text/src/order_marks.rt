@@ -16,8 +16,11 @@ pub(crate) fn all_set(marks: &[bool]) -> bool
 pub(crate) fn mark(names: &VariableNames<'_>, marks: &mut [bool], name: &[u8]) -> Option<usize>
     requires each { length marks.old ≡ length names.now }
     requires distinct { AreDistinct names.now }
-    ensures none { result ≡ None → (x : ℕ) → slice_get names.now x ≡ Some name.now → get_or marks.old x false ≡ true }
-    ensures some { (x : ℕ) → result ≡ Some x → (slice_get names.now x ≡ Some name.now) × (x < length marks.old) × (get_or marks.old x false ≡ false) × (marks.new ≡ set marks.old x true) }
+    ensures none { result ≡ None → (x : ℕ) → slice_get names.now x ≡ Some name.now
+        → get_or marks.old x false ≡ true }
+    ensures some { (x : ℕ) → result ≡ Some x → (slice_get names.now x ≡ Some name.now)
+        × (x < length marks.old) × (get_or marks.old x false ≡ false)
+        × (marks.new ≡ set marks.old x true) }
 {
     let x = names.place(name)?;
     if marks[x] {

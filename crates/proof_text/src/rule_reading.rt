@@ -18,7 +18,8 @@ use text_lines::faults::Fault;
 
 fn read_until_count(cursor: &mut Cursor<'_>) -> Result<u32, Fault>
     requires room { cursor.old.line + length cursor.old.left ≤ 4294967295 }
-    ensures { Finds (λ n. n ≤ greatest_number) (λ n. lines.counted (codes "until") n ∷ []) cursor.old result cursor.new }
+    ensures { Finds (λ n. n ≤ greatest_number) (λ n. lines.counted (codes "until") n ∷ [])
+        cursor.old result cursor.new }
 {
     let line = cursor.line();
     let Some(text) = cursor.next() else {
@@ -31,8 +32,8 @@ fn read_until_count(cursor: &mut Cursor<'_>) -> Result<u32, Fault>
 fn read_untils(alloc: Global, cursor: &mut Cursor<'_>, most: u64) -> Result<Vec<u32>, Fault>
     requires room { cursor.old.line + length cursor.old.left ≤ 4294967295 }
     requires some { 1 ≤ most }
-    ensures { Finds (FitsSets most) (λ sets. lines.counted (codes "until") (length sets) ∷ map lines.set_line sets)
-        cursor.old (in_list result) cursor.new }
+    ensures { Finds (FitsSets most) (λ sets. lines.counted (codes "until") (length sets)
+        ∷ map lines.set_line sets) cursor.old (in_list result) cursor.new }
 {
     let n = read_until_count(cursor)?;
     let sets = read_sets(alloc, cursor, n, most)?;
@@ -42,7 +43,8 @@ fn read_untils(alloc: Global, cursor: &mut Cursor<'_>, most: u64) -> Result<Vec<
 fn read_ex(cursor: &mut Cursor<'_>, most: u64) -> Result<Rule<u32>, Fault>
     requires room { cursor.old.line + length cursor.old.left ≤ 4294967295 }
     requires some { 1 ≤ most }
-    ensures { (count : ℕ) → Finds (FitsBody count most head_of_kind.Ex) body_lines cursor.old (in_rule result) cursor.new }
+    ensures { (count : ℕ) → Finds (FitsBody count most head_of_kind.Ex) body_lines cursor.old
+        (in_rule result) cursor.new }
 {
     let set = read_set(cursor, most)?;
     Ok(Rule::EX(set))
@@ -51,7 +53,8 @@ fn read_ex(cursor: &mut Cursor<'_>, most: u64) -> Result<Rule<u32>, Fault>
 fn read_ax(cursor: &mut Cursor<'_>, most: u64) -> Result<Rule<u32>, Fault>
     requires room { cursor.old.line + length cursor.old.left ≤ 4294967295 }
     requires some { 1 ≤ most }
-    ensures { (count : ℕ) → Finds (FitsBody count most head_of_kind.Ax) body_lines cursor.old (in_rule result) cursor.new }
+    ensures { (count : ℕ) → Finds (FitsBody count most head_of_kind.Ax) body_lines cursor.old
+        (in_rule result) cursor.new }
 {
     let set = read_set(cursor, most)?;
     Ok(Rule::AX(set))
@@ -60,7 +63,8 @@ fn read_ax(cursor: &mut Cursor<'_>, most: u64) -> Result<Rule<u32>, Fault>
 fn read_ar(cursor: &mut Cursor<'_>, most: u64) -> Result<Rule<u32>, Fault>
     requires room { cursor.old.line + length cursor.old.left ≤ 4294967295 }
     requires some { 1 ≤ most }
-    ensures { (count : ℕ) → Finds (FitsBody count most head_of_kind.Ar) body_lines cursor.old (in_rule result) cursor.new }
+    ensures { (count : ℕ) → Finds (FitsBody count most head_of_kind.Ar) body_lines cursor.old
+        (in_rule result) cursor.new }
 {
     let set = read_set(cursor, most)?;
     Ok(Rule::AR(set))
@@ -69,7 +73,8 @@ fn read_ar(cursor: &mut Cursor<'_>, most: u64) -> Result<Rule<u32>, Fault>
 fn read_eu(alloc: Global, cursor: &mut Cursor<'_>, n: u32, most: u64) -> Result<Rule<u32>, Fault>
     requires room { cursor.old.line + length cursor.old.left ≤ 4294967295 }
     requires some { 1 ≤ most }
-    ensures { (count : ℕ) → Finds (FitsBody count most (head_of_kind.Eu n)) body_lines cursor.old (in_rule result) cursor.new }
+    ensures { (count : ℕ) → Finds (FitsBody count most (head_of_kind.Eu n)) body_lines cursor.old
+        (in_rule result) cursor.new }
 {
     let sets = read_sets(alloc, cursor, n, most)?;
     Ok(Rule::EU(sets))
@@ -86,7 +91,8 @@ fn read_au(
     requires few { count ≤ 4294967295 }
     requires one { 1 ≤ count }
     requires some { 1 ≤ most }
-    ensures { Finds (FitsBody count most (head_of_kind.Au n)) body_lines cursor.old (in_rule result) cursor.new }
+    ensures { Finds (FitsBody count most (head_of_kind.Au n)) body_lines cursor.old (in_rule result)
+        cursor.new }
 {
     let layers = read_layers(alloc, cursor, n, count, most)?;
     Ok(Rule::AU(layers))
@@ -101,7 +107,8 @@ fn read_er(
     requires room { cursor.old.line + length cursor.old.left ≤ 4294967295 }
     requires few { count ≤ 4294967295 }
     requires some { 1 ≤ most }
-    ensures { Finds (FitsBody count most head_of_kind.Er) body_lines cursor.old (in_rule result) cursor.new }
+    ensures { Finds (FitsBody count most head_of_kind.Er) body_lines cursor.old (in_rule result)
+        cursor.new }
 {
     let fair = read_fair(alloc, cursor, count, most)?;
     let untils = read_untils(alloc, cursor, most)?;

@@ -83,7 +83,8 @@ fn push_reach(text: &mut Text, k: usize, sets: &[u32]) -> Result<(), AllocError>
 
 // Those of all constraints.
 fn push_reaches(text: &mut Text, lists: &[Vec<u32>]) -> Result<(), AllocError>
-    ensures { OnOk result (text.new ≡ text.old ++ text_of (lines.reach_lines 1 (map (λ sets. sets.items) lists.now))) }
+    ensures { OnOk result (text.new ≡ text.old ++ text_of
+        (lines.reach_lines 1 (map (λ sets. sets.items) lists.now))) }
 {
     for (k, sets) in lists.iter().enumerate() {
         push_reach(text, k + 1, sets)?;

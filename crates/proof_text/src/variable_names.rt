@@ -37,7 +37,8 @@ impl<'m> VariableNames<'m> {
 
     /// The place of a name.
     pub(crate) fn place(&self, name: &[u8]) -> Option<usize>
-        ensures { MatchOption result (Contains self.now name.now → ⊥) (λ x. slice_get self.now x ≡ Some name.now) }
+        ensures { MatchOption result (Contains self.now name.now → ⊥)
+            (λ x. slice_get self.now x ≡ Some name.now) }
     {
         self.set.get_index_of(name)
     }

@@ -48,7 +48,8 @@ fn push_names(text: &mut Text, vars: &[FlatVar]) -> Result<(), AllocError>
 }
 
 fn push_version(text: &mut Text, model: &Ruled) -> Result<(), AllocError>
-    ensures { OnOk result (text.new ≡ text.old ++ text_of (lines.Words (codes "smvproof" ∷ lines.version_word model.now ∷ []) ∷ [])) }
+    ensures { OnOk result (text.new ≡ text.old ++ text_of
+        (lines.Words (codes "smvproof" ∷ lines.version_word model.now ∷ []) ∷ [])) }
 {
     text.push(b"smvproof ")?;
     text.push(version(model))?;
@@ -58,7 +59,8 @@ fn push_version(text: &mut Text, model: &Ruled) -> Result<(), AllocError>
 // The variables in declared order.
 #[tactic(auto, using(crate::proofs::WrittenLines::spaced_is))]
 fn push_order(text: &mut Text, model: &Ruled) -> Result<(), AllocError>
-    ensures { OnOk result (text.new ≡ text.old ++ text_of (lines.Words (codes "order" ∷ map (λ v. v.name) model.now.vars) ∷ [])) }
+    ensures { OnOk result (text.new ≡ text.old ++ text_of (lines.Words (codes "order" ∷ map
+        (λ v. v.name) model.now.vars) ∷ [])) }
 {
     text.push(b"order")?;
     push_names(text, model.vars())?;
@@ -68,7 +70,9 @@ fn push_order(text: &mut Text, model: &Ruled) -> Result<(), AllocError>
 /// The first two lines of a file whose variables stand in declared order.
 #[tactic(auto, using(crate::proofs::WrittenLines::header_is))]
 pub fn write_header(alloc: Global, model: &Ruled) -> Result<Vec<u8>, AllocError>
-    ensures { IfOk result (λ text. text.items ≡ text_of (header_lines model.now (range_with_len 0 (length model.now.vars)))) }
+    ensures { IfOk result
+        (λ text. text.items
+        ≡ text_of (header_lines model.now (range_with_len 0 (length model.now.vars)))) }
 {
     let mut text = Text::new(alloc);
     push_version(&mut text, model)?;
@@ -128,7 +132,8 @@ fn push_free(text: &mut Text, free: &Option<FreePart<u32>>) -> Result<(), AllocE
 
 // The values of a state, each behind a space.
 fn push_values(text: &mut Text, model: &Ruled, values: &[Value]) -> Result<(), AllocError>
-    ensures { OnOk result (text.new ≡ text.old ++ spaced (lines.value_words model.now 0 values.now)) }
+    ensures { OnOk result (text.new ≡ text.old ++ spaced (lines.value_words model.now 0
+        values.now)) }
 {
     for (x, value) in values.iter().enumerate() {
         text.push(b" ")?;
@@ -139,7 +144,8 @@ fn push_values(text: &mut Text, model: &Ruled, values: &[Value]) -> Result<(), A
 
 #[tactic(auto, using(crate::proofs::WrittenLines::spaced_is))]
 fn push_state(text: &mut Text, model: &Ruled, state: &State) -> Result<(), AllocError>
-    ensures { OnOk result (text.new ≡ text.old ++ text_of (lines.Words (codes "at" ∷ lines.value_words model.now 0 state.now) ∷ [])) }
+    ensures { OnOk result (text.new ≡ text.old ++ text_of
+        (lines.Words (codes "at" ∷ lines.value_words model.now 0 state.now) ∷ [])) }
 {
     text.push(b"at")?;
     push_values(text, model, state.values())?;
@@ -175,7 +181,8 @@ fn claim_word(claim: bool) -> &'static [u8]
 }
 
 fn push_claim(text: &mut Text, spec: u32, claim: bool) -> Result<(), AllocError>
-    ensures { OnOk result (text.new ≡ text.old ++ text_of (lines.Words (codes "spec" ∷ decimal spec ∷ lines.claim_word claim ∷ []) ∷ [])) }
+    ensures { OnOk result (text.new ≡ text.old ++ text_of
+        (lines.Words (codes "spec" ∷ decimal spec ∷ lines.claim_word claim ∷ []) ∷ [])) }
 {
     text.push(b"spec")?;
     push_spaced(text, spec)?;
@@ -204,7 +211,15 @@ pub fn write_block(
     proof: &Proof<u32>,
     nodes: &[Triple],
 ) -> Result<Vec<u8>, AllocError>
-    ensures { IfOk result (λ text. text.items ≡ text_of (block_lines model.now (record { spec = spec; nodes = nodes.now; proof = proof.now; first = 0 }))) }
+    ensures { IfOk result
+        (λ text. text.items
+        ≡ text_of
+        (block_lines model.now (record {
+          spec = spec;
+          nodes = nodes.now;
+          proof = proof.now;
+          first = 0;
+        }))) }
 {
     let mut text = Text::new(alloc);
     push_claim(&mut text, spec, proof.claim)?;

@@ -15,7 +15,7 @@ use Rattle.region_sets.specs.declared.pins.SetRefusal.{SetRefusal}
 use Rattle.region_sets.specs.declared.pins.SetRefusal.TheVariants.{Memory}
 use Rattle.region_sets.specs.Sets.{Sets, Adds, IsCall, IsLive, has_state, is_one_of, region}
 use Rattle.region_sets.specs.Ranks.{AreLive, slots, regions}
-use Rattle.region_sets.specs.States.{state_count}
+use Rattle.path_laws.specs.StateCount.{state_count}
 use Rattle.region_sets.proofs.Changes.{adds_after}
 use Rattle.region_sets.proofs.Calls.{holds_more, then_call, let_go, stays_over_release}
 use Rattle.region_sets.proofs.Released.{slots-append}

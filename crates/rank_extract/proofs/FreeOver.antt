@@ -14,7 +14,7 @@ use Rattle.region_sets.specs.declared.pins.Pin.{Pin}
 use Rattle.region_sets.specs.declared.pins.SetRefusal.{SetRefusal}
 use Rattle.region_sets.specs.Sets.{Sets, Adds, IsCall, is_one_of, region}
 use Rattle.region_sets.specs.Ranks.{slots, regions, lists_slots, list_regions}
-use Rattle.region_sets.specs.States.{state_count}
+use Rattle.path_laws.specs.StateCount.{state_count}
 use Rattle.region_sets.proofs.Slots.{is_one_of-left, is_one_of-right}
 use Rattle.region_sets.proofs.Calls.{then_call, let_go, stays_over_release}
 use Rattle.region_sets.proofs.Released.{slots-append}

@@ -5,7 +5,7 @@ use Rattle.kripke_model.specs.Ctl.{Ctl}
 use Rattle.kripke_model.specs.Signs.{node_count}
 use Rattle.kripke_model.specs.System.{System}
 use Rattle.path_laws.specs.StateSet.{StateSet}
-use Rattle.region_sets.specs.States.{state_count}
+use Rattle.path_laws.specs.StateCount.{state_count}
 use Rattle.fair_rules.specs.Rules.{reach_at}
 use Rattle.fair_fixpoint.specs.Runs.{LayerView}
 use Rattle.fair_fixpoint.specs.Pruned.{IsPrunedTo, AreKept}

@@ -12,7 +12,7 @@ use Rattle.region_sets.specs.declared.pins.Pin.{Pin}
 use Rattle.region_sets.specs.declared.pins.SetRefusal.{SetRefusal}
 use Rattle.region_sets.specs.Sets.{Sets, Adds, IsCall, region}
 use Rattle.region_sets.specs.Ranks.{slots, list_regions}
-use Rattle.region_sets.specs.States.{state_count}
+use Rattle.path_laws.specs.StateCount.{state_count}
 use Rattle.region_sets.proofs.Changes.{swaps}
 use Rattle.region_sets.proofs.Calls.{then_call, let_go, holds_more, reorders}
 use Rattle.region_sets.proofs.Released.{slots-append}

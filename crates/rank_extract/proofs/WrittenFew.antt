@@ -5,7 +5,7 @@ use Rattle.kripke_model.specs.Ctl.{Ctl}
 use Rattle.kripke_model.specs.Signs.{node_count}
 use Rattle.kripke_model.specs.System.{System, State, constraint_count}
 use Rattle.path_laws.specs.StateSet.{StateSet}
-use Rattle.region_sets.specs.States.{state_count}
+use Rattle.path_laws.specs.StateCount.{state_count}
 use Rattle.fair_fixpoint.specs.Formulas.{node_pins}
 use Rattle.fair_fixpoint.specs.Nodes.{NodeView, AreComputed}
 use Rattle.fair_fixpoint.specs.Pruned.{IsPrunedTo}

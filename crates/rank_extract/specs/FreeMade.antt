@@ -9,7 +9,7 @@ use Rattle.region_sets.specs.declared.pins.SetRefusal.{SetRefusal}
 use Rattle.region_sets.specs.declared.pins.SetRefusal.TheVariants.{Memory}
 use Rattle.region_sets.specs.Ranks.{slots}
 use Rattle.region_sets.specs.Sets.{Sets, Adds, IsCall, region}
-use Rattle.region_sets.specs.States.{state_count}
+use Rattle.path_laws.specs.StateCount.{state_count}
 use Rattle.fair_rules.specs.FreePart.{constraint_nodes, path_nodes}
 use Rattle.fair_fixpoint.specs.Formulas.{node_pins}
 use Rattle.fair_fixpoint.specs.Runs.{LayerView}

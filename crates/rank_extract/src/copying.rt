@@ -16,7 +16,8 @@ use std::alloc::{AllocFailed, Global};
 /// Adds a copy of the set.
 fn add_copy<S: StateSets>(sets: &mut S, set: &Pin, copies: &mut Vec<Pin>) -> Result<(), SetRefusal>
     requires { IsLive (S.seen sets.old) set.now.slot }
-    ensures { AreAdded pin_own region one (S.seen sets.old) (S.seen sets.new) (region (S.seen sets.old) set.now ∷ []) copies.old.items copies.new.items result }
+    ensures { AreAdded pin_own region one (S.seen sets.old) (S.seen sets.new)
+        (region (S.seen sets.old) set.now ∷ []) copies.old.items copies.new.items result }
 {
     let copy = sets.copy(set)?;
     match copies.push(copy) {
@@ -36,7 +37,8 @@ fn add_copies<S: StateSets>(
     copies: &mut Vec<Pin>,
 ) -> Result<(), SetRefusal>
     requires { AreLive (S.seen sets.old) (slots list.now) }
-    ensures { AreAdded pin_own region one (S.seen sets.old) (S.seen sets.new) (regions (S.seen sets.old) list.now) copies.old.items copies.new.items result }
+    ensures { AreAdded pin_own region one (S.seen sets.old) (S.seen sets.new)
+        (regions (S.seen sets.old) list.now) copies.old.items copies.new.items result }
 {
     for k in 0..list.len() {
         add_copy(sets, &list[k], copies)?;
@@ -51,7 +53,8 @@ pub fn copy_list<S: StateSets>(
     list: &[Pin],
 ) -> Result<Vec<Pin>, SetRefusal>
     requires { AreLive (S.seen sets.old) (slots list.now) }
-    ensures { IsMade list_own list_seen many (S.seen sets.old) (S.seen sets.new) (regions (S.seen sets.old) list.now) result }
+    ensures { IsMade list_own list_seen many (S.seen sets.old) (S.seen sets.new)
+        (regions (S.seen sets.old) list.now) result }
 {
     let mut copies = Vec::new(alloc);
     match add_copies(sets, list, &mut copies) {
@@ -71,7 +74,8 @@ fn add_list<S: StateSets>(
     copies: &mut Vec<Vec<Pin>>,
 ) -> Result<(), SetRefusal>
     requires { AreLive (S.seen sets.old) (slots list.now) }
-    ensures { AreAdded list_own list_seen many (S.seen sets.old) (S.seen sets.new) (regions (S.seen sets.old) list.now ∷ []) copies.old.items copies.new.items result }
+    ensures { AreAdded list_own list_seen many (S.seen sets.old) (S.seen sets.new)
+        (regions (S.seen sets.old) list.now ∷ []) copies.old.items copies.new.items result }
 {
     let copy = copy_list(alloc, sets, list)?;
     match copies.push(copy) {
@@ -92,7 +96,8 @@ fn add_lists<S: StateSets>(
     copies: &mut Vec<Vec<Pin>>,
 ) -> Result<(), SetRefusal>
     requires { AreLive (S.seen sets.old) (lists_slots lists.now) }
-    ensures { AreAdded list_own list_seen many (S.seen sets.old) (S.seen sets.new) (list_regions (S.seen sets.old) lists.now) copies.old.items copies.new.items result }
+    ensures { AreAdded list_own list_seen many (S.seen sets.old) (S.seen sets.new)
+        (list_regions (S.seen sets.old) lists.now) copies.old.items copies.new.items result }
 {
     for k in 0..lists.len() {
         add_list(alloc, sets, &lists[k], copies)?;
@@ -107,7 +112,8 @@ pub fn copy_lists<S: StateSets>(
     lists: &[Vec<Pin>],
 ) -> Result<Vec<Vec<Pin>>, SetRefusal>
     requires { AreLive (S.seen sets.old) (lists_slots lists.now) }
-    ensures { IsMade lists_own lists_seen (total many) (S.seen sets.old) (S.seen sets.new) (list_regions (S.seen sets.old) lists.now) result }
+    ensures { IsMade lists_own lists_seen (total many) (S.seen sets.old) (S.seen sets.new)
+        (list_regions (S.seen sets.old) lists.now) result }
 {
     let mut copies = Vec::new(alloc);
     match add_lists(alloc, sets, lists, &mut copies) {
@@ -126,7 +132,9 @@ fn add_layer<S: StateSets>(
     copies: &mut Vec<Layer<Pin>>,
 ) -> Result<(), SetRefusal>
     requires { IsLive (S.seen sets.old) layer.now.set.slot }
-    ensures { AreAdded layer_own layer_seen one (S.seen sets.old) (S.seen sets.new) (written_layer (layer_view (S.seen sets.old) layer.now) ∷ []) copies.old.items copies.new.items result }
+    ensures { AreAdded layer_own layer_seen one (S.seen sets.old) (S.seen sets.new)
+        (written_layer (layer_view (S.seen sets.old) layer.now) ∷ []) copies.old.items
+        copies.new.items result }
 {
     let set = sets.copy(&layer.set)?;
     match copies.push(Layer {
@@ -150,7 +158,9 @@ fn add_layers<S: StateSets>(
     copies: &mut Vec<Layer<Pin>>,
 ) -> Result<(), SetRefusal>
     requires { AreLive (S.seen sets.old) (layers_slots layers.now) }
-    ensures { AreAdded layer_own layer_seen one (S.seen sets.old) (S.seen sets.new) (map written_layer (layer_views (S.seen sets.old) layers.now)) copies.old.items copies.new.items result }
+    ensures { AreAdded layer_own layer_seen one (S.seen sets.old) (S.seen sets.new)
+        (map written_layer (layer_views (S.seen sets.old) layers.now)) copies.old.items
+        copies.new.items result }
 {
     for k in 0..layers.len() {
         add_layer(sets, &layers[k], copies)?;
@@ -165,7 +175,8 @@ pub fn copy_layers<S: StateSets>(
     layers: &[RunLayer],
 ) -> Result<Vec<Layer<Pin>>, SetRefusal>
     requires { AreLive (S.seen sets.old) (layers_slots layers.now) }
-    ensures { IsMade layers_own layers_seen many (S.seen sets.old) (S.seen sets.new) (map written_layer (layer_views (S.seen sets.old) layers.now)) result }
+    ensures { IsMade layers_own layers_seen many (S.seen sets.old) (S.seen sets.new)
+        (map written_layer (layer_views (S.seen sets.old) layers.now)) result }
 {
     let mut copies = Vec::new(alloc);
     match add_layers(sets, layers, &mut copies) {
@@ -187,7 +198,8 @@ pub fn copy_fair<S: StateSets>(
     requires inside { IsLive (S.seen sets.old) inside.now.slot }
     requires reach { AreLive (S.seen sets.old) (lists_slots reach.now) }
     ensures { IsMade fair_own fair_seen fair_size (S.seen sets.old) (S.seen sets.new)
-        (fair_of (region (S.seen sets.old) inside.now) (list_regions (S.seen sets.old) reach.now)) result }
+        (fair_of (region (S.seen sets.old) inside.now) (list_regions (S.seen sets.old) reach.now))
+        result }
 {
     let inside = sets.copy(inside)?;
     match copy_lists(alloc, sets, reach) {

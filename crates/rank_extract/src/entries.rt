@@ -108,7 +108,8 @@ fn add_entry<S: StateSets>(
     requires fair { IsLive (S.seen sets.old) fair.now.slot }
     requires node { AreLive (S.seen sets.old) (node_slots node.now) }
     ensures { AreAdded entry_own entry_seen entry_size (S.seen sets.old) (S.seen sets.new)
-        (sign_entry (S.seen sets.old) fair.now node.now number some plus ∷ []) entries.old.items entries.new.items result }
+        (sign_entry (S.seen sets.old) fair.now node.now number some plus ∷ []) entries.old.items
+        entries.new.items result }
 {
     let rule = node_rule(alloc, sets, fair, node, is_some_there(some, plus), plus)?;
     match entries.push(Entry {
@@ -142,8 +143,9 @@ fn add_if<S: StateSets>(
     requires first { 1 ≤ number }
     requires there { number ≤ length nodes.now }
     ensures { AreAdded entry_own entry_seen entry_size (S.seen sets.old) (S.seen sets.new)
-        (if wanted then entry_at (region (S.seen sets.old) fair.now) (node_of (S.seen sets.old) nodes.now) number some plus ∷ [] else [])
-        entries.old.items entries.new.items result }
+        (if wanted then entry_at (region (S.seen sets.old) fair.now)
+        (node_of (S.seen sets.old) nodes.now) number some plus ∷ [] else []) entries.old.items
+        entries.new.items result }
 {
     if wanted {
         let node = &nodes[number as usize - 1];
@@ -169,8 +171,8 @@ fn add_own<S: StateSets>(
     requires first { 1 ≤ number }
     requires there { number ≤ length nodes.now }
     ensures { AreAdded entry_own entry_seen entry_size (S.seen sets.old) (S.seen sets.new)
-        (own_entries (region (S.seen sets.old) fair.now) (node_of (S.seen sets.old) nodes.now) number some signs.plus signs.minus)
-        entries.old.items entries.new.items result }
+        (own_entries (region (S.seen sets.old) fair.now) (node_of (S.seen sets.old) nodes.now)
+        number some signs.plus signs.minus) entries.old.items entries.new.items result }
 {
     add_if(
         alloc, sets, fair, nodes, number, some, true, signs.plus, entries,
@@ -204,8 +206,8 @@ fn add_node<S: StateSets>(
     requires first { 1 ≤ number }
     requires there { number ≤ length nodes.now }
     ensures { AreAdded entry_own entry_seen entry_size (S.seen sets.old) (S.seen sets.new)
-        (kind_entries (region (S.seen sets.old) fair.now) (node_of (S.seen sets.old) nodes.now) number kind signs.plus signs.minus)
-        entries.old.items entries.new.items result }
+        (kind_entries (region (S.seen sets.old) fair.now) (node_of (S.seen sets.old) nodes.now)
+        number kind signs.plus signs.minus) entries.old.items entries.new.items result }
 {
     match kind {
         Kind::Connected(_) => Ok(()),
@@ -234,8 +236,9 @@ fn add_from<S: StateSets>(
     requires there { number + node_count (ctl_of formula.now) ≤ length nodes.now + 1 }
     requires few { length nodes.now < 4294967295 }
     ensures added { AreAdded entry_own entry_seen entry_size (S.seen sets.old) (S.seen sets.new)
-        (wanted (region (S.seen sets.old) fair.now) (node_of (S.seen sets.old) nodes.now) (ctl_of formula.now) number signs.plus signs.minus)
-        entries.old.items entries.new.items result }
+        (wanted (region (S.seen sets.old) fair.now) (node_of (S.seen sets.old) nodes.now)
+        (ctl_of formula.now) number signs.plus signs.minus) entries.old.items entries.new.items
+        result }
     ensures next { IfOk result (λ next. next ≡ number + node_count (ctl_of formula.now)) }
 {
     match shape_of(formula) {
@@ -272,8 +275,8 @@ pub fn add_entries<S: StateSets>(
     requires count { length nodes.now ≡ node_count (ctl_of formula.now) }
     requires few { length nodes.now < 4294967295 }
     ensures { AreAdded entry_own entry_seen entry_size (S.seen sets.old) (S.seen sets.new)
-        (wanted (region (S.seen sets.old) fair.now) (node_of (S.seen sets.old) nodes.now) (ctl_of formula.now) 1 plus minus)
-        entries.old.items entries.new.items result }
+        (wanted (region (S.seen sets.old) fair.now) (node_of (S.seen sets.old) nodes.now)
+        (ctl_of formula.now) 1 plus minus) entries.old.items entries.new.items result }
 {
     match add_from(
         alloc,
@@ -305,7 +308,8 @@ pub fn all_entries<S: StateSets>(
     requires count { length nodes.now ≡ node_count (ctl_of formula.now) }
     requires few { length nodes.now < 4294967295 }
     ensures { IsMade entries_own entries_seen (total entry_size) (S.seen sets.old) (S.seen sets.new)
-        (wanted (region (S.seen sets.old) fair.now) (node_of (S.seen sets.old) nodes.now) (ctl_of formula.now) 1 plus minus) result }
+        (wanted (region (S.seen sets.old) fair.now) (node_of (S.seen sets.old) nodes.now)
+        (ctl_of formula.now) 1 plus minus) result }
 {
     let mut entries = Vec::new(alloc);
     match add_entries(alloc, sets, fair, nodes, formula, plus, minus, &mut entries) {

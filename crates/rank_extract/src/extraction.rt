@@ -4,7 +4,7 @@ ghost use Rattle.std.specs.Prelude.{◌≡◌, ◌≤◌, ◌+◌, Some, IfOk, I
 ghost use Rattle.kripke_model.specs.WellFormed.{ctl_of};
 ghost use Rattle.fair_rules.specs.FreePart.{constraint_nodes};
 ghost use Rattle.region_sets.specs.Sets.{IsCall};
-ghost use Rattle.region_sets.specs.States.{state_count};
+ghost use Rattle.path_laws.specs.StateCount.{state_count};
 ghost use Rattle.fair_fixpoint.specs.SatSets.{pin_bound};
 ghost use Rattle.proof_form.specs.Meaning.{ProvesSpec};
 ghost use Rattle.proof_form.specs.Pinned.{over_states, proof_result_slots, spec_nodes};
@@ -41,13 +41,18 @@ pub fn extract<S: StateSets>(
     at: Option<State>,
 ) -> Result<Proof<Pin>, SetRefusal>
     requires over { (S.seen sets.old).over ≡ model.now }
-    requires run { IsSomeAnd (shapes.spec_formula model.now spec) (λ f. IsLiveRun model.now f (S.seen sets.old) run.now) }
+    requires run { IsSomeAnd (shapes.spec_formula model.now spec)
+        (λ f. IsLiveRun model.now f (S.seen sets.old) run.now) }
     requires shown { Shows model.now (S.seen sets.old) run.now at }
-    ensures call { IsCall (pin_bound model.now (spec_nodes model.now spec + constraint_nodes model.now) (state_count model.now)) (S.seen sets.old) (S.seen sets.new) (proof_result_slots result) result }
-    ensures few { length (proof_result_slots result) ≤ pin_bound model.now (spec_nodes model.now spec + constraint_nodes model.now) (state_count model.now) }
+    ensures call { IsCall (pin_bound model.now (spec_nodes model.now spec + constraint_nodes
+        model.now) (state_count model.now)) (S.seen sets.old) (S.seen sets.new)
+        (proof_result_slots result) result }
+    ensures few { length (proof_result_slots result) ≤ pin_bound model.now
+        (spec_nodes model.now spec + constraint_nodes model.now) (state_count model.now) }
     ensures claim { IfOk result (λ proof. proof.claim ≡ is_none at) }
     ensures state { IfOk result (λ proof. proof.at ≡ at) }
-    ensures proof { IfOk result (λ proof. ProvesSpec model.now spec (over_states (S.seen sets.new) proof)) }
+    ensures proof { IfOk result
+        (λ proof. ProvesSpec model.now spec (over_states (S.seen sets.new) proof)) }
 {
     model.rules_law();
     written_law(model);

@@ -23,7 +23,9 @@ fn layered_rule<S: StateSets>(
     layered: &Layered,
 ) -> Result<Rule<Pin>, SetRefusal>
     requires { AreLive (S.seen sets.old) (layered_slots layered.now) }
-    ensures { IsMade rule_own rule_seen rule_size (S.seen sets.old) (S.seen sets.new) (ER (fair_of (region (S.seen sets.old) layered.now.inside) (list_regions (S.seen sets.old) layered.now.reach.items)) (regions (S.seen sets.old) layered.now.until.items)) result }
+    ensures { IsMade rule_own rule_seen rule_size (S.seen sets.old) (S.seen sets.new)
+        (ER (fair_of (region (S.seen sets.old) layered.now.inside) (list_regions (S.seen sets.old)
+        layered.now.reach.items)) (regions (S.seen sets.old) layered.now.until.items)) result }
 {
     let fair = copy_fair(alloc, sets, &layered.inside, &layered.reach)?;
     match copy_list(alloc, sets, &layered.until) {
@@ -46,7 +48,8 @@ fn some_rule<S: StateSets>(
     requires set { IsLive (S.seen sets.old) set.now.slot }
     requires ranks { AreLive (S.seen sets.old) (grown_slots ranks.now) }
     ensures { IsMade rule_own rule_seen rule_size (S.seen sets.old) (S.seen sets.new)
-        (given (region (S.seen sets.old) fair.now) true (region (S.seen sets.old) set.now) (ranks_view (S.seen sets.old) ranks.now)) result }
+        (given (region (S.seen sets.old) fair.now) true (region (S.seen sets.old) set.now)
+        (ranks_view (S.seen sets.old) ranks.now)) result }
 {
     match ranks {
         Ranks::Plain => {
@@ -73,7 +76,8 @@ fn every_rule<S: StateSets>(
     requires set { IsLive (S.seen sets.old) set.now.slot }
     requires ranks { AreLive (S.seen sets.old) (grown_slots ranks.now) }
     ensures { IsMade rule_own rule_seen rule_size (S.seen sets.old) (S.seen sets.new)
-        (given (region (S.seen sets.old) fair.now) false (region (S.seen sets.old) set.now) (ranks_view (S.seen sets.old) ranks.now)) result }
+        (given (region (S.seen sets.old) fair.now) false (region (S.seen sets.old) set.now)
+        (ranks_view (S.seen sets.old) ranks.now)) result }
 {
     match ranks {
         Ranks::Plain => {
@@ -110,7 +114,9 @@ pub fn node_rule<S: StateSets>(
     requires fair { IsLive (S.seen sets.old) fair.now.slot }
     requires node { AreLive (S.seen sets.old) (node_slots node.now) }
     ensures { IsMade rule_own rule_seen rule_size (S.seen sets.old) (S.seen sets.new)
-        (given (region (S.seen sets.old) fair.now) some (region (S.seen sets.old) (sign_pin plus node.now)) (ranks_view (S.seen sets.old) node.now.ranks)) result }
+        (given (region (S.seen sets.old) fair.now) some
+        (region (S.seen sets.old) (sign_pin plus node.now)) (ranks_view (S.seen sets.old)
+        node.now.ranks)) result }
 {
     let set = sign_pin(node, plus);
     if some {

@@ -9,7 +9,7 @@ use Rattle.kripke_model.specs.Signs.{node_count}
 use Rattle.kripke_model.specs.System.{System, constraint_count}
 use Rattle.proof_checker.proofs.Sizes.{nodes_fit}
 use Rattle.proof_form.specs.Shape.{spec_formula}
-use Rattle.region_sets.specs.States.{state_count}
+use Rattle.path_laws.specs.StateCount.{state_count}
 use Rattle.trans_parts.specs.Budget.{room}
 use Rattle.smv_session.specs.Relation.{trial_pins}
 

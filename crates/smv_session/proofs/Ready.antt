@@ -18,7 +18,7 @@ use Rattle.proof_form.specs.Form.{Proof, sets_of}
 use Rattle.proof_form.specs.Pinned.{proof_slots}
 use Rattle.proof_form.specs.Shape.{spec_formula}
 use Rattle.region_sets.specs.Sets.{Adds, Gauge, IsCall, Sets}
-use Rattle.region_sets.specs.States.{state_count}
+use Rattle.path_laws.specs.StateCount.{state_count}
 use Rattle.region_sets.specs.declared.pins.Pin.{Pin}
 use Rattle.region_sets.specs.declared.pins.SetRefusal.{SetRefusal}
 use Rattle.region_sets.specs.declared.pins.SetRefusal.TheVariants.{Full}

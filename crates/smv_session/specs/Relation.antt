@@ -13,7 +13,7 @@ use Rattle.fair_fixpoint.specs.SatSets.{pin_bound}
 use Rattle.fair_fixpoint.specs.Walks.{HasModelLeaves}
 use Rattle.proof_form.specs.Shape.{spec_formula}
 use Rattle.region_sets.specs.Sets.{Sets}
-use Rattle.region_sets.specs.States.{state_count}
+use Rattle.path_laws.specs.StateCount.{state_count}
 use Rattle.bit_encode.specs.Enough.{enough}
 use Rattle.trans_parts.specs.Budget.{room}
 use Rattle.trans_parts.specs.FirstFault.{IsFirstFault}

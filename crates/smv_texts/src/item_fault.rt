@@ -47,7 +47,8 @@ fn push_given(
     x: usize,
     var: &FlatVar,
 ) -> Result<(), AllocError>
-    ensures { OnOk result (text.new ≡ text.old ++ given_text front.now behind.now model.now state.now x var.now) }
+    ensures { OnOk result (text.new ≡ text.old ++ given_text front.now behind.now model.now
+        state.now x var.now) }
 {
     text.push(front)?;
     text.push(var.name.as_bytes())?;
@@ -63,7 +64,8 @@ fn push_values(
     model: &Ruled,
     state: &State,
 ) -> Result<(), AllocError>
-    ensures { OnOk result (text.new ≡ text.old ++ numbered (given_text front.now behind.now model.now state.now) 0 model.now.vars) }
+    ensures { OnOk result (text.new ≡ text.old ++ numbered (given_text front.now behind.now
+        model.now state.now) 0 model.now.vars) }
 {
     let vars = model.vars();
     for (x, var) in vars.iter().enumerate() {
@@ -89,7 +91,8 @@ fn push_after(text: &mut Text, model: &Ruled, after: &Option<State>) -> Result<(
 }
 
 fn push_fault(text: &mut Text, model: &Ruled, fault: &ItemFault) -> Result<(), AllocError>
-    ensures { OnOk result (text.new ≡ text.old ++ fault_reason model.now fault.now.kind fault.now.line fault.now.here fault.now.after) }
+    ensures { OnOk result (text.new ≡ text.old ++ fault_reason model.now fault.now.kind
+        fault.now.line fault.now.here fault.now.after) }
 {
     push_on_line(text, b"E23", fault.line)?;
     text.push(b" ")?;
@@ -104,7 +107,9 @@ pub fn refuse_fault<'a>(
     model: &Ruled,
     fault: &ItemFault,
 ) -> Result<Reply<'a>, AllocError>
-    ensures text { IfOk result (λ reply. reply.text.items ≡ refusal_line (Faults model.now fault.now.kind fault.now.line fault.now.here fault.now.after)) }
+    ensures text { IfOk result
+        (λ reply. reply.text.items ≡ refusal_line (Faults model.now fault.now.kind fault.now.line
+        fault.now.here fault.now.after)) }
     ensures ending { IfOk result (λ reply. reply.ending ≡ ModelRefused) }
     ensures saves { IfOk result (λ reply. reply.saves ≡ None) }
 {

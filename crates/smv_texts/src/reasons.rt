@@ -33,7 +33,8 @@ fn push_limit_word(text: &mut Text, which: Which) -> Result<(), AllocError>
 }
 
 fn push_limit(text: &mut Text, line: u32, which: Which, counted: u64) -> Result<(), AllocError>
-    ensures { OnOk result (text.new ≡ text.old ++ flat_reason (FlatRefusal.Limit line which counted)) }
+    ensures { OnOk result (text.new ≡ text.old ++ flat_reason (FlatRefusal.Limit line which
+        counted)) }
 {
     push_on_line(text, b"E16", line)?;
     text.push(b" ")?;

@@ -17,7 +17,8 @@ pub fn report_text(
     findings: &[Finding],
 ) -> Result<Vec<u8>, AllocError>
     requires { length findings.now ≤ length model.now.specs }
-    ensures { IfOk result (λ text. text.items ≡ lines.report model.now (map finding_of findings.now)) }
+    ensures { IfOk result
+        (λ text. text.items ≡ lines.report model.now (map finding_of findings.now)) }
 {
     let mut text = Text::new(alloc);
     push_findings(&mut text, model, findings)?;
@@ -115,7 +116,8 @@ fn push_verdict(text: &mut Text, outcome: &Outcome) -> Result<(), AllocError>
 
 // What stands below a false verdict.
 fn push_witness(text: &mut Text, model: &Ruled, outcome: &Outcome) -> Result<(), AllocError>
-    ensures { OnOk result (text.new ≡ text.old ++ lines.witness_lines model.now (outcome_of outcome.now)) }
+    ensures { OnOk result (text.new ≡ text.old ++ lines.witness_lines model.now
+        (outcome_of outcome.now)) }
 {
     match outcome {
         Outcome::True | Outcome::Unknown(_) => Ok(()),
@@ -141,7 +143,8 @@ fn push_path(text: &mut Text, model: &Ruled, path: &Lasso) -> Result<(), AllocEr
 
 // The states of a path from the second on. The first is in the stem, or in the cycle where the stem has none.
 fn push_further(text: &mut Text, model: &Ruled, path: &Lasso) -> Result<(), AllocError>
-    ensures { OnOk result (text.new ≡ text.old ++ lines.numbered (lines.state_lines model.now) 1 (drop 1 (path.now.stem ++ path.now.cycle))) }
+    ensures { OnOk result (text.new ≡ text.old ++ lines.numbered (lines.state_lines model.now) 1
+        (drop 1 (path.now.stem ++ path.now.cycle))) }
 {
     if path.stem.is_empty() {
         return push_states(text, model, 1, after_first(&path.cycle));
@@ -167,7 +170,8 @@ fn push_states(
     states: &[State],
 ) -> Result<(), AllocError>
     requires { first + length states.now ≤ 18446744073709551615 }
-    ensures { OnOk result (text.new ≡ text.old ++ lines.numbered (lines.state_lines model.now) first states.now) }
+    ensures { OnOk result (text.new ≡ text.old ++ lines.numbered (lines.state_lines model.now) first
+        states.now) }
 {
     for (place, state) in states.iter().enumerate() {
         push_state(text, model, first + place, state)?;
@@ -191,7 +195,8 @@ fn push_state(
 }
 
 fn push_variables(text: &mut Text, model: &Ruled, state: &State) -> Result<(), AllocError>
-    ensures { OnOk result (text.new ≡ text.old ++ lines.numbered (lines.variable_line model.now state.now) 0 model.now.vars) }
+    ensures { OnOk result (text.new ≡ text.old ++ lines.numbered (lines.variable_line model.now
+        state.now) 0 model.now.vars) }
 {
     let vars = model.vars();
     for (x, var) in vars.iter().enumerate() {
@@ -207,7 +212,8 @@ fn push_variable(
     x: usize,
     var: &FlatVar,
 ) -> Result<(), AllocError>
-    ensures { OnOk result (text.new ≡ text.old ++ lines.variable_line model.now state.now x var.now) }
+    ensures { OnOk result (text.new ≡ text.old ++ lines.variable_line model.now state.now x
+        var.now) }
 {
     text.push(b"  ")?;
     text.push(var.name.as_bytes())?;

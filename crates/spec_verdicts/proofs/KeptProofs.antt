@@ -5,7 +5,7 @@ use Rattle.kripke_model.specs.Signs.{node_count}
 use Rattle.kripke_model.specs.System.{System}
 use Rattle.fair_rules.specs.FreePart.{constraint_nodes}
 use Rattle.region_sets.specs.Sets.{Sets, IsCall, is_one_of}
-use Rattle.region_sets.specs.States.{state_count}
+use Rattle.path_laws.specs.StateCount.{state_count}
 use Rattle.region_sets.specs.declared.pins.SetRefusal.{SetRefusal}
 use Rattle.claim_sets.proofs.KeptProofs.{proof_same}
 use Rattle.fair_fixpoint.specs.SatSets.{pin_bound}

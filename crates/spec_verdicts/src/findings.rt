@@ -50,7 +50,8 @@ impl<'a> Findings<'a> {
 
     /// The next specification is decided. No proofs are asked for.
     pub fn decide(&mut self, outcome: Outcome) -> Result<(), AllocError>
-        ensures { (m : System) (limit : ℕ) (cs : List Condition) (c : Condition) → AreFound m limit None cs self.old
+        ensures { (m : System) (limit : ℕ) (cs : List Condition) (c : Condition)
+            → AreFound m limit None cs self.old
             → IsDecided m (formula_of c.expr) (outcome_of outcome)
             → OnOk result (AreFound m limit None (cs ++ c ∷ []) self.new) }
     {

@@ -19,8 +19,8 @@ pub(crate) fn header<'a>(
     model: &Ruled,
     proofs: Option<&'a str>,
 ) -> Result<Option<Saving<'a>>, AllocError>
-    ensures { IfOk result (λ saves. saved_of saves
-        ≡ option_map (λ name. (name.now, text_of (header_lines model.now (own_order model.now)))) proofs.entry) }
+    ensures { IfOk result (λ saves. saved_of saves ≡ option_map
+        (λ name. (name.now, text_of (header_lines model.now (own_order model.now)))) proofs.entry) }
 {
     match proofs {
         None => Ok(None),

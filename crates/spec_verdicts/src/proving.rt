@@ -6,7 +6,7 @@ ghost use Rattle.fair_rules.specs.FreePart.{constraint_nodes};
 ghost use Rattle.fair_rules.specs.SetLists.{everything};
 ghost use Rattle.region_sets.specs.Ranks.{AreLive};
 ghost use Rattle.region_sets.specs.Sets.{IsCall};
-ghost use Rattle.region_sets.specs.States.{state_count};
+ghost use Rattle.path_laws.specs.StateCount.{state_count};
 ghost use Rattle.fair_fixpoint.specs.Runs.{run_slots};
 ghost use Rattle.fair_fixpoint.specs.SatSets.{IsDecided as IsParted, IsWholeRun, pin_bound};
 ghost use Rattle.fair_fixpoint.specs.Walks.{HasModelLeaves};
@@ -59,12 +59,13 @@ fn proof_by<S: StateSets>(
     requires run { IsSomeAnd (spec_formula model.now spec)
         (λ f. IsLiveRun model.now f (S.seen sets.old) run.now) }
     requires shown { Shows model.now (S.seen sets.old) run.now (fails_at (outcome_of outcome.now)) }
-    ensures call { IsCall
-        (pin_bound model.now (spec_nodes model.now spec + constraint_nodes model.now) (state_count model.now))
-        (S.seen sets.old) (S.seen sets.new) (proof_result_slots result) result }
+    ensures call { IsCall (pin_bound model.now (spec_nodes model.now spec + constraint_nodes
+        model.now) (state_count model.now)) (S.seen sets.old) (S.seen sets.new)
+        (proof_result_slots result) result }
     ensures few { length (proof_result_slots result) ≤ pin_bound model.now
         (spec_nodes model.now spec + constraint_nodes model.now) (state_count model.now) }
-    ensures claim { IfOk result (λ proof. proof.claim ≡ is_none (fails_at (outcome_of outcome.now))) }
+    ensures claim { IfOk result
+        (λ proof. proof.claim ≡ is_none (fails_at (outcome_of outcome.now))) }
     ensures state { IfOk result (λ proof. proof.at ≡ fails_at (outcome_of outcome.now)) }
     ensures proof { IfOk result (λ proof.
         ProvesSpec model.now spec (over_states (S.seen sets.new) proof)) }

@@ -188,7 +188,8 @@ fn fails_from(model: &Ruled, formula: &Formula, lasso: &Lasso, i: u64) -> bool
 /// Takes no memory.
 pub fn falsifies(model: &Ruled, formula: &Formula, lasso: &Lasso) -> bool
     requires path { IsPath model.now lasso.now }
-    requires formula { Contains (map (λ c. formula_of c.expr) model.now.specs) (ctl_of formula.now) }
+    requires formula { Contains (map (λ c. formula_of c.expr) model.now.specs)
+        (ctl_of formula.now) }
     requires traceable { IsTrue (is_traceable (ctl_of formula.now)) }
     ensures { IsTrue result ↔ FalsifiesFrom model.now (at lasso.now) (ctl_of formula.now) 0 }
 {

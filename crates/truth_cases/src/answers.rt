@@ -33,7 +33,8 @@ fn add_verdict<S: StateSets>(
 ) -> Result<(), SetRefusal>
     requires model { model.now ≡ (S.seen sets.old).over }
     requires leaves { HasModelLeaves model.now (ctl_of formula.now) }
-    requires formula { Contains (map (λ c. formula_of c.expr) model.now.specs) (ctl_of formula.now) }
+    requires formula { Contains (map (λ c. formula_of c.expr) model.now.specs)
+        (ctl_of formula.now) }
 {
     let found = judged_failing(alloc, sets, model, formula)?;
     match asked {
@@ -53,7 +54,8 @@ fn add_path<S: StateSets>(
     answer: &mut String,
 ) -> Result<(), SetRefusal>
     requires model { model.now ≡ (S.seen sets.old).over }
-    requires formula { Contains (map (λ c. formula_of c.expr) model.now.specs) (ctl_of formula.now) }
+    requires formula { Contains (map (λ c. formula_of c.expr) model.now.specs)
+        (ctl_of formula.now) }
 {
     let fair = is_fair_by_sets(alloc, sets, model, path)?;
     tell_path(model, formula, path, fair, answer)?;
@@ -71,7 +73,8 @@ fn add_found<S: StateSets>(
 ) -> Result<(), SetRefusal>
     requires model { model.now ≡ (S.seen sets.old).over }
     requires leaves { HasModelLeaves model.now (ctl_of formula.now) }
-    requires formula { Contains (map (λ c. formula_of c.expr) model.now.specs) (ctl_of formula.now) }
+    requires formula { Contains (map (λ c. formula_of c.expr) model.now.specs)
+        (ctl_of formula.now) }
 {
     match asked {
         Asked::Path(path) => add_path(alloc, sets, model, formula, path, answer),
@@ -89,7 +92,8 @@ fn found_over<S: StateSets>(
 ) -> Result<String, AllocError>
     requires model { model.now ≡ (S.seen sets.old).over }
     requires leaves { HasModelLeaves model.now (ctl_of formula.now) }
-    requires formula { Contains (map (λ c. formula_of c.expr) model.now.specs) (ctl_of formula.now) }
+    requires formula { Contains (map (λ c. formula_of c.expr) model.now.specs)
+        (ctl_of formula.now) }
 {
     let mut answer = String::new(alloc);
     match add_found(alloc, sets, model, formula, asked, &mut answer) {
@@ -108,7 +112,8 @@ fn found_by_trees(
     asked: &Asked,
 ) -> Result<String, AllocError>
     requires leaves { HasModelLeaves model.now (ctl_of formula.now) }
-    requires formula { Contains (map (λ c. formula_of c.expr) model.now.specs) (ctl_of formula.now) }
+    requires formula { Contains (map (λ c. formula_of c.expr) model.now.specs)
+        (ctl_of formula.now) }
 {
     let mut sets = trees(alloc, model)?;
     found_over(alloc, &mut sets, model, formula, asked)
@@ -122,7 +127,8 @@ fn found_by_diagrams(
     asked: &Asked,
 ) -> Result<String, AllocError>
     requires leaves { HasModelLeaves model.now (ctl_of formula.now) }
-    requires formula { Contains (map (λ c. formula_of c.expr) model.now.specs) (ctl_of formula.now) }
+    requires formula { Contains (map (λ c. formula_of c.expr) model.now.specs)
+        (ctl_of formula.now) }
 {
     match diagrams(alloc, model) {
         Ok(mut sets) => found_over(alloc, &mut sets, model, formula, asked),
@@ -143,7 +149,8 @@ fn answer_formula(
     answer: &mut String,
 ) -> Result<(), AllocError>
     requires leaves { HasModelLeaves model.now (ctl_of formula.now) }
-    requires formula { Contains (map (λ c. formula_of c.expr) model.now.specs) (ctl_of formula.now) }
+    requires formula { Contains (map (λ c. formula_of c.expr) model.now.specs)
+        (ctl_of formula.now) }
 {
     let trees = found_by_trees(alloc, model, formula, asked)?;
     let diagrams = found_by_diagrams(alloc, model, formula, asked)?;

@@ -4,7 +4,7 @@ use Rattle.kripke_model.specs.WellFormed.{ctl_of}
 use Rattle.region_sets.specs.declared.pins.Pin.{Pin}
 use Rattle.region_sets.specs.Sets.{region}
 use Rattle.region_sets.specs.Ranks.{regions, list_regions}
-use Rattle.region_sets.specs.States.{state_count}
+use Rattle.path_laws.specs.StateCount.{state_count}
 use Rattle.fair_rules.specs.FreePart.{path_nodes_of}
 use Rattle.fair_fixpoint.specs.Formulas.{node_pins}
 use Rattle.fair_fixpoint.specs.Runs.{layer_views}

@@ -2,7 +2,7 @@ use Rattle.std.proofs.Common.{◌+◌, ◌*◌, arith}
 use Rattle.kripke_model.specs.Signs.{node_count}
 use Rattle.kripke_model.specs.WellFormed.{ctl_of}
 use Rattle.fair_rules.specs.FreePart.{constraint_nodes}
-use Rattle.region_sets.specs.States.{state_count}
+use Rattle.path_laws.specs.StateCount.{state_count}
 use Rattle.region_sets.proofs.Calls.{let_go, stays_over_release, then_call}
 use Rattle.region_sets.proofs.Changes.{adds_after}
 use Rattle.fair_fixpoint.specs.Runs.{run_slots}

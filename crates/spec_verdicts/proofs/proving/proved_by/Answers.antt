@@ -3,7 +3,7 @@ use Rattle.std.proofs.lemmas.Result.{err_from_is_err_and}
 use Rattle.kripke_model.specs.Signs.{node_count}
 use Rattle.kripke_model.specs.WellFormed.{ctl_of}
 use Rattle.fair_rules.specs.FreePart.{constraint_nodes}
-use Rattle.region_sets.specs.States.{state_count}
+use Rattle.path_laws.specs.StateCount.{state_count}
 use Rattle.region_sets.proofs.Calls.{then_call}
 use Rattle.fair_fixpoint.specs.Runs.{run_slots}
 use Rattle.fair_fixpoint.specs.SatSets.{pin_bound}
