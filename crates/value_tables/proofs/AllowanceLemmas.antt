@@ -31,8 +31,13 @@ list_allowance-whole k u = omega arith
 pub list_allowance-last : (k u : ℕ) → 1 ≤ u → list_allowance k u + 1 ≤ allowance (1 + k) u
 list_allowance-last k u some = omega arith
 
-pub allowance-element : (k n u l r : ℕ) → 1 ≤ n → l ≤ k * u → r ≤ n * u → 1 ≤ u → list_allowance k u + allowance n u + (5 * l + 5 * r + 3) ≤ list_allowance (k + n) u
-allowance-element k n u l r one h j some = omega (arith, mul-le-mul_left (k * u) one, mul-le-mul_left u one)
+-- a list of one element
+pub allowance-element : (n u : ℕ) → 1 ≤ n → allowance n u ≤ list_allowance n u
+allowance-element n u one = omega (arith, mul-le-mul_left u one)
+
+-- two lists and their union
+pub allowance-halves : (k n u l r : ℕ) → 1 ≤ k → 1 ≤ n → l ≤ k * u → r ≤ n * u → 1 ≤ u → list_allowance k u + list_allowance n u + (5 * l + 5 * r + 3) ≤ list_allowance (k + n) u
+allowance-halves k n u l r one two h j some = omega (arith, mul-le-mul_left (k * u) two, mul-le-mul_left (n * u) one, mul-le-mul_left u one)
 
 pub allowance-arm : (a b u l r : ℕ) → 1 ≤ a → 1 ≤ b → l ≤ a * u → r ≤ b * u → 1 ≤ u → allowance a u + allowance b u + (7 * l + 2 * r + 6) ≤ list_allowance (a + b) u
 allowance-arm a b u l r one two h j some = omega (arith, mul-le-mul_left (a * u) two, mul-le-mul_left u one, mul-le-mul_left u two)

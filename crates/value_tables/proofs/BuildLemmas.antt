@@ -1,5 +1,5 @@
 -- The tables of expressions.
-use Rattle.std.proofs.Common.{◌≡◌, ◌≢◌, ℕ, zero, suc, ◌+◌, ◌<◌, ◌≤◌, Bool, true, false, ◌&&◌, ◌||◌, List, [], ◌∷◌, length, get_or, Result, Ok, Err, IfOk, refl, sym, subst, ap, ◌∙◌, arith}
+use Rattle.std.proofs.Common.{◌≡◌, ◌≢◌, ℕ, zero, suc, ◌+◌, ◌<◌, ◌≤◌, Bool, true, false, ◌&&◌, ◌||◌, List, [], ◌∷◌, ◌++◌, length, get_or, take, drop, Result, Ok, Err, IfOk, refl, sym, subst, ap, ◌∙◌, arith}
 use Rattle.bdd_nodes.specs.declared.store.Store.{Store}
 use Rattle.bdd_nodes.specs.Store.{Has, value_of, Grows}
 use Rattle.kripke_model.specs.declared.expressions.Value.{Value}
@@ -16,50 +16,86 @@ use Rattle.kripke_model.specs.Evaluation.{Checked, ◌>>=◌, binary, distinct, 
 use Rattle.kripke_model.specs.Evaluable.{IsEvaluable, AreEvaluable, AreEvaluableArms}
 use Rattle.value_tables.specs.declared.cells.Cell.{Cell}
 use Rattle.value_tables.specs.declared.operands.Table.{Table}
+use Rattle.value_tables.specs.CellLists.{CellItems}
 use Rattle.value_tables.specs.Cells.{Reads, AreCells, same_reading, any_of, shows}
 use Rattle.value_tables.specs.Pick.{truth_of}
+use Rattle.std.proofs.lemmas.List.{take-append-drop}
 use Rattle.std.proofs.lemmas.List.Elements.{All-nil}
 use Rattle.bdd_nodes.proofs.Tables.{value_of-true}
-use Rattle.value_tables.specs.States.{meaning_of, elements_meaning}
-use Rattle.value_tables.specs.Tables.{IsTable, IsSetTable, IsOperand, IsProper, IsSingle, negation}
-use Rattle.value_tables.proofs.EvalLemmas.{single_negation}
+use Rattle.value_tables.specs.States.{meaning_of, elements_meaning, state_shown}
+use Rattle.value_tables.specs.Tables.{IsTable, IsSetTable, IsOperand, IsProper, IsSingle, all_values, negation}
+use Rattle.value_tables.proofs.EvalLemmas.{single_negation, elements_joined, values_last}
 use Rattle.value_tables.proofs.RegionLemmas.{AreCells-grows}
-use Rattle.value_tables.proofs.BinaryLemmas.{reads_grows, any_of-distinct}
+use Rattle.value_tables.proofs.BinaryLemmas.{reads_grows, reads_as, any_of-distinct}
+use Rattle.value_tables.proofs.ReadingCounts.{node_count-some}
 
 -- ---- the parts of lists
 
-pub nodes_at : (es : List Expr) (i : ℕ) (d : Expr) → i < length es → node_count (term_of (get_or es i d)) ≤ element_nodes (terms_in es)
-nodes_at [] i d h = absurd (omega arith)
-nodes_at (e ∷ es) zero d h = omega arith
-nodes_at (e ∷ es) (suc i) d h = omega (arith, nodes_at es i d (omega arith))
+nodes_joined : (xs ys : List Expr) → element_nodes (terms_in (xs ++ ys)) ≡ element_nodes (terms_in xs) + element_nodes (terms_in ys)
+nodes_joined [] ys = omega arith
+nodes_joined (e ∷ xs) ys = omega (arith, nodes_joined xs ys)
+
+pub nodes-some : (es : List Expr) → 0 < length es → 1 ≤ element_nodes (terms_in es)
+nodes-some [] h = absurd (omega arith)
+nodes-some (e ∷ es) h = omega (arith, node_count-some (term_of e))
 
 pub arm_nodes_at : (arms : List Arm) (i : ℕ) (d : Arm) → i < length arms → node_count (term_of (get_or arms i d).guard) + node_count (term_of (get_or arms i d).right) ≤ arm_nodes (arms_in arms)
 arm_nodes_at [] i d h = absurd (omega arith)
 arm_nodes_at (a ∷ arms) zero d h = omega arith
 arm_nodes_at (a ∷ arms) (suc i) d h = omega (arith, arm_nodes_at arms i d (omega arith))
 
-pub evaluable_at : (m : System) (es : List Expr) (i : ℕ) (d : Expr) → i < length es → AreEvaluable m (terms_in es) → IsEvaluable m (term_of (get_or es i d))
-evaluable_at m [] i d h k = absurd (omega arith)
-evaluable_at m (e ∷ es) zero d h k = k.0
-evaluable_at m (e ∷ es) (suc i) d h k = evaluable_at m es i d (omega arith) k.1
+evaluable_parts : (m : System) (xs ys : List Expr) → AreEvaluable m (terms_in (xs ++ ys)) → AreEvaluable m (terms_in xs) × AreEvaluable m (terms_in ys)
+evaluable_parts m [] ys h = (tt, h)
+evaluable_parts m (e ∷ xs) ys h = let rest = evaluable_parts m xs ys h.1 in ((h.0, rest.0), rest.1)
 
 pub arm_evaluable_at : (m : System) (arms : List Arm) (i : ℕ) (d : Arm) → i < length arms → AreEvaluableArms m (arms_in arms) → IsEvaluable m (term_of (get_or arms i d).guard) × IsEvaluable m (term_of (get_or arms i d).right)
 arm_evaluable_at m [] i d h k = absurd (omega arith)
 arm_evaluable_at m (a ∷ arms) zero d h k = (k.0, k.1)
 arm_evaluable_at m (a ∷ arms) (suc i) d h k = arm_evaluable_at m arms i d (omega arith) k.2
 
+pub elements_some : (m : System) (es : List Expr) → IsEvaluable m (Term.Braces (terms_in es)) → 0 < length es
+elements_some m [] h = absurd h
+elements_some m (e ∷ es) h = omega arith
+
 pub elements_evaluable : (m : System) (es : List Expr) → IsEvaluable m (Term.Braces (terms_in es)) → AreEvaluable m (terms_in es)
 elements_evaluable m [] h = absurd h
 elements_evaluable m (e ∷ es) h = h
 
+-- the first elements and those behind them
+module _ (es xs ys : List Expr) (n : ℕ) (first : xs ≡ take n es) (behind : ys ≡ drop n es) where
+  parts : es ≡ xs ++ ys
+  parts = sym (take-append-drop n es) ∙ (λ i. sym first i ++ sym behind i)
+
+  pub halves_nodes : element_nodes (terms_in es) ≡ element_nodes (terms_in xs) + element_nodes (terms_in ys)
+  halves_nodes = ap (λ (zs : List Expr). element_nodes (terms_in zs)) parts ∙ nodes_joined xs ys
+
+  pub halves_evaluable : (m : System) → AreEvaluable m (terms_in es) → AreEvaluable m (terms_in xs) × AreEvaluable m (terms_in ys)
+  halves_evaluable m h = evaluable_parts m xs ys (subst (λ (zs : List Expr). AreEvaluable m (terms_in zs)) parts h)
+
+  pub halves_values : (c : Coding) (m : System) (next : Bool) (bits : List Bool) → elements_meaning c m next (terms_in es) bits ≡ all_values (elements_meaning c m next (terms_in xs) bits) (elements_meaning c m next (terms_in ys) bits)
+  halves_values c m next bits = ap (λ (zs : List Expr). elements_meaning c m next (terms_in zs) bits) parts ∙ elements_joined m (state_shown c next bits) (state_shown c true bits) xs ys
+
+-- the only element
+pub only_element : (es : List Expr) (e : Expr) → length es ≡ 1 → e ≡ get_or es 0 e → es ≡ e ∷ []
+only_element [] e one is = absurd (omega (arith, one))
+only_element (x ∷ []) e one is = ap (λ (y : Expr). y ∷ []) (sym is)
+only_element (x ∷ y ∷ es) e one is = absurd (omega (arith, one))
+
+pub only_nodes : (es : List Expr) (e : Expr) → es ≡ e ∷ [] → element_nodes (terms_in es) ≡ node_count (term_of e)
+only_nodes es e is = omega (arith, ap (λ (xs : List Expr). element_nodes (terms_in xs)) is)
+
 -- ---- tables
 
-pub IsTable-grows : (s z : Store) → Grows s z → (cells : List Cell) (single : Bool) (f : List Bool → Checked (List Value)) → IsTable s cells single f → IsTable z cells single f
-IsTable-grows s z g cells single f h = record {
+pub IsSetTable-grows : (s z : Store) → Grows s z → (cells : List Cell) (f : List Bool → Checked (List Value)) → IsSetTable s cells f → IsSetTable z cells f
+IsSetTable-grows s z g cells f h = record {
   regions = AreCells-grows s z g cells h.regions;
   reads = λ bits. reads_grows s z g cells h.regions.has bits (f bits) (h.reads bits);
-  at_most_one = h.at_most_one;
 }
+
+pub IsTable-grows : (s z : Store) → Grows s z → (cells : List Cell) (single : Bool) (f : List Bool → Checked (List Value)) → IsTable s cells single f → IsTable z cells single f
+IsTable-grows s z g cells single f h =
+    let grown = IsSetTable-grows s z g cells f record { regions = h.regions; reads = h.reads } in
+    record { regions = grown.regions; reads = grown.reads; at_most_one = h.at_most_one }
 
 pub operand : (s : Store) (cells : List Cell) (single : Bool) (f : List Bool → Checked (List Value)) → IsTable s cells single f → ((bits : List Bool) → IsProper (f bits)) → (bits : List Bool) → IsOperand (λ r. value_of s r bits) cells single (f bits)
 operand s cells single f h proper bits = record { reads = h.reads bits; proper = proper bits; few = λ e. h.at_most_one e bits }
@@ -111,13 +147,28 @@ braces_table z c m next es u e cells h = subst (λ v. IsTable z cells false (mea
       at_most_one = λ q bits. absurd (false≢true q);
     }
 
+-- the table of a set of one element
+pub element_table : (z : Store) (c : Coding) (m : System) (next : Bool) (es : List Expr) (e : Expr) → es ≡ e ∷ [] → (cells : List Cell) (single : Bool) → IsTable z cells single (meaning_of c m next (term_of e)) → IsSetTable z cells (elements_meaning c m next (terms_in es))
+element_table z c m next es e is cells single h = subst (λ (xs : List Expr). IsSetTable z cells (elements_meaning c m next (terms_in xs))) (sym is) record {
+  regions = h.regions;
+  reads = λ bits. reads_as _ cells (meaning_of c m next (term_of e) bits) _ (sym (values_last (meaning_of c m next (term_of e) bits))) (h.reads bits);
+}
+
+-- the table of the values of two sets
+pub united_table : {E : Type 0} (s z : Store) (left right : List Cell) (f g h : List Bool → Checked (List Value)) → IsSetTable s left f → IsSetTable s right g → ((bits : List Bool) → h bits ≡ all_values (f bits) (g bits)) → (r : Result CellItems E)
+    → IfOk r (λ out. AreCells z out.items)
+    → IfOk r (λ out. (bits : List Bool) (c d : Checked (List Value)) → Reads (λ q. value_of s q bits) left c → Reads (λ q. value_of s q bits) right d → Reads (λ q. value_of z q bits) out.items (all_values c d))
+    → IfOk r (λ out. IsSetTable z out.items h)
+united_table s z left right f g h x y is (Err e) a b = tt
+united_table s z left right f g h x y is (Ok out) a b = record {
+  regions = a;
+  reads = λ bits. reads_as _ out.items (all_values (f bits) (g bits)) (h bits) (sym (is bits)) (b bits (f bits) (g bits) (x.reads bits) (y.reads bits));
+}
+
 -- ---- the starts and ends of loops
 
 pub no_cells : (s : Store) (cells : List Cell) → cells ≡ [] → AreCells s cells
 no_cells s cells e = subst (AreCells s) (sym e) record { has = All-nil (λ (c : Cell). Has s c.region); some = All-nil (λ (c : Cell). c.region ≢ 0); once = tt }
-
-pub no_values : (v : ℕ → Bool) (cells : List Cell) → cells ≡ [] → Reads v cells (Ok [])
-no_values v cells e = subst (λ xs. Reads v xs (Ok [])) (sym e) record { each = λ k. refl }
 
 pub no_arms : (s : Store) (cells : List Cell) (bits : List Bool) (k : Checked Value) (x : Bool) → cells ≡ [] → x ≡ (shows (λ r. value_of s r bits) cells k || (value_of s 1 bits && x))
 no_arms s cells bits k x e = λ i. shows (λ r. value_of s r bits) (sym e i) k || (sym (value_of-true s.nodes.keys bits) i && x)

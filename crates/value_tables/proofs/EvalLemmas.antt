@@ -149,19 +149,6 @@ single_negation c = by (guard_of c)
 
 -- ---- elements and arms
 
-pub elements_at : (m : System) (s t : State) (es : List Expr) (i : ℕ) (d : Expr) → i < length es → eval_elements m (terms_in (drop i es)) s t ≡ all_values (eval m (term_of (get_or es i d)) s t) (eval_elements m (terms_in (drop (i + 1) es)) s t)
-elements_at m s t [] i d h = absurd (omega arith)
-elements_at m s t (e ∷ es) zero d h = refl
-elements_at m s t (e ∷ es) (suc i) d h =
-    let more : suc i + 1 ≡ suc (i + 1) = omega arith in
-    elements_at m s t es i d (omega arith) ∙ ap (λ n. all_values (eval m (term_of (get_or es i d)) s t) (eval_elements m (terms_in (drop n (e ∷ es))) s t)) (sym more)
-
-pub elements_past : (m : System) (s t : State) (es : List Expr) (i : ℕ) → length es ≤ i → eval_elements m (terms_in (drop i es)) s t ≡ Ok []
-elements_past m s t [] zero h = refl
-elements_past m s t [] (suc i) h = refl
-elements_past m s t (e ∷ es) zero h = absurd (omega arith)
-elements_past m s t (e ∷ es) (suc i) h = elements_past m s t es i (omega arith)
-
 pub arms_at : (m : System) (s t : State) (arms : List Arm) (i : ℕ) (d : Arm) → i < length arms → eval_arms m (arms_in (drop i arms)) s t ≡ (guard_of (eval m (term_of (get_or arms i d).guard) s t) >>= λ b. cond b (eval m (term_of (get_or arms i d).right) s t) (eval_arms m (arms_in (drop (i + 1) arms)) s t))
 arms_at m s t [] i d h = absurd (omega arith)
 arms_at m s t (a ∷ arms) zero d h = refl
@@ -175,19 +162,26 @@ arms_past m s t [] (suc i) h = refl
 arms_past m s t (a ∷ arms) zero h = absurd (omega arith)
 arms_past m s t (a ∷ arms) (suc i) h = arms_past m s t arms i (omega arith)
 
-pub values_assoc : (c d r : Checked (List Value)) → all_values c (all_values d r) ≡ all_values (all_values c d) r
+values_assoc : (c d r : Checked (List Value)) → all_values c (all_values d r) ≡ all_values (all_values c d) r
 values_assoc (Ok us) (Ok vs) (Ok ws) = ap Ok (sym (append_assoc us vs ws))
 values_assoc (Ok us) (Ok vs) (Err kind) = refl
 values_assoc (Ok us) (Err kind) r = refl
 values_assoc (Err kind) d r = refl
 
-pub values_first : (r : Checked (List Value)) → all_values (Ok []) r ≡ r
+values_first : (r : Checked (List Value)) → all_values (Ok []) r ≡ r
 values_first (Ok ws) = refl
 values_first (Err kind) = refl
 
 pub values_last : (c : Checked (List Value)) → all_values c (Ok []) ≡ c
 values_last (Ok vs) = ap Ok (append-nil vs)
 values_last (Err kind) = refl
+
+-- the elements of a list and of one behind it
+pub elements_joined : (m : System) (s t : State) (xs ys : List Expr) → eval_elements m (terms_in (xs ++ ys)) s t ≡ all_values (eval_elements m (terms_in xs) s t) (eval_elements m (terms_in ys) s t)
+elements_joined m s t [] ys = sym (values_first (eval_elements m (terms_in ys) s t))
+elements_joined m s t (e ∷ xs) ys =
+    ap (all_values (eval m (term_of e) s t)) (elements_joined m s t xs ys)
+    ∙ values_assoc (eval m (term_of e) s t) (eval_elements m (terms_in xs) s t) (eval_elements m (terms_in ys) s t)
 
 -- what is shown so far, and what the arms that are left show
 pub arm_split : (k : Checked Value) (b : Checked Bool) (d r : Checked (List Value)) (old left now rest : Bool) (whole : Bool)

@@ -7,48 +7,24 @@ use Rattle.std.proofs.Math.Nat.{pow-suc, pow-zero}
 use Rattle.std.proofs.lemmas.List.Sums.{sum_by-cons, sum_by_more, sum_by_more_le}
 use Rattle.bdd_nodes.specs.declared.store.Store.{Store}
 use Rattle.bdd_nodes.specs.Store.{levels_of, triples, Has, Grows}
-use Rattle.kripke_model.specs.declared.expressions.Expr.{Expr}
 use Rattle.kripke_model.specs.declared.expressions.Arm.{Arm}
-use Rattle.kripke_model.specs.Reading.{term_of, terms_in, arms_in}
-use Rattle.kripke_model.specs.Size.{node_count, element_nodes, arm_nodes}
+use Rattle.kripke_model.specs.Reading.{term_of, arms_in}
+use Rattle.kripke_model.specs.Size.{node_count, arm_nodes}
 use Rattle.value_tables.specs.declared.cells.Cell.{Cell}
 use Rattle.value_tables.specs.Work.{Spends, allowance, list_allowance, operator_allowance}
 use Rattle.value_tables.specs.Weights.{AreApart, weights}
 use Rattle.value_tables.proofs.RegionLemmas.{Spends-then}
 use Rattle.value_tables.proofs.WeightLemmas.{Spends-more, AreApart-grows, weights-most}
-use Rattle.value_tables.proofs.AllowanceLemmas.{allowance-next, allowance-least, allowance-not, allowance-left, allowance-both, allowance-binary, allowance-element, allowance-arm, list_allowance-join, list_allowance-mono, list_allowance-whole, list_allowance-last}
+use Rattle.value_tables.proofs.AllowanceLemmas.{allowance-next, allowance-least, allowance-not, allowance-left, allowance-both, allowance-binary, allowance-element, allowance-halves, allowance-arm, list_allowance-join, list_allowance-mono, list_allowance-whole, list_allowance-last}
 
 -- ---- the nodes of lists
-
-abbrev pub nodes_of : List Expr → ℕ
-nodes_of es = sum_by (λ (e : Expr). node_count (term_of e)) es
 
 abbrev pub nodes_of_arms : List Arm → ℕ
 nodes_of_arms arms = sum_by (λ (a : Arm). node_count (term_of a.guard) + node_count (term_of a.right)) arms
 
-pub nodes-are : (es : List Expr) → nodes_of es ≡ element_nodes (terms_in es)
-nodes-are [] = refl
-nodes-are (e ∷ es) = omega (arith, sum_by-cons (λ (x : Expr). node_count (term_of x)) e es, nodes-are es)
-
 pub arm_nodes-are : (arms : List Arm) → nodes_of_arms arms ≡ arm_nodes (arms_in arms)
 arm_nodes-are [] = refl
 arm_nodes-are (a ∷ arms) = omega (arith, sum_by-cons (λ (x : Arm). node_count (term_of x.guard) + node_count (term_of x.right)) a arms, arm_nodes-are arms)
-
-module _ (es : List Expr) (i : ℕ) (e : Expr) (lt : i < length es) (is : e ≡ get_or es i e) where
-  here : node_count (term_of e) ≡ node_count (term_of (get_or es i e))
-  here = ap (λ (x : Expr). node_count (term_of x)) is
-
-  pub nodes_more : nodes_of (take (i + 1) es) ≡ nodes_of (take i es) + node_count (term_of e)
-  nodes_more = omega (arith, here, sum_by_more (λ (x : Expr). node_count (term_of x)) es i e lt)
-
-  pub nodes_step : nodes_of (take i es) + node_count (term_of e) ≤ nodes_of (take (i + 1) es)
-  nodes_step = omega (arith, nodes_more)
-
-  pub nodes_more_le : nodes_of (take i es) + node_count (term_of e) ≤ element_nodes (terms_in es)
-  nodes_more_le = omega (arith, here, nodes-are es, sum_by_more_le (λ (x : Expr). node_count (term_of x)) es i e lt)
-
-pub nodes_all : (es : List Expr) (i : ℕ) → length es ≤ i → nodes_of (take i es) ≡ element_nodes (terms_in es)
-nodes_all es i le = ap nodes_of (take_all i es le) ∙ nodes-are es
 
 module _ (arms : List Arm) (i : ℕ) (a : Arm) (lt : i < length arms) (is : a ≡ get_or arms i a) where
   arm_here : node_count (term_of a.guard) + node_count (term_of a.right) ≡ node_count (term_of (get_or arms i a).guard) + node_count (term_of (get_or arms i a).right)
@@ -120,23 +96,26 @@ binary_spends s p q z g h a b t l r e x y w le ge =
 
 -- ---- elements
 
-element_within : (k n t u l r : ℕ) → 1 ≤ n → l ≤ k * u → r ≤ n * u → 1 ≤ u → k + n ≤ t → list_allowance k u + allowance n u + (5 * l + 5 * r + 3) ≤ list_allowance t u
-element_within k n t u l r some h j one le = omega (arith, allowance-element k n u l r some h j one, list_allowance-mono (k + n) t u le)
+pub element_spends : (s z : Store) (n t : ℕ) → 1 ≤ n → t ≡ n → Spends (allowance n (2 ^ levels_of s)) s z → Spends (list_allowance t (2 ^ levels_of s)) s z
+element_spends s z n t some e h = subst (λ m. Spends (list_allowance m (2 ^ levels_of s)) s z) (sym e) (Spends-more s z _ _ (allowance-element n (2 ^ levels_of s) some) h)
 
-element_join : (s p z : Store) → Grows s p → (k n : ℕ) → Spends (list_allowance k (2 ^ levels_of s)) s p → Spends (allowance n (2 ^ levels_of p)) p z → Spends (list_allowance k (2 ^ levels_of s) + allowance n (2 ^ levels_of s)) s z
-element_join s p z g k n x y = Spends-then s p z _ _ _ g.levels (omega arith) x (subst (λ u. Spends (allowance n u) p z) (same_unit s p g) y)
+pub half_spends : (s z : Store) (k t : ℕ) → k ≤ t → Spends (list_allowance k (2 ^ levels_of s)) s z → Spends (list_allowance t (2 ^ levels_of s)) s z
+half_spends s z k t le h = Spends-more s z _ _ (list_allowance-mono k t (2 ^ levels_of s) le) h
 
-pub element_started : (s p z : Store) → Grows s p → (k n t : ℕ) → 1 ≤ n → k + n ≤ t → Spends (list_allowance k (2 ^ levels_of s)) s p → Spends (allowance n (2 ^ levels_of p)) p z → Spends (list_allowance t (2 ^ levels_of s)) s z
-element_started s p z g k n t some le x y =
-    Spends-more s z _ _ (omega (arith, element_within k n t (2 ^ levels_of s) 0 0 some (omega arith) (omega arith) (some_unit s) le)) (element_join s p z g k n x y)
+lists_join : (s p z : Store) → Grows s p → (k n : ℕ) → Spends (list_allowance k (2 ^ levels_of s)) s p → Spends (list_allowance n (2 ^ levels_of p)) p z → Spends (list_allowance k (2 ^ levels_of s) + list_allowance n (2 ^ levels_of s)) s z
+lists_join s p z g k n x y = Spends-then s p z _ _ _ g.levels (omega arith) x (subst (λ u. Spends (list_allowance n u) p z) (same_unit s p g) y)
 
-pub element_spends : (s p q z : Store) → Grows s p → Grows p q → (k n t l r : ℕ) → 1 ≤ n → k + n ≤ t → Spends (list_allowance k (2 ^ levels_of s)) s p → Spends (allowance n (2 ^ levels_of p)) p q → Spends (5 * l + 5 * r + 3) q z
+pub lists_spend : (s p z : Store) → Grows s p → (k n t : ℕ) → k + n ≤ t → Spends (list_allowance k (2 ^ levels_of s)) s p → Spends (list_allowance n (2 ^ levels_of p)) p z → Spends (list_allowance t (2 ^ levels_of s)) s z
+lists_spend s p z g k n t le x y = Spends-more s z _ _ (omega (arith, list_allowance-join k n (2 ^ levels_of s), list_allowance-mono (k + n) t (2 ^ levels_of s) le)) (lists_join s p z g k n x y)
+
+pub halves_spend : (s p q z : Store) → Grows s p → Grows p q → (k n t l r : ℕ) → 1 ≤ k → 1 ≤ n → t ≡ k + n → Spends (list_allowance k (2 ^ levels_of s)) s p → Spends (list_allowance n (2 ^ levels_of p)) p q → Spends (5 * l + 5 * r + 3) q z
     → l ≤ k * 2 ^ levels_of p → r ≤ n * 2 ^ levels_of q → Spends (list_allowance t (2 ^ levels_of s)) s z
-element_spends s p q z g h k n t l r some le x y w few more =
+halves_spend s p q z g h k n t l r one two e x y w few more =
     let all : 2 ^ levels_of q ≡ 2 ^ levels_of s = same_unit p q h ∙ same_unit s p g in
-    Spends-then s q z _ (5 * l + 5 * r + 3) _ (h.levels ∙ g.levels)
-    (element_within k n t (2 ^ levels_of s) l r some (subst (λ u. l ≤ k * u) (same_unit s p g) few) (subst (λ u. r ≤ n * u) all more) (some_unit s) le)
-    (element_join s p q g k n x y) w
+    subst (λ m. Spends (list_allowance m (2 ^ levels_of s)) s z) (sym e)
+    (Spends-then s q z _ (5 * l + 5 * r + 3) _ (h.levels ∙ g.levels)
+    (allowance-halves k n (2 ^ levels_of s) l r one two (subst (λ u. l ≤ k * u) (same_unit s p g) few) (subst (λ u. r ≤ n * u) all more) (some_unit s))
+    (lists_join s p q g k n x y) w)
 
 pub list_spends : (s z : Store) (k t : ℕ) → t ≡ 1 + k → Spends (list_allowance k (2 ^ levels_of s)) s z → Spends (allowance t (2 ^ levels_of s)) s z
 list_spends s z k t e h = subst (λ m. Spends (allowance m (2 ^ levels_of s)) s z) (sym e) (Spends-more s z _ _ (list_allowance-whole k (2 ^ levels_of s)) h)
@@ -158,11 +137,6 @@ module _ (s p q : Store) (g : Grows s p) (h : Grows p q) (a b : ℕ) (one : 1 �
     arm_spends z l r few more w =
         let all : 2 ^ levels_of q ≡ 2 ^ levels_of s = same_unit p q h ∙ same_unit s p g in
         Spends-then s q z _ (7 * l + 2 * r + 6) _ (h.levels ∙ g.levels) (within l r (subst (λ u. l ≤ a * u) (same_unit s p g) few) (subst (λ u. r ≤ b * u) all more)) (both_join s p q g a b x y) w
-
-pub arm_joined : (s p z : Store) → Grows s p → (k n t : ℕ) → k + n ≤ t → Spends (list_allowance k (2 ^ levels_of s)) s p → Spends (list_allowance n (2 ^ levels_of p)) p z → Spends (list_allowance t (2 ^ levels_of s)) s z
-arm_joined s p z g k n t le x y =
-    Spends-then s p z _ (list_allowance n (2 ^ levels_of s)) _ g.levels (omega (arith, list_allowance-join k n (2 ^ levels_of s), list_allowance-mono (k + n) t (2 ^ levels_of s) le))
-    x (subst (λ u. Spends (list_allowance n u) p z) (same_unit s p g) y)
 
 pub arms_spend : (s p z : Store) → Grows s p → (k t : ℕ) → t ≡ k → Spends (list_allowance k (2 ^ levels_of s)) s p → Spends 1 p z → Spends (allowance (1 + t) (2 ^ levels_of s)) s z
 arms_spend s p z g k t e x y = subst (λ m. Spends (allowance (1 + m) (2 ^ levels_of s)) s z) (sym e) (Spends-then s p z _ 1 _ g.levels (list_allowance-last k (2 ^ levels_of s) (some_unit s)) x y)

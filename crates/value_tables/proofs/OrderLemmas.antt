@@ -16,7 +16,7 @@ use Rattle.std.proofs.lemmas.List.Sorted.{All-permutation, list_any-IsPermutatio
 use Rattle.kripke_model.specs.declared.expressions.Value.{Value}
 use Rattle.kripke_model.specs.declared.expressions.Value.TheVariants.{Number, Symbol}
 use Rattle.kripke_model.specs.declared.expressions.BinOp.{BinOp}
-use Rattle.kripke_model.specs.Evaluation.{Checked}
+use Rattle.kripke_model.specs.Evaluation.{Checked, truth}
 use Rattle.bdd_nodes.specs.declared.store.Store.{Store}
 use Rattle.bdd_nodes.specs.Store.{Has, value_of, Grows}
 use Rattle.bdd_nodes.proofs.Tables.{value_of-false}
@@ -24,13 +24,10 @@ use Rattle.value_tables.specs.declared.cells.Cell.{Cell}
 use Rattle.value_tables.specs.declared.orders.Mark.{Mark}
 use Rattle.value_tables.specs.declared.orders.Passed.{Passed}
 use Rattle.value_tables.specs.Work.{IsRegion}
-use Rattle.value_tables.specs.Cells.{same_reading, any_of, any_cell, Reads}
-use Rattle.value_tables.specs.Pick.{truth_of}
-use Rattle.value_tables.specs.Tables.{is_failure, is_fault_of, both, truths}
+use Rattle.value_tables.specs.Cells.{any_cell, Reads}
+use Rattle.value_tables.specs.Tables.{judged}
 use Rattle.value_tables.specs.Orders.{numbers, compares, comparison, in_order, is_below, any_below, mark_of, marks_in, is_before, is_lesser, any_lesser, any_greater, is_pair, any_pair, AreMarks, AreHeld, ArePassed, AreJoined}
 use Rattle.value_tables.proofs.ReadingLists.{reads-any}
-use Rattle.value_tables.proofs.RegionLemmas.{any_cell-grows}
-use Rattle.value_tables.proofs.ResultLemmas.{decided_shows}
 
 -- ---- tests over lists
 
@@ -645,52 +642,7 @@ module _ (v : ℕ → Bool) where
   order_is BinOp.Gt left right i j x y = below_is true right left j i y x
   order_is op left right i j x y = below_is false right left j i y x
 
-  pub ordered_shows : (op : BinOp) (left right : List Cell) (a b : Checked ℤ) → Reads v left (numbers a) → Reads v right (numbers b) → (k : Checked Value) (fault fail hit : Bool)
-      → fault ≡ is_fault_of (both (numbers a) (numbers b)) k → fail ≡ is_failure (both (numbers a) (numbers b)) → hit ≡ in_order v op left right
-      → ((fault || (same_reading k (Ok (truth_of false)) && not (hit || fail))) || (same_reading k (Ok (truth_of true)) && (hit && not fail))) ≡ any_of (same_reading k) (comparison op a b)
-  ordered_shows op left right a b x y k fault fail hit f g h =
-      (λ i. ((f ∙ same_fault a b) i || (same_reading k (Ok (truth_of false)) && not (h i || (g ∙ same_failure a b) i))) || (same_reading k (Ok (truth_of true)) && (h i && not ((g ∙ same_failure a b) i))))
-      ∙ decided_shows (joined a b) (in_order v op left right) (λ t e. found t a b x y e) k
-      ∙ ap (any_of (same_reading k)) (same_result a b)
-    where
-      joined : Checked ℤ → Checked ℤ → Checked Bool
-      joined (Ok i) (Ok j) = Ok (compares op i j)
-      joined (Ok i) (Err kind) = Err kind
-      joined (Err kind) b = Err kind
-
-      same_fault : (a b : Checked ℤ) → is_fault_of (both (numbers a) (numbers b)) k ≡ is_fault_of (joined a b) k
-      same_fault (Ok i) (Ok j) = refl
-      same_fault (Ok i) (Err kind) = refl
-      same_fault (Err kind) b = refl
-
-      same_failure : (a b : Checked ℤ) → is_failure (both (numbers a) (numbers b)) ≡ is_failure (joined a b)
-      same_failure (Ok i) (Ok j) = refl
-      same_failure (Ok i) (Err kind) = refl
-      same_failure (Err kind) b = refl
-
-      same_result : (a b : Checked ℤ) → truths (joined a b) ≡ comparison op a b
-      same_result (Ok i) (Ok j) = refl
-      same_result (Ok i) (Err kind) = refl
-      same_result (Err kind) b = refl
-
-      found : (t : Bool) (a b : Checked ℤ) → Reads v left (numbers a) → Reads v right (numbers b) → joined a b ≡ Ok t → in_order v op left right ≡ t
-      found t (Ok i) (Ok j) x y e =
-          let at : compares op i j ≡ t = cc in
-          order_is op left right i j x y ∙ at
-      found t (Ok i) (Err kind) x y e = absurd cc
-      found t (Err kind) b x y e = absurd cc
-
--- the same in a store that has grown
-module _ (s a : Store) (g : Grows s a) (bits : List Bool) where
-  below-grows : (strict : Bool) (lesser greater : List Cell) → All (λ (c : Cell). Has s c.region) lesser → All (λ (c : Cell). Has s c.region) greater
-      → any_below (λ q. value_of a q bits) strict lesser greater ≡ any_below (λ q. value_of s q bits) strict lesser greater
-  below-grows strict lesser greater left right =
-      (λ j. any_cell (λ q. value_of a q bits) (λ k. any_cell-grows s a g greater right bits (is_below strict k) j) lesser)
-      ∙ any_cell-grows s a g lesser left bits (λ k. any_cell (λ q. value_of s q bits) (is_below strict k) greater)
-
-  pub in_order-grows : (op : BinOp) (left right : List Cell) → All (λ (c : Cell). Has s c.region) left → All (λ (c : Cell). Has s c.region) right
-      → in_order (λ q. value_of a q bits) op left right ≡ in_order (λ q. value_of s q bits) op left right
-  in_order-grows BinOp.Lt left right x y = below-grows true left right x y
-  in_order-grows BinOp.Le left right x y = below-grows false left right x y
-  in_order-grows BinOp.Gt left right x y = below-grows true right left y x
-  in_order-grows op left right x y = below-grows false right left y x
+  pub comparison_judged : (op : BinOp) (left right : List Cell) (a b : Checked ℤ) → Reads v left (numbers a) → Reads v right (numbers b) → judged (numbers a) (numbers b) (in_order v op left right) ≡ comparison op a b
+  comparison_judged op left right (Ok i) (Ok j) x y = ap (λ t. Ok (truth t)) (order_is op left right i j x y)
+  comparison_judged op left right (Ok i) (Err kind) x y = refl
+  comparison_judged op left right (Err kind) b x y = refl

@@ -11,7 +11,7 @@ use Rattle.kripke_model.specs.Size.{node_count, element_nodes, arm_nodes}
 use Rattle.kripke_model.specs.Evaluation.{Checked, ◌>>=◌, same, distinct, truth, boolean, binary, runs, eval, eval_elements, eval_arms}
 use Rattle.value_tables.specs.declared.cells.Cell.{Cell}
 use Rattle.value_tables.specs.Cells.{readings, Reads, AreCells}
-use Rattle.value_tables.specs.Tables.{IsSingle, IsTable, all_values}
+use Rattle.value_tables.specs.Tables.{IsSingle, IsTable, IsSetTable, all_values}
 use Rattle.value_tables.specs.Weights.{AreApart}
 use Rattle.value_tables.proofs.BinaryLemmas.{one_truth, member_single, equality_single, connective_single, arithmetic_single, comparison_single}
 use Rattle.value_tables.proofs.EvalLemmas.{single_negation}
@@ -50,17 +50,11 @@ unfolding amount
 distinct_amount (Ok vs) = omega (arith, amount_ok vs, amount_ok (distinct vs), distinct-le vs)
 distinct_amount (Err kind) = omega arith
 
-pub all_amount : (c d : Checked (List Value)) → length (readings (all_values c d)) ≤ length (readings c) + length (readings d)
+all_amount : (c d : Checked (List Value)) → length (readings (all_values c d)) ≤ length (readings c) + length (readings d)
 unfolding amount
 all_amount (Ok vs) (Ok ws) = omega (arith, amount_ok vs, amount_ok ws, amount_ok (vs ++ ws), length-append vs ws)
 all_amount (Ok vs) (Err kind) = omega arith
 all_amount (Err kind) d = omega arith
-
-pub few_more : (c d : Checked (List Value)) (k n t : ℕ) → length (readings c) ≤ k → length (readings d) ≤ n → k + n ≤ t → length (readings (all_values c d)) ≤ t
-few_more c d k n t h j le = omega (arith, all_amount c d)
-
-pub none_few : (k : ℕ) → length (readings (Ok [])) ≤ k
-none_few k = omega arith
 
 union_amount : (c d : Checked (List Value)) → length (readings (binary BinOp.Union c d)) ≤ 1 + length (readings c) + length (readings d)
 union_amount (Ok vs) (Ok ws) = omega (arith, distinct_amount (Ok (vs ++ ws)), all_amount (Ok vs) (Ok ws))
@@ -105,7 +99,7 @@ mutual
   eval_amount m (Term.Quant op e) s t = omega arith
   eval_amount m (Term.Until all a b) s t = omega arith
 
-  elements_amount : (m : System) (es : Terms) (s t : State) → length (readings (eval_elements m es s t)) ≤ element_nodes es
+  pub elements_amount : (m : System) (es : Terms) (s t : State) → length (readings (eval_elements m es s t)) ≤ element_nodes es
   elements_amount m none s t = omega arith
   elements_amount m (more e es) s t = omega (arith, all_amount (eval m e s t) (eval_elements m es s t), eval_amount m e s t, elements_amount m es s t)
 
@@ -135,6 +129,9 @@ reads-few s cells n h f = cells-few s cells n h.has h.some (λ bits. let x = f b
 
 pub table-few : (s : Store) (cells : List Cell) (single : Bool) (f : List Bool → Checked (List Value)) (n : ℕ) → IsTable s cells single f → ((bits : List Bool) → length (readings (f bits)) ≤ n) → length cells ≤ n * 2 ^ levels_of s
 table-few s cells single f n h most = reads-few s cells n h.regions (λ bits. (f bits, h.reads bits, most bits))
+
+pub set-few : (s : Store) (cells : List Cell) (f : List Bool → Checked (List Value)) (n : ℕ) → IsSetTable s cells f → ((bits : List Bool) → length (readings (f bits)) ≤ n) → length cells ≤ n * 2 ^ levels_of s
+set-few s cells f n h most = reads-few s cells n h.regions (λ bits. (f bits, h.reads bits, most bits))
 
 pub reads-apart : (s : Store) (cells : List Cell) → AreCells s cells → ((bits : List Bool) → (c : Checked (List Value)) × Reads (λ r. value_of s r bits) cells c × (length (readings c) ≤ 1)) → AreApart s cells
 reads-apart s cells h f = record { each = λ bits. let x = f bits in omega (arith, counted_most (λ r. value_of s r bits) cells x.0 h.once x.1, x.2) }

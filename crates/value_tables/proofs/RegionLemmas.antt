@@ -17,7 +17,7 @@ use Rattle.value_tables.specs.declared.cells.Cell.{Cell}
 use Rattle.kripke_model.specs.declared.expressions.BinOp.{BinOp}
 use Rattle.value_tables.specs.declared.pick.Pick.{Pick}
 use Rattle.value_tables.specs.Pick.{becomes}
-use Rattle.value_tables.specs.Tables.{at_region, pairs_to}
+use Rattle.value_tables.specs.Tables.{pairs_to}
 use Rattle.value_tables.proofs.BoolLemmas.{or_more}
 use Rattle.value_tables.specs.Work.{Keeps, Spends, IsRegion}
 use Rattle.value_tables.specs.Cells.{any_cell, AreCells, same_reading, region_at}
@@ -127,13 +127,8 @@ module _ (s a : Store) (g : Grows s a) (cells : List Cell) (has : All (λ (c : C
   pub region_at-grows : (bits : List Bool) → value_of a r bits ≡ value_of s (region_at cells k) bits
   region_at-grows bits = ap (λ x. value_of a x bits) is ∙ g.value (region_at cells k) (region_has s cells has k) bits
 
--- matches and pairs show the same in a store that has grown
+-- pairs show the same in a store that has grown
 module _ (s a : Store) (g : Grows s a) (left right : List Cell) (has_left : All (λ (c : Cell). Has s c.region) left) (has_right : All (λ (c : Cell). Has s c.region) right) (bits : List Bool) where
-  pub matched-grows : any_cell (λ q. value_of a q bits) (at_region (λ q. value_of a q bits) right) left ≡ any_cell (λ q. value_of s q bits) (at_region (λ q. value_of s q bits) right) left
-  matched-grows =
-      (λ j. any_cell (λ q. value_of a q bits) (λ k. g.value (region_at right k) (region_has s right has_right k) bits j) left)
-      ∙ any_cell-grows s a g left has_left bits (at_region (λ q. value_of s q bits) right)
-
   pub pairs_to-grows : (op : BinOp) (k r : Checked Value) → pairs_to (λ q. value_of a q bits) op k right r ≡ pairs_to (λ q. value_of s q bits) op k right r
   pairs_to-grows op k (Ok v) = any_cell-grows s a g right has_right bits (becomes (Pick.With op v) k)
   pairs_to-grows op k (Err kind) = refl

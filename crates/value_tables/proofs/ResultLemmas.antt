@@ -9,13 +9,13 @@ use Rattle.bdd_nodes.proofs.Tables.{value_of-true}
 use Rattle.kripke_model.specs.declared.expressions.Value.{Value}
 use Rattle.kripke_model.specs.declared.expressions.BinOp.{BinOp}
 use Rattle.kripke_model.specs.declared.expressions.FaultKind.{FaultKind}
-use Rattle.kripke_model.specs.Evaluation.{Checked, among, single, truth}
+use Rattle.kripke_model.specs.Evaluation.{Checked, ◌>>=◌, single, truth}
 use Rattle.value_tables.specs.declared.cells.Cell.{Cell}
 use Rattle.value_tables.specs.declared.pick.Pick.{Pick}
 use Rattle.value_tables.specs.declared.pick.Test.{Test}
 use Rattle.value_tables.specs.Cells.{same_reading, readings, any_of, any_cell, Reads, AreOnce, readings_in, region_at}
 use Rattle.value_tables.specs.Pick.{truth_of, tested_value, becomes}
-use Rattle.value_tables.specs.Tables.{is_fault, is_failure, is_fault_of, alone, IsProper, IsSingle, count_on, at_region, logic, one_tested, both, membership, truths, connective, IsTable}
+use Rattle.value_tables.specs.Tables.{is_fault, is_failure, is_fault_of, alone, IsProper, IsSingle, count_on, at_region, logic, one_tested, both, judged, membership, truths, connective, IsTable}
 use Rattle.value_tables.proofs.ReadingLists.{reads-any}
 use Rattle.value_tables.proofs.OnceLemmas.{any_values, counted_on, region_shows}
 
@@ -115,9 +115,9 @@ faults_region v left right c d a b =
 
 -- ---- 0 and 1
 
-pub decided_shows : (e : Checked Bool) (hit : Bool) → ((h : Bool) → e ≡ Ok h → hit ≡ h) → (k : Checked Value)
-    → ((is_fault_of e k || (same_reading k (Ok (truth_of false)) && not (hit || is_failure e))) || (same_reading k (Ok (truth_of true)) && (hit && not (is_failure e)))) ≡ any_of (same_reading k) (truths e)
-decided_shows (Err kind) hit is k = by (same_reading k (Err kind)) (same_reading k (Ok (truth_of false))) (same_reading k (Ok (truth_of true))) hit
+decided_shows : (e : Checked (List Value)) (hit : Bool) (k : Checked Value)
+    → ((is_fault_of e k || (same_reading k (Ok (truth_of false)) && not (hit || is_failure e))) || (same_reading k (Ok (truth_of true)) && (hit && not (is_failure e)))) ≡ any_of (same_reading k) (e >>= λ vs. Ok (truth hit))
+decided_shows (Err kind) hit k = by (same_reading k (Err kind)) (same_reading k (Ok (truth_of false))) (same_reading k (Ok (truth_of true))) hit
   where
     by : (f a b hit : Bool) → ((f || (a && not (hit || true))) || (b && (hit && false))) ≡ (f || false)
     by true a b hit = refl
@@ -128,14 +128,14 @@ decided_shows (Err kind) hit is k = by (same_reading k (Err kind)) (same_reading
     by false false true true = refl
     by false false true false = refl
     by false false false hit = refl
-decided_shows (Ok true) hit is k = (λ i. (false || (same_reading k (Ok (truth_of false)) && not (is true refl i || false))) || (same_reading k (Ok (truth_of true)) && (is true refl i && true))) ∙ by (same_reading k (Ok (truth_of false))) (same_reading k (Ok (truth_of true)))
+decided_shows (Ok vs) true k = by (same_reading k (Ok (truth_of false))) (same_reading k (Ok (truth_of true)))
   where
     by : (a b : Bool) → ((false || (a && false)) || (b && true)) ≡ (b || false)
     by true true = refl
     by true false = refl
     by false true = refl
     by false false = refl
-decided_shows (Ok false) hit is k = (λ i. (false || (same_reading k (Ok (truth_of false)) && not (is false refl i || false))) || (same_reading k (Ok (truth_of true)) && (is false refl i && true))) ∙ by (same_reading k (Ok (truth_of false))) (same_reading k (Ok (truth_of true)))
+decided_shows (Ok vs) false k = by (same_reading k (Ok (truth_of false))) (same_reading k (Ok (truth_of true)))
   where
     by : (a b : Bool) → ((false || (a && true)) || (b && false)) ≡ (a || false)
     by true true = refl
@@ -143,79 +143,28 @@ decided_shows (Ok false) hit is k = (λ i. (false || (same_reading k (Ok (truth_
     by false true = refl
     by false false = refl
 
-pub membership_shows : (v : ℕ → Bool) (left right : List Cell) (a : Checked Value) (d : Checked (List Value)) → v 0 ≡ false → AreOnce (readings_in right) → Reads v left (alone a) → Reads v right d → (k : Checked Value) (fault : Bool) (fail hit : Bool)
-    → fault ≡ is_fault_of (both (alone a) d) k → fail ≡ is_failure (both (alone a) d) → hit ≡ any_cell v (at_region v right) left
-    → ((fault || (same_reading k (Ok (truth_of false)) && not (hit || fail))) || (same_reading k (Ok (truth_of true)) && (hit && not fail))) ≡ any_of (same_reading k) (membership a d)
-membership_shows v left right a d none once x y k fault fail hit f g h =
-    (λ i. ((f ∙ same_fault a d) i || (same_reading k (Ok (truth_of false)) && not (h i || (g ∙ same_failure a d) i))) || (same_reading k (Ok (truth_of true)) && (h i && not ((g ∙ same_failure a d) i))))
-    ∙ decided_shows (is_member a d) (any_cell v (at_region v right) left) (λ b e. found b a d x y e) k
-    ∙ ap (any_of (same_reading k)) (same_result a d)
-  where
-    is_member : Checked Value → Checked (List Value) → Checked Bool
-    is_member (Ok u) (Ok ws) = Ok (among u ws)
-    is_member (Ok u) (Err kind) = Err kind
-    is_member (Err kind) d = Err kind
+-- the same, from the values that the steps leave
+pub judged_shows : (c d : Checked (List Value)) (k : Checked Value) (fault fail now hit : Bool) → fault ≡ is_fault_of (both c d) k → fail ≡ is_failure (both c d) → now ≡ hit
+    → ((fault || (same_reading k (Ok (truth_of false)) && not (now || fail))) || (same_reading k (Ok (truth_of true)) && (now && not fail))) ≡ any_of (same_reading k) (judged c d hit)
+judged_shows c d k fault fail now hit f g h =
+    (λ i. (f i || (same_reading k (Ok (truth_of false)) && not (h i || g i))) || (same_reading k (Ok (truth_of true)) && (h i && not (g i)))) ∙ decided_shows (both c d) hit k
 
-    same_fault : (a : Checked Value) (d : Checked (List Value)) → is_fault_of (both (alone a) d) k ≡ is_fault_of (is_member a d) k
-    same_fault (Ok u) (Ok ws) = refl
-    same_fault (Ok u) (Err kind) = refl
-    same_fault (Err kind) d = refl
+module _ (v : ℕ → Bool) (left right : List Cell) (none : v 0 ≡ false) where
+  pub membership_judged : (a : Checked Value) (d : Checked (List Value)) → AreOnce (readings_in right) → Reads v left (alone a) → Reads v right d → judged (alone a) d (any_cell v (at_region v right) left) ≡ membership a d
+  membership_judged (Ok u) (Ok ws) once x y =
+      ap (λ b. Ok (truth b)) (reads-any v left (alone (Ok u)) x (at_region v right) ∙ or_none (at_region v right (Ok u)) ∙ region_shows v none right once (Ok u) ∙ y.each (Ok u) ∙ any_values (same_reading (Ok u)) ws)
+  membership_judged (Ok u) (Err kind) once x y = refl
+  membership_judged (Err kind) d once x y = refl
 
-    same_failure : (a : Checked Value) (d : Checked (List Value)) → is_failure (both (alone a) d) ≡ is_failure (is_member a d)
-    same_failure (Ok u) (Ok ws) = refl
-    same_failure (Ok u) (Err kind) = refl
-    same_failure (Err kind) d = refl
+  side : (cells : List Cell) → AreOnce (readings_in cells) → (p : Bool) → Reads v cells (Ok (truth p)) → v (region_at cells (Ok (truth_of true))) ≡ p
+  side cells once true h = region_shows v none cells once (Ok (truth_of true)) ∙ h.each (Ok (truth_of true)) ∙ refl
+  side cells once false h = region_shows v none cells once (Ok (truth_of true)) ∙ h.each (Ok (truth_of true)) ∙ refl
 
-    same_result : (a : Checked Value) (d : Checked (List Value)) → truths (is_member a d) ≡ membership a d
-    same_result (Ok u) (Ok ws) = refl
-    same_result (Ok u) (Err kind) = refl
-    same_result (Err kind) d = refl
-
-    found : (b : Bool) (a : Checked Value) (d : Checked (List Value)) → Reads v left (alone a) → Reads v right d → is_member a d ≡ Ok b → any_cell v (at_region v right) left ≡ b
-    found b (Ok u) (Ok ws) x y e =
-        let at : among u ws ≡ b = cc in
-        reads-any v left (alone (Ok u)) x (at_region v right) ∙ or_none (at_region v right (Ok u)) ∙ region_shows v none right once (Ok u) ∙ y.each (Ok u) ∙ any_values (same_reading (Ok u)) ws ∙ at
-    found b (Ok u) (Err kind) x y e = absurd cc
-    found b (Err kind) d x y e = absurd cc
-
-pub connective_shows : (v : ℕ → Bool) (op : BinOp) (left right : List Cell) (a b : Checked Bool) → v 0 ≡ false → AreOnce (readings_in left) → AreOnce (readings_in right) → Reads v left (truths a) → Reads v right (truths b) → (k : Checked Value) (fault fail hit : Bool)
-    → fault ≡ is_fault_of (both (truths a) (truths b)) k → fail ≡ is_failure (both (truths a) (truths b)) → hit ≡ logic op (v (region_at left (Ok (truth_of true)))) (v (region_at right (Ok (truth_of true))))
-    → ((fault || (same_reading k (Ok (truth_of false)) && not (hit || fail))) || (same_reading k (Ok (truth_of true)) && (hit && not fail))) ≡ any_of (same_reading k) (connective op a b)
-connective_shows v op left right a b none once_left once_right x y k fault fail hit f g h =
-    (λ i. ((f ∙ same_fault a b) i || (same_reading k (Ok (truth_of false)) && not (h i || (g ∙ same_failure a b) i))) || (same_reading k (Ok (truth_of true)) && (h i && not ((g ∙ same_failure a b) i))))
-    ∙ decided_shows (joined a b) (logic op (v (region_at left (Ok (truth_of true)))) (v (region_at right (Ok (truth_of true))))) (λ t e. found t a b x y e) k
-    ∙ ap (any_of (same_reading k)) (same_result a b)
-  where
-    joined : Checked Bool → Checked Bool → Checked Bool
-    joined (Ok p) (Ok q) = Ok (logic op p q)
-    joined (Ok p) (Err kind) = Err kind
-    joined (Err kind) b = Err kind
-
-    same_fault : (a b : Checked Bool) → is_fault_of (both (truths a) (truths b)) k ≡ is_fault_of (joined a b) k
-    same_fault (Ok p) (Ok q) = refl
-    same_fault (Ok p) (Err kind) = refl
-    same_fault (Err kind) b = refl
-
-    same_failure : (a b : Checked Bool) → is_failure (both (truths a) (truths b)) ≡ is_failure (joined a b)
-    same_failure (Ok p) (Ok q) = refl
-    same_failure (Ok p) (Err kind) = refl
-    same_failure (Err kind) b = refl
-
-    same_result : (a b : Checked Bool) → truths (joined a b) ≡ connective op a b
-    same_result (Ok p) (Ok q) = refl
-    same_result (Ok p) (Err kind) = refl
-    same_result (Err kind) b = refl
-
-    side : (cells : List Cell) → AreOnce (readings_in cells) → (p : Bool) → Reads v cells (Ok (truth p)) → v (region_at cells (Ok (truth_of true))) ≡ p
-    side cells once true h = region_shows v none cells once (Ok (truth_of true)) ∙ h.each (Ok (truth_of true)) ∙ refl
-    side cells once false h = region_shows v none cells once (Ok (truth_of true)) ∙ h.each (Ok (truth_of true)) ∙ refl
-
-    found : (t : Bool) (a b : Checked Bool) → Reads v left (truths a) → Reads v right (truths b) → joined a b ≡ Ok t → logic op (v (region_at left (Ok (truth_of true)))) (v (region_at right (Ok (truth_of true)))) ≡ t
-    found t (Ok p) (Ok q) x y e =
-        let at : logic op p q ≡ t = cc in
-        (λ i. logic op (side left once_left p x i) (side right once_right q y i)) ∙ at
-    found t (Ok p) (Err kind) x y e = absurd cc
-    found t (Err kind) b x y e = absurd cc
+  pub connective_judged : (op : BinOp) (a b : Checked Bool) → AreOnce (readings_in left) → AreOnce (readings_in right) → Reads v left (truths a) → Reads v right (truths b)
+      → judged (truths a) (truths b) (logic op (v (region_at left (Ok (truth_of true)))) (v (region_at right (Ok (truth_of true))))) ≡ connective op a b
+  connective_judged op (Ok p) (Ok q) once_left once_right x y = λ i. Ok (truth (logic op (side left once_left p x i) (side right once_right q y i)))
+  connective_judged op (Ok p) (Err kind) once_left once_right x y = refl
+  connective_judged op (Err kind) b once_left once_right x y = refl
 
 -- the tested operand
 pub tested_shows : (v : ℕ → Bool) (cells : List Cell) (c : Checked (List Value)) → AreOnce (readings_in cells) → Reads v cells c → IsProper c → (single : Bool) → (single ≡ true → IsSingle c) → (test : Test) (k : Checked Value) (many : Bool)

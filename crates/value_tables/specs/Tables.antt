@@ -93,6 +93,10 @@ one_tested test c = alone (value_tested test c)
 abbrev pub both : Checked (List Value) → Checked (List Value) → Checked (List Value)
 both c d = c >>= λ vs. d
 
+-- whether the hit is, where both operands have values; else the first fault
+abbrev pub judged : Checked (List Value) → Checked (List Value) → Bool → Checked (List Value)
+judged c d hit = both c d >>= λ vs. Ok (truth hit)
+
 abbrev pub membership : Checked Value → Checked (List Value) → Checked (List Value)
 membership a d = a >>= λ v. d >>= λ ws. Ok (truth (among v ws))
 

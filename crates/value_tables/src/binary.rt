@@ -43,15 +43,20 @@ fn tested_pair<L: Ledger>(
     requires right { AreCells (store_of engine.old) right.now.cells.items }
     ensures left { IfOk result (λ p. AreCells (store_of engine.new) p.left.items) }
     ensures right { IfOk result (λ p. AreCells (store_of engine.new) p.right.items) }
-    ensures reads_left { IfOk result (λ p. (bits : List Bool) (c : Checked (List Values)) → IsOperand (λ r. value_of (store_of engine.old) r bits) left.now.cells.items left.now.single c
-        → Reads (λ r. value_of (store_of engine.new) r bits) p.left.items (one_tested test c)) }
-    ensures reads_right { IfOk result (λ p. (bits : List Bool) (d : Checked (List Values)) → IsOperand (λ r. value_of (store_of engine.old) r bits) right.now.cells.items right.now.single d
-        → Reads (λ r. value_of (store_of engine.new) r bits) p.right.items (one_tested test d)) }
+    ensures reads_left { IfOk result (λ p. (bits : List Bool) (c : Checked (List Values))
+        → IsOperand (λ r. value_of (store_of engine.old) r bits) left.now.cells.items
+        left.now.single c → Reads (λ r. value_of (store_of engine.new) r bits) p.left.items
+        (one_tested test c)) }
+    ensures reads_right { IfOk result (λ p. (bits : List Bool) (d : Checked (List Values))
+        → IsOperand (λ r. value_of (store_of engine.old) r bits) right.now.cells.items
+        right.now.single d → Reads (λ r. value_of (store_of engine.new) r bits) p.right.items
+        (one_tested test d)) }
     ensures held { IfErr result (IsRefusalOf (store_of engine.new)) }
     ensures keeps { Keeps engine.old engine.new steps.old steps.new }
     ensures few_left { IfOk result (λ p. length p.left.items ≤ length left.now.cells.items + 1) }
     ensures few_right { IfOk result (λ p. length p.right.items ≤ length right.now.cells.items + 1) }
-    ensures spends { Spends (5 * length left.now.cells.items + 5 * length right.now.cells.items + 4) (store_of engine.old) (store_of engine.new) }
+    ensures spends { Spends (5 * length left.now.cells.items + 5 * length right.now.cells.items + 4)
+        (store_of engine.old) (store_of engine.new) }
 {
     let left = tested(alloc, engine, left, test, steps)?;
     let right = tested(alloc, engine, right, test, steps)?;
@@ -70,12 +75,19 @@ fn union_of<L: Ledger>(
     requires left { AreCells (store_of engine.old) left.now.cells.items }
     requires right { AreCells (store_of engine.old) right.now.cells.items }
     ensures cells { IfOk result (λ t. AreCells (store_of engine.new) t.cells.items) }
-    ensures reads { IfOk result (λ t. (bits : List Bool) (c d : Checked (List Values)) → IsOperand (λ r. value_of (store_of engine.old) r bits) left.now.cells.items left.now.single c → IsOperand (λ r. value_of (store_of engine.old) r bits) right.now.cells.items right.now.single d
-        → Reads (λ r. value_of (store_of engine.new) r bits) t.cells.items (binary op c d)) }
-    ensures single { IfOk result (λ t. t.single ≡ true → (c d : Checked (List Values)) → IsSingle (binary op c d)) }
+    ensures reads { IfOk result (λ t. (bits : List Bool) (c d : Checked (List Values))
+        → IsOperand (λ r. value_of (store_of engine.old) r bits) left.now.cells.items
+        left.now.single c
+        → IsOperand (λ r. value_of (store_of engine.old) r bits) right.now.cells.items
+        right.now.single d → Reads (λ r. value_of (store_of engine.new) r bits) t.cells.items
+        (binary op c d)) }
+    ensures single { IfOk result (λ t. t.single ≡ true → (c d : Checked (List Values))
+        → IsSingle (binary op c d)) }
     ensures held { IfErr result (IsRefusalOf (store_of engine.new)) }
     ensures keeps { Keeps engine.old engine.new steps.old steps.new }
-    ensures spends { Spends (operator_allowance (length left.now.cells.items) (length right.now.cells.items) (2 ^ levels_of (store_of engine.old))) (store_of engine.old) (store_of engine.new) }
+    ensures spends { Spends (operator_allowance (length left.now.cells.items)
+        (length right.now.cells.items) (2 ^ levels_of (store_of engine.old))) (store_of engine.old)
+        (store_of engine.new) }
 {
     let cells = united(alloc, engine, &left.cells, &right.cells, steps)?;
     Ok(Table {
@@ -96,12 +108,19 @@ fn member_of<L: Ledger>(
     requires left { AreCells (store_of engine.old) left.now.cells.items }
     requires right { AreCells (store_of engine.old) right.now.cells.items }
     ensures cells { IfOk result (λ t. AreCells (store_of engine.new) t.cells.items) }
-    ensures reads { IfOk result (λ t. (bits : List Bool) (c d : Checked (List Values)) → IsOperand (λ r. value_of (store_of engine.old) r bits) left.now.cells.items left.now.single c → IsOperand (λ r. value_of (store_of engine.old) r bits) right.now.cells.items right.now.single d
-        → Reads (λ r. value_of (store_of engine.new) r bits) t.cells.items (binary op c d)) }
-    ensures single { IfOk result (λ t. t.single ≡ true → (c d : Checked (List Values)) → IsSingle (binary op c d)) }
+    ensures reads { IfOk result (λ t. (bits : List Bool) (c d : Checked (List Values))
+        → IsOperand (λ r. value_of (store_of engine.old) r bits) left.now.cells.items
+        left.now.single c
+        → IsOperand (λ r. value_of (store_of engine.old) r bits) right.now.cells.items
+        right.now.single d → Reads (λ r. value_of (store_of engine.new) r bits) t.cells.items
+        (binary op c d)) }
+    ensures single { IfOk result (λ t. t.single ≡ true → (c d : Checked (List Values))
+        → IsSingle (binary op c d)) }
     ensures held { IfErr result (IsRefusalOf (store_of engine.new)) }
     ensures keeps { Keeps engine.old engine.new steps.old steps.new }
-    ensures spends { Spends (operator_allowance (length left.now.cells.items) (length right.now.cells.items) (2 ^ levels_of (store_of engine.old))) (store_of engine.old) (store_of engine.new) }
+    ensures spends { Spends (operator_allowance (length left.now.cells.items)
+        (length right.now.cells.items) (2 ^ levels_of (store_of engine.old))) (store_of engine.old)
+        (store_of engine.new) }
 {
     let one = tested(alloc, engine, left, Test::Any, steps)?;
     compared(alloc, engine, &one, &right.cells, steps)
@@ -119,12 +138,19 @@ fn equality_of<L: Ledger>(
     requires left { AreCells (store_of engine.old) left.now.cells.items }
     requires right { AreCells (store_of engine.old) right.now.cells.items }
     ensures cells { IfOk result (λ t. AreCells (store_of engine.new) t.cells.items) }
-    ensures reads { IfOk result (λ t. (bits : List Bool) (c d : Checked (List Values)) → IsOperand (λ r. value_of (store_of engine.old) r bits) left.now.cells.items left.now.single c → IsOperand (λ r. value_of (store_of engine.old) r bits) right.now.cells.items right.now.single d
-        → Reads (λ r. value_of (store_of engine.new) r bits) t.cells.items (binary op c d)) }
-    ensures single { IfOk result (λ t. t.single ≡ true → (c d : Checked (List Values)) → IsSingle (binary op c d)) }
+    ensures reads { IfOk result (λ t. (bits : List Bool) (c d : Checked (List Values))
+        → IsOperand (λ r. value_of (store_of engine.old) r bits) left.now.cells.items
+        left.now.single c
+        → IsOperand (λ r. value_of (store_of engine.old) r bits) right.now.cells.items
+        right.now.single d → Reads (λ r. value_of (store_of engine.new) r bits) t.cells.items
+        (binary op c d)) }
+    ensures single { IfOk result (λ t. t.single ≡ true → (c d : Checked (List Values))
+        → IsSingle (binary op c d)) }
     ensures held { IfErr result (IsRefusalOf (store_of engine.new)) }
     ensures keeps { Keeps engine.old engine.new steps.old steps.new }
-    ensures spends { Spends (operator_allowance (length left.now.cells.items) (length right.now.cells.items) (2 ^ levels_of (store_of engine.old))) (store_of engine.old) (store_of engine.new) }
+    ensures spends { Spends (operator_allowance (length left.now.cells.items)
+        (length right.now.cells.items) (2 ^ levels_of (store_of engine.old))) (store_of engine.old)
+        (store_of engine.new) }
 {
     let pair = tested_pair(alloc, engine, Test::Any, left, right, steps)?;
     compared(alloc, engine, &pair.left, &pair.right, steps)
@@ -142,12 +168,19 @@ fn connective_of<L: Ledger>(
     requires left { AreCells (store_of engine.old) left.now.cells.items }
     requires right { AreCells (store_of engine.old) right.now.cells.items }
     ensures cells { IfOk result (λ t. AreCells (store_of engine.new) t.cells.items) }
-    ensures reads { IfOk result (λ t. (bits : List Bool) (c d : Checked (List Values)) → IsOperand (λ r. value_of (store_of engine.old) r bits) left.now.cells.items left.now.single c → IsOperand (λ r. value_of (store_of engine.old) r bits) right.now.cells.items right.now.single d
-        → Reads (λ r. value_of (store_of engine.new) r bits) t.cells.items (binary op c d)) }
-    ensures single { IfOk result (λ t. t.single ≡ true → (c d : Checked (List Values)) → IsSingle (binary op c d)) }
+    ensures reads { IfOk result (λ t. (bits : List Bool) (c d : Checked (List Values))
+        → IsOperand (λ r. value_of (store_of engine.old) r bits) left.now.cells.items
+        left.now.single c
+        → IsOperand (λ r. value_of (store_of engine.old) r bits) right.now.cells.items
+        right.now.single d → Reads (λ r. value_of (store_of engine.new) r bits) t.cells.items
+        (binary op c d)) }
+    ensures single { IfOk result (λ t. t.single ≡ true → (c d : Checked (List Values))
+        → IsSingle (binary op c d)) }
     ensures held { IfErr result (IsRefusalOf (store_of engine.new)) }
     ensures keeps { Keeps engine.old engine.new steps.old steps.new }
-    ensures spends { Spends (operator_allowance (length left.now.cells.items) (length right.now.cells.items) (2 ^ levels_of (store_of engine.old))) (store_of engine.old) (store_of engine.new) }
+    ensures spends { Spends (operator_allowance (length left.now.cells.items)
+        (length right.now.cells.items) (2 ^ levels_of (store_of engine.old))) (store_of engine.old)
+        (store_of engine.new) }
 {
     let pair = tested_pair(alloc, engine, Test::Boolean, left, right, steps)?;
     combined(alloc, engine, op, &pair.left, &pair.right, steps)
@@ -165,12 +198,19 @@ fn comparison_of<L: Ledger>(
     requires left { AreCells (store_of engine.old) left.now.cells.items }
     requires right { AreCells (store_of engine.old) right.now.cells.items }
     ensures cells { IfOk result (λ t. AreCells (store_of engine.new) t.cells.items) }
-    ensures reads { IfOk result (λ t. (bits : List Bool) (c d : Checked (List Values)) → IsOperand (λ r. value_of (store_of engine.old) r bits) left.now.cells.items left.now.single c → IsOperand (λ r. value_of (store_of engine.old) r bits) right.now.cells.items right.now.single d
-        → Reads (λ r. value_of (store_of engine.new) r bits) t.cells.items (binary op c d)) }
-    ensures single { IfOk result (λ t. t.single ≡ true → (c d : Checked (List Values)) → IsSingle (binary op c d)) }
+    ensures reads { IfOk result (λ t. (bits : List Bool) (c d : Checked (List Values))
+        → IsOperand (λ r. value_of (store_of engine.old) r bits) left.now.cells.items
+        left.now.single c
+        → IsOperand (λ r. value_of (store_of engine.old) r bits) right.now.cells.items
+        right.now.single d → Reads (λ r. value_of (store_of engine.new) r bits) t.cells.items
+        (binary op c d)) }
+    ensures single { IfOk result (λ t. t.single ≡ true → (c d : Checked (List Values))
+        → IsSingle (binary op c d)) }
     ensures held { IfErr result (IsRefusalOf (store_of engine.new)) }
     ensures keeps { Keeps engine.old engine.new steps.old steps.new }
-    ensures spends { Spends (operator_allowance (length left.now.cells.items) (length right.now.cells.items) (2 ^ levels_of (store_of engine.old))) (store_of engine.old) (store_of engine.new) }
+    ensures spends { Spends (operator_allowance (length left.now.cells.items)
+        (length right.now.cells.items) (2 ^ levels_of (store_of engine.old))) (store_of engine.old)
+        (store_of engine.new) }
 {
     let pair = tested_pair(alloc, engine, Test::Number, left, right, steps)?;
     ordered(alloc, engine, op, &pair.left, &pair.right, steps)
@@ -188,13 +228,20 @@ fn outcome_of<L: Ledger>(
     requires left { AreCells (store_of engine.old) left.now.cells.items }
     requires right { AreCells (store_of engine.old) right.now.cells.items }
     ensures cells { IfOk result (λ t. AreCells (store_of engine.new) t.cells.items) }
-    ensures reads { IfOk result (λ t. (bits : List Bool) (c d : Checked (List Values)) → IsOperand (λ r. value_of (store_of engine.old) r bits) left.now.cells.items left.now.single c → IsOperand (λ r. value_of (store_of engine.old) r bits) right.now.cells.items right.now.single d
-        → Reads (λ r. value_of (store_of engine.new) r bits) t.cells.items (binary op c d)) }
-    ensures single { IfOk result (λ t. t.single ≡ true → (c d : Checked (List Values)) → IsSingle (binary op c d)) }
+    ensures reads { IfOk result (λ t. (bits : List Bool) (c d : Checked (List Values))
+        → IsOperand (λ r. value_of (store_of engine.old) r bits) left.now.cells.items
+        left.now.single c
+        → IsOperand (λ r. value_of (store_of engine.old) r bits) right.now.cells.items
+        right.now.single d → Reads (λ r. value_of (store_of engine.new) r bits) t.cells.items
+        (binary op c d)) }
+    ensures single { IfOk result (λ t. t.single ≡ true → (c d : Checked (List Values))
+        → IsSingle (binary op c d)) }
     ensures held { IfErr result (IsRefusalOf (store_of engine.new)) }
     ensures keeps { Keeps engine.old engine.new steps.old steps.new }
-    ensures spends { AreOperands (store_of engine.old) left.now.cells.items left.now.single → AreOperands (store_of engine.old) right.now.cells.items right.now.single
-        → Spends (operator_allowance (length left.now.cells.items) (length right.now.cells.items) (2 ^ levels_of (store_of engine.old))) (store_of engine.old) (store_of engine.new) }
+    ensures spends { AreOperands (store_of engine.old) left.now.cells.items left.now.single
+        → AreOperands (store_of engine.old) right.now.cells.items right.now.single
+        → Spends (operator_allowance (length left.now.cells.items) (length right.now.cells.items)
+        (2 ^ levels_of (store_of engine.old))) (store_of engine.old) (store_of engine.new) }
 {
     let pair = tested_pair(alloc, engine, Test::Number, left, right, steps)?;
     calculated(alloc, engine, op, &pair.left, &pair.right, steps)
@@ -212,13 +259,20 @@ pub(crate) fn binary_of<L: Ledger>(
     requires left { AreCells (store_of engine.old) left.now.cells.items }
     requires right { AreCells (store_of engine.old) right.now.cells.items }
     ensures cells { IfOk result (λ t. AreCells (store_of engine.new) t.cells.items) }
-    ensures reads { IfOk result (λ t. (bits : List Bool) (c d : Checked (List Values)) → IsOperand (λ r. value_of (store_of engine.old) r bits) left.now.cells.items left.now.single c → IsOperand (λ r. value_of (store_of engine.old) r bits) right.now.cells.items right.now.single d
-        → Reads (λ r. value_of (store_of engine.new) r bits) t.cells.items (binary op c d)) }
-    ensures single { IfOk result (λ t. t.single ≡ true → (c d : Checked (List Values)) → IsSingle (binary op c d)) }
+    ensures reads { IfOk result (λ t. (bits : List Bool) (c d : Checked (List Values))
+        → IsOperand (λ r. value_of (store_of engine.old) r bits) left.now.cells.items
+        left.now.single c
+        → IsOperand (λ r. value_of (store_of engine.old) r bits) right.now.cells.items
+        right.now.single d → Reads (λ r. value_of (store_of engine.new) r bits) t.cells.items
+        (binary op c d)) }
+    ensures single { IfOk result (λ t. t.single ≡ true → (c d : Checked (List Values))
+        → IsSingle (binary op c d)) }
     ensures held { IfErr result (IsRefusalOf (store_of engine.new)) }
     ensures keeps { Keeps engine.old engine.new steps.old steps.new }
-    ensures spends { AreOperands (store_of engine.old) left.now.cells.items left.now.single → AreOperands (store_of engine.old) right.now.cells.items right.now.single
-        → Spends (operator_allowance (length left.now.cells.items) (length right.now.cells.items) (2 ^ levels_of (store_of engine.old))) (store_of engine.old) (store_of engine.new) }
+    ensures spends { AreOperands (store_of engine.old) left.now.cells.items left.now.single
+        → AreOperands (store_of engine.old) right.now.cells.items right.now.single
+        → Spends (operator_allowance (length left.now.cells.items) (length right.now.cells.items)
+        (2 ^ levels_of (store_of engine.old))) (store_of engine.old) (store_of engine.new) }
 {
     match op {
         BinOp::Union => union_of(alloc, engine, op, left, right, steps),

@@ -1,6 +1,6 @@
 //! The table of an expression, by recursion.
 
-ghost use Rattle.std.specs.Prelude.{◌≡◌, ◌+◌, ◌*◌, ◌^◌, ◌&&◌, ◌||◌, true, List, Bool, IfOk, IfErr, OnOk, length};
+ghost use Rattle.std.specs.Prelude.{◌≡◌, ◌<◌, ◌+◌, ◌*◌, ◌^◌, ◌&&◌, ◌||◌, true, List, Bool, IfOk, IfErr, OnOk, length};
 ghost use Rattle.bdd_nodes.specs.Store.{Has, value_of, levels_of};
 ghost use Rattle.bdd_nodes.specs.Refusal.{IsRefusalOf};
 ghost use Rattle.bdd_ops.specs.Engine.{store_of};
@@ -45,10 +45,12 @@ pub(crate) fn build<L: Ledger>(
     requires evaluable { IsEvaluable model.now (term_of expr.now) }
     requires types { layout.now.types ≡ types_of model.now }
     requires levels { levels_of (store_of engine.old) ≡ 2 * bit_count layout.now.types }
-    ensures table { IfOk result (λ t. IsTable (store_of engine.new) t.cells.items t.single (meaning_of layout.now model.now next (term_of expr.now))) }
+    ensures table { IfOk result (λ t. IsTable (store_of engine.new) t.cells.items t.single
+        (meaning_of layout.now model.now next (term_of expr.now))) }
     ensures held { IfErr result (IsRefusalOf (store_of engine.new)) }
     ensures keeps { Keeps engine.old engine.new steps.old steps.new }
-    ensures spends { Spends (allowance (node_count (term_of expr.now)) (2 ^ levels_of (store_of engine.old))) (store_of engine.old) (store_of engine.new) }
+    ensures spends { Spends (allowance (node_count (term_of expr.now))
+        (2 ^ levels_of (store_of engine.old))) (store_of engine.old) (store_of engine.new) }
 {
     match expr {
         Expr::Const(value) => everywhere(alloc, engine, Ok(*value)),
@@ -78,6 +80,8 @@ pub(crate) fn build<L: Ledger>(
     }
 }
 
+// Where elements are united one after another, each copies the table so far. In halves a cell is copied once for each
+// halving.
 /// The values of all elements of a set.
 #[cycle(build)]
 fn build_elements<L: Ledger>(
@@ -89,20 +93,25 @@ fn build_elements<L: Ledger>(
     next: bool,
     steps: &mut Steps<L>,
 ) -> Result<CellList, StoreRefusal>
+    requires some { 0 < length elements.now }
     requires evaluable { AreEvaluable model.now (terms_in elements.now) }
     requires types { layout.now.types ≡ types_of model.now }
     requires levels { levels_of (store_of engine.old) ≡ 2 * bit_count layout.now.types }
-    ensures table { IfOk result (λ cells. IsSetTable (store_of engine.new) cells.items (elements_meaning layout.now model.now next (terms_in elements.now))) }
+    ensures table { IfOk result (λ cells. IsSetTable (store_of engine.new) cells.items
+        (elements_meaning layout.now model.now next (terms_in elements.now))) }
     ensures held { IfErr result (IsRefusalOf (store_of engine.new)) }
     ensures keeps { Keeps engine.old engine.new steps.old steps.new }
-    ensures spends { Spends (list_allowance (element_nodes (terms_in elements.now)) (2 ^ levels_of (store_of engine.old))) (store_of engine.old) (store_of engine.new) }
+    ensures spends { Spends (list_allowance (element_nodes (terms_in elements.now))
+        (2 ^ levels_of (store_of engine.old))) (store_of engine.old) (store_of engine.new) }
 {
-    let mut cells = CellList::new(alloc);
-    for element in elements {
-        let table = build(alloc, engine, layout, model, element, next, steps)?;
-        cells = united(alloc, engine, &cells, &table.cells, steps)?;
+    if elements.len() == 1 {
+        let table = build(alloc, engine, layout, model, &elements[0], next, steps)?;
+        return Ok(table.cells);
     }
-    Ok(cells)
+    let (first, behind) = elements.split_at(elements.len() / 2);
+    let left = build_elements(alloc, engine, layout, model, first, next, steps)?;
+    let right = build_elements(alloc, engine, layout, model, behind, next, steps)?;
+    united(alloc, engine, &left, &right, steps)
 }
 
 /// Adds what one arm of a `case` gives within the region that the arms before it left, and answers with the region
@@ -127,14 +136,20 @@ fn build_arm<L: Ledger>(
     requires out { AreCells (store_of engine.old) out.old.items }
     ensures cells { OnOk result (AreCells (store_of engine.new) out.new.items) }
     ensures has { IfOk result (Has (store_of engine.new)) }
-    ensures shows { OnOk result ((bits : List Bool) (k : Checked Values) → shows (λ r. value_of (store_of engine.new) r bits) out.new.items k
-        ≡ (shows (λ r. value_of (store_of engine.old) r bits) out.old.items k
-        || (value_of (store_of engine.old) left bits && arm_shows (guard_of (meaning_of layout.now model.now next (term_of arm.now.guard) bits)) (meaning_of layout.now model.now next (term_of arm.now.right) bits) k))) }
+    ensures shows { OnOk result ((bits : List Bool) (k : Checked Values)
+        → shows (λ r. value_of (store_of engine.new) r bits) out.new.items k
+        ≡ (shows (λ r. value_of (store_of engine.old) r bits) out.old.items k ||
+        (value_of (store_of engine.old) left bits && arm_shows
+        (guard_of (meaning_of layout.now model.now next (term_of arm.now.guard) bits))
+        (meaning_of layout.now model.now next (term_of arm.now.right) bits) k))) }
     ensures rest { IfOk result (λ r. (bits : List Bool) → value_of (store_of engine.new) r bits
-        ≡ (value_of (store_of engine.old) left bits && goes_on (guard_of (meaning_of layout.now model.now next (term_of arm.now.guard) bits)))) }
+        ≡ (value_of (store_of engine.old) left bits && goes_on
+        (guard_of (meaning_of layout.now model.now next (term_of arm.now.guard) bits)))) }
     ensures held { IfErr result (IsRefusalOf (store_of engine.new)) }
     ensures keeps { Keeps engine.old engine.new steps.old steps.new }
-    ensures spends { Spends (list_allowance (node_count (term_of arm.now.guard) + node_count (term_of arm.now.right)) (2 ^ levels_of (store_of engine.old))) (store_of engine.old) (store_of engine.new) }
+    ensures spends { Spends (list_allowance (node_count (term_of arm.now.guard) + node_count
+        (term_of arm.now.right)) (2 ^ levels_of (store_of engine.old))) (store_of engine.old)
+        (store_of engine.new) }
 {
     let guard = build(alloc, engine, layout, model, &arm.guard, next, steps)?;
     let right = build(alloc, engine, layout, model, &arm.right, next, steps)?;
@@ -155,10 +170,12 @@ fn build_arms<L: Ledger>(
     requires evaluable { AreEvaluableArms model.now (arms_in arms.now) }
     requires types { layout.now.types ≡ types_of model.now }
     requires levels { levels_of (store_of engine.old) ≡ 2 * bit_count layout.now.types }
-    ensures table { IfOk result (λ t. IsTable (store_of engine.new) t.cells.items t.single (arms_meaning layout.now model.now next (arms_in arms.now))) }
+    ensures table { IfOk result (λ t. IsTable (store_of engine.new) t.cells.items t.single
+        (arms_meaning layout.now model.now next (arms_in arms.now))) }
     ensures held { IfErr result (IsRefusalOf (store_of engine.new)) }
     ensures keeps { Keeps engine.old engine.new steps.old steps.new }
-    ensures spends { Spends (allowance (1 + arm_nodes (arms_in arms.now)) (2 ^ levels_of (store_of engine.old))) (store_of engine.old) (store_of engine.new) }
+    ensures spends { Spends (allowance (1 + arm_nodes (arms_in arms.now))
+        (2 ^ levels_of (store_of engine.old))) (store_of engine.old) (store_of engine.new) }
 {
     let mut cells = CellList::new(alloc);
     let mut left = Ref::TRUE;

@@ -36,8 +36,10 @@ pub(crate) fn add<L: Ledger>(
     requires cells { AreCells (store_of engine.old) cells.old.items }
     requires region { Has (store_of engine.old) region }
     ensures cells { OnOk result (AreCells (store_of engine.new) cells.new.items) }
-    ensures shows { OnOk result ((bits : List Bool) (k : Checked Values) → shows (λ r. value_of (store_of engine.new) r bits) cells.new.items k
-        ≡ (shows (λ r. value_of (store_of engine.old) r bits) cells.old.items k || (same_reading k reading && value_of (store_of engine.old) region bits))) }
+    ensures shows { OnOk result ((bits : List Bool) (k : Checked Values)
+        → shows (λ r. value_of (store_of engine.new) r bits) cells.new.items k
+        ≡ (shows (λ r. value_of (store_of engine.old) r bits) cells.old.items k ||
+        (same_reading k reading && value_of (store_of engine.old) region bits))) }
     ensures few { OnOk result (length cells.new.items ≤ length cells.old.items + 1) }
     ensures held { IfErr result (IsRefusalOf (store_of engine.new)) }
     ensures keeps { Keeps engine.old engine.new steps.old steps.new }

@@ -25,7 +25,9 @@ fn with_fault<L: Ledger>(
 ) -> Result<Ref, StoreRefusal>
     requires faulty { Has (store_of engine.old) faulty }
     requires cell { Has (store_of engine.old) cell.region }
-    ensures region { IfOk result (λ r. IsRegion (store_of engine.new) r (λ bits. value_of (store_of engine.old) faulty bits || (is_fault cell.reading && value_of (store_of engine.old) cell.region bits))) }
+    ensures region { IfOk result (λ r. IsRegion (store_of engine.new) r
+        (λ bits. value_of (store_of engine.old) faulty bits || (is_fault cell.reading && value_of
+        (store_of engine.old) cell.region bits))) }
     ensures held { IfErr result (IsRefusalOf (store_of engine.new)) }
     ensures keeps { Keeps engine.old engine.new steps.old steps.new }
     ensures spends { Spends 1 (store_of engine.old) (store_of engine.new) }
@@ -43,7 +45,8 @@ pub(crate) fn faulty_of<L: Ledger>(
     steps: &mut Steps<L>,
 ) -> Result<Ref, StoreRefusal>
     requires { All (λ (c : Cells). Has (store_of engine.old) c.region) cells.now }
-    ensures region { IfOk result (λ r. IsRegion (store_of engine.new) r (λ bits. any_cell (λ q. value_of (store_of engine.old) q bits) is_fault cells.now)) }
+    ensures region { IfOk result (λ r. IsRegion (store_of engine.new) r
+        (λ bits. any_cell (λ q. value_of (store_of engine.old) q bits) is_fault cells.now)) }
     ensures held { IfErr result (IsRefusalOf (store_of engine.new)) }
     ensures keeps { Keeps engine.old engine.new steps.old steps.new }
     ensures spends { Spends (length cells.now) (store_of engine.old) (store_of engine.new) }
@@ -72,8 +75,12 @@ fn one_more<L: Ledger>(
     requires one { Has (store_of engine.old) so_far.one }
     requires two { Has (store_of engine.old) so_far.two }
     requires region { Has (store_of engine.old) region }
-    ensures one { IfOk result (λ c. IsRegion (store_of engine.new) c.one (λ bits. value_of (store_of engine.old) so_far.one bits || value_of (store_of engine.old) region bits)) }
-    ensures two { IfOk result (λ c. IsRegion (store_of engine.new) c.two (λ bits. value_of (store_of engine.old) so_far.two bits || (value_of (store_of engine.old) so_far.one bits && value_of (store_of engine.old) region bits))) }
+    ensures one { IfOk result (λ c. IsRegion (store_of engine.new) c.one
+        (λ bits. value_of (store_of engine.old) so_far.one bits || value_of (store_of engine.old)
+        region bits)) }
+    ensures two { IfOk result (λ c. IsRegion (store_of engine.new) c.two
+        (λ bits. value_of (store_of engine.old) so_far.two bits || (value_of (store_of engine.old)
+        so_far.one bits && value_of (store_of engine.old) region bits))) }
     ensures held { IfErr result (IsRefusalOf (store_of engine.new)) }
     ensures keeps { Keeps engine.old engine.new steps.old steps.new }
     ensures spends { Spends 3 (store_of engine.old) (store_of engine.new) }
@@ -90,7 +97,8 @@ pub(crate) fn many_of<L: Ledger>(
     steps: &mut Steps<L>,
 ) -> Result<Ref, StoreRefusal>
     requires { All (λ (c : Cells). Has (store_of engine.old) c.region) cells.now }
-    ensures region { IfOk result (λ r. IsRegion (store_of engine.new) r (λ bits. nat_lt 1 (count_on (λ q. value_of (store_of engine.old) q bits) cells.now))) }
+    ensures region { IfOk result (λ r. IsRegion (store_of engine.new) r
+        (λ bits. nat_lt 1 (count_on (λ q. value_of (store_of engine.old) q bits) cells.now))) }
     ensures held { IfErr result (IsRefusalOf (store_of engine.new)) }
     ensures keeps { Keeps engine.old engine.new steps.old steps.new }
     ensures spends { Spends (3 * length cells.now) (store_of engine.old) (store_of engine.new) }
@@ -114,7 +122,9 @@ pub(crate) fn matched<L: Ledger>(
 ) -> Result<Ref, StoreRefusal>
     requires left { All (λ (c : Cells). Has (store_of engine.old) c.region) left.now }
     requires right { All (λ (c : Cells). Has (store_of engine.old) c.region) right.now.items }
-    ensures region { IfOk result (λ r. IsRegion (store_of engine.new) r (λ bits. any_cell (λ q. value_of (store_of engine.old) q bits) (at_region (λ q. value_of (store_of engine.old) q bits) right.now.items) left.now)) }
+    ensures region { IfOk result (λ r. IsRegion (store_of engine.new) r
+        (λ bits. any_cell (λ q. value_of (store_of engine.old) q bits) (at_region
+        (λ q. value_of (store_of engine.old) q bits) right.now.items) left.now)) }
     ensures held { IfErr result (IsRefusalOf (store_of engine.new)) }
     ensures keeps { Keeps engine.old engine.new steps.old steps.new }
     ensures spends { Spends (2 * length left.now) (store_of engine.old) (store_of engine.new) }

@@ -40,10 +40,13 @@ fn many_in<L: Ledger>(
     steps: &mut Steps<L>,
 ) -> Result<Ref, StoreRefusal>
     requires { AreCells (store_of engine.old) table.now.cells.items }
-    ensures region { IfOk result (λ r. IsRegion (store_of engine.new) r (λ bits. not table.now.single && nat_lt 1 (count_on (λ q. value_of (store_of engine.old) q bits) table.now.cells.items))) }
+    ensures region { IfOk result (λ r. IsRegion (store_of engine.new) r
+        (λ bits. not table.now.single && nat_lt 1 (count_on
+        (λ q. value_of (store_of engine.old) q bits) table.now.cells.items))) }
     ensures held { IfErr result (IsRefusalOf (store_of engine.new)) }
     ensures keeps { Keeps engine.old engine.new steps.old steps.new }
-    ensures spends { Spends (3 * length table.now.cells.items) (store_of engine.old) (store_of engine.new) }
+    ensures spends { Spends (3 * length table.now.cells.items) (store_of engine.old)
+        (store_of engine.new) }
 {
     if table.single {
         return Ok(Ref::FALSE);
@@ -61,12 +64,15 @@ pub(crate) fn tested<L: Ledger>(
 ) -> Result<CellList, StoreRefusal>
     requires { AreCells (store_of engine.old) table.now.cells.items }
     ensures cells { IfOk result (λ out. AreCells (store_of engine.new) out.items) }
-    ensures reads { IfOk result (λ out. (bits : List Bool) (c : Checked (List Values)) → Reads (λ r. value_of (store_of engine.old) r bits) table.now.cells.items c → IsProper c → (table.now.single ≡ true → IsSingle c)
+    ensures reads { IfOk result (λ out. (bits : List Bool) (c : Checked (List Values))
+        → Reads (λ r. value_of (store_of engine.old) r bits) table.now.cells.items c → IsProper c
+        → (table.now.single ≡ true → IsSingle c)
         → Reads (λ r. value_of (store_of engine.new) r bits) out.items (one_tested test c)) }
     ensures few { IfOk result (λ out. length out.items ≤ length table.now.cells.items + 1) }
     ensures held { IfErr result (IsRefusalOf (store_of engine.new)) }
     ensures keeps { Keeps engine.old engine.new steps.old steps.new }
-    ensures spends { Spends (5 * length table.now.cells.items + 2) (store_of engine.old) (store_of engine.new) }
+    ensures spends { Spends (5 * length table.now.cells.items + 2) (store_of engine.old)
+        (store_of engine.new) }
 {
     let many = many_in(engine, table, steps)?;
     let one = outside(engine, many, steps)?;
@@ -95,11 +101,14 @@ fn add_faults<L: Ledger>(
     requires within { Has (store_of engine.old) within }
     requires out { AreCells (store_of engine.old) out.old.items }
     ensures cells { OnOk result (AreCells (store_of engine.new) out.new.items) }
-    ensures shows { OnOk result ((bits : List Bool) (k : Checked Values) → shows (λ r. value_of (store_of engine.new) r bits) out.new.items k
-        ≡ (shows (λ r. value_of (store_of engine.old) r bits) out.old.items k
-        || (any_cell (λ r. value_of (store_of engine.old) r bits) (becomes Picks.Faults k) cells.now && value_of (store_of engine.old) within bits))) }
+    ensures shows { OnOk result ((bits : List Bool) (k : Checked Values)
+        → shows (λ r. value_of (store_of engine.new) r bits) out.new.items k
+        ≡ (shows (λ r. value_of (store_of engine.old) r bits) out.old.items k || (any_cell
+        (λ r. value_of (store_of engine.old) r bits) (becomes Picks.Faults k) cells.now && value_of
+        (store_of engine.old) within bits))) }
     ensures few { OnOk result (length out.new.items ≤ length out.old.items + length cells.now) }
-    ensures region { IfOk result (λ r. IsRegion (store_of engine.new) r (λ bits. any_cell (λ q. value_of (store_of engine.old) q bits) is_fault cells.now)) }
+    ensures region { IfOk result (λ r. IsRegion (store_of engine.new) r
+        (λ bits. any_cell (λ q. value_of (store_of engine.old) q bits) is_fault cells.now)) }
     ensures held { IfErr result (IsRefusalOf (store_of engine.new)) }
     ensures keeps { Keeps engine.old engine.new steps.old steps.new }
     ensures spends { Spends (3 * length cells.now) (store_of engine.old) (store_of engine.new) }
@@ -120,11 +129,15 @@ fn add_later_faults<L: Ledger>(
     requires right { All (λ (c : Cells). Has (store_of engine.old) c.region) right.now }
     requires out { AreCells (store_of engine.old) out.old.items }
     ensures cells { OnOk result (AreCells (store_of engine.new) out.new.items) }
-    ensures shows { OnOk result ((bits : List Bool) (k : Checked Values) → shows (λ r. value_of (store_of engine.new) r bits) out.new.items k
-        ≡ (shows (λ r. value_of (store_of engine.old) r bits) out.old.items k
-        || (any_cell (λ r. value_of (store_of engine.old) r bits) (becomes Picks.Faults k) right.now && not (value_of (store_of engine.old) first bits)))) }
+    ensures shows { OnOk result ((bits : List Bool) (k : Checked Values)
+        → shows (λ r. value_of (store_of engine.new) r bits) out.new.items k
+        ≡ (shows (λ r. value_of (store_of engine.old) r bits) out.old.items k || (any_cell
+        (λ r. value_of (store_of engine.old) r bits) (becomes Picks.Faults k) right.now && not
+        (value_of (store_of engine.old) first bits)))) }
     ensures few { OnOk result (length out.new.items ≤ length out.old.items + length right.now) }
-    ensures region { IfOk result (λ r. IsRegion (store_of engine.new) r (λ bits. value_of (store_of engine.old) first bits || any_cell (λ q. value_of (store_of engine.old) q bits) is_fault right.now)) }
+    ensures region { IfOk result (λ r. IsRegion (store_of engine.new) r
+        (λ bits. value_of (store_of engine.old) first bits || any_cell
+        (λ q. value_of (store_of engine.old) q bits) is_fault right.now)) }
     ensures held { IfErr result (IsRefusalOf (store_of engine.new)) }
     ensures keeps { Keeps engine.old engine.new steps.old steps.new }
     ensures spends { Spends (3 * length right.now + 2) (store_of engine.old) (store_of engine.new) }
@@ -153,14 +166,20 @@ pub(crate) fn faults_of<L: Ledger>(
     requires right { AreCells (store_of engine.old) right.now }
     ensures cells { IfOk result (λ f. AreCells (store_of engine.new) f.cells.items) }
     ensures region { IfOk result (λ f. Has (store_of engine.new) f.region) }
-    ensures shows { IfOk result (λ f. (bits : List Bool) (c d : Checked (List Values)) → Reads (λ r. value_of (store_of engine.old) r bits) left.now c → Reads (λ r. value_of (store_of engine.old) r bits) right.now d
-        → (k : Checked Values) → shows (λ r. value_of (store_of engine.new) r bits) f.cells.items k ≡ is_fault_of (both c d) k) }
-    ensures value { IfOk result (λ f. (bits : List Bool) (c d : Checked (List Values)) → Reads (λ r. value_of (store_of engine.old) r bits) left.now c → Reads (λ r. value_of (store_of engine.old) r bits) right.now d
+    ensures shows { IfOk result (λ f. (bits : List Bool) (c d : Checked (List Values))
+        → Reads (λ r. value_of (store_of engine.old) r bits) left.now c
+        → Reads (λ r. value_of (store_of engine.old) r bits) right.now d → (k : Checked Values)
+        → shows (λ r. value_of (store_of engine.new) r bits) f.cells.items k
+        ≡ is_fault_of (both c d) k) }
+    ensures value { IfOk result (λ f. (bits : List Bool) (c d : Checked (List Values))
+        → Reads (λ r. value_of (store_of engine.old) r bits) left.now c
+        → Reads (λ r. value_of (store_of engine.old) r bits) right.now d
         → value_of (store_of engine.new) f.region bits ≡ is_failure (both c d)) }
     ensures few { IfOk result (λ f. length f.cells.items ≤ length left.now + length right.now) }
     ensures held { IfErr result (IsRefusalOf (store_of engine.new)) }
     ensures keeps { Keeps engine.old engine.new steps.old steps.new }
-    ensures spends { Spends (3 * length left.now + 3 * length right.now + 2) (store_of engine.old) (store_of engine.new) }
+    ensures spends { Spends (3 * length left.now + 3 * length right.now + 2) (store_of engine.old)
+        (store_of engine.new) }
 {
     let mut cells = CellList::new(alloc);
     let first = add_faults(engine, left, Ref::TRUE, &mut cells, steps)?;

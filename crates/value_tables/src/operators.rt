@@ -10,7 +10,7 @@ ghost use Rattle.value_tables.specs.declared.cells.Cell.{Cell as Cells};
 ghost use Rattle.value_tables.specs.Work.{Keeps, Spends, IsRegion};
 ghost use Rattle.value_tables.specs.Cells.{same_reading, shows, Reads, AreCells};
 ghost use Rattle.value_tables.specs.Pick.{truth_of};
-ghost use Rattle.value_tables.specs.Tables.{logic, alone, IsTable, membership, truths, connective};
+ghost use Rattle.value_tables.specs.Tables.{logic, alone, IsTable, judged, membership, truths, connective};
 ghost use Rattle.value_tables.specs.Orders.{numbers, comparison, in_order};
 
 use crate::cell_lists::CellList;
@@ -33,7 +33,8 @@ pub(crate) fn everywhere(
     engine: &Engine,
     reading: Result<Value, FaultKind>,
 ) -> Result<Table, StoreRefusal>
-    ensures table { IfOk result (λ t. IsTable (store_of engine.now) t.cells.items t.single (λ bits. alone reading)) }
+    ensures table { IfOk result (λ t. IsTable (store_of engine.now) t.cells.items t.single
+        (λ bits. alone reading)) }
     ensures few { IfOk result (λ t. length t.cells.items ≤ 1) }
     ensures held { IfErr result (IsRefusalOf (store_of engine.now)) }
 {
@@ -64,8 +65,12 @@ fn sides_of<L: Ledger>(
 ) -> Result<Sides, StoreRefusal>
     requires faulty { Has (store_of engine.old) faulty }
     requires hit { Has (store_of engine.old) hit }
-    ensures no { IfOk result (λ p. IsRegion (store_of engine.new) p.no (λ bits. not (value_of (store_of engine.old) hit bits || value_of (store_of engine.old) faulty bits))) }
-    ensures yes { IfOk result (λ p. IsRegion (store_of engine.new) p.yes (λ bits. value_of (store_of engine.old) hit bits && not (value_of (store_of engine.old) faulty bits))) }
+    ensures no { IfOk result (λ p. IsRegion (store_of engine.new) p.no
+        (λ bits. not (value_of (store_of engine.old) hit bits || value_of (store_of engine.old)
+        faulty bits))) }
+    ensures yes { IfOk result (λ p. IsRegion (store_of engine.new) p.yes
+        (λ bits. value_of (store_of engine.old) hit bits && not (value_of (store_of engine.old)
+        faulty bits))) }
     ensures held { IfErr result (IsRefusalOf (store_of engine.new)) }
     ensures keeps { Keeps engine.old engine.new steps.old steps.new }
     ensures spends { Spends 4 (store_of engine.old) (store_of engine.new) }
@@ -87,10 +92,13 @@ fn decided<L: Ledger>(
     requires hit { Has (store_of engine.old) hit }
     ensures cells { IfOk result (λ t. AreCells (store_of engine.new) t.cells.items) }
     ensures single { IfOk result (λ t. t.single ≡ true) }
-    ensures shows { IfOk result (λ t. (bits : List Bool) (k : Checked Values) → shows (λ r. value_of (store_of engine.new) r bits) t.cells.items k
-        ≡ ((shows (λ r. value_of (store_of engine.old) r bits) faults.cells.items k
-        || (same_reading k (Ok (truth_of false)) && not (value_of (store_of engine.old) hit bits || value_of (store_of engine.old) faults.region bits)))
-        || (same_reading k (Ok (truth_of true)) && (value_of (store_of engine.old) hit bits && not (value_of (store_of engine.old) faults.region bits))))) }
+    ensures shows { IfOk result (λ t. (bits : List Bool) (k : Checked Values)
+        → shows (λ r. value_of (store_of engine.new) r bits) t.cells.items k
+        ≡ ((shows (λ r. value_of (store_of engine.old) r bits) faults.cells.items k ||
+        (same_reading k (Ok (truth_of false)) && not (value_of (store_of engine.old) hit bits ||
+        value_of (store_of engine.old) faults.region bits))) || (same_reading k (Ok (truth_of true))
+        && (value_of (store_of engine.old) hit bits && not (value_of (store_of engine.old)
+        faults.region bits))))) }
     ensures few { IfOk result (λ t. length t.cells.items ≤ length faults.cells.items + 2) }
     ensures held { IfErr result (IsRefusalOf (store_of engine.new)) }
     ensures keeps { Keeps engine.old engine.new steps.old steps.new }
@@ -106,6 +114,34 @@ fn decided<L: Ledger>(
     })
 }
 
+/// The table of 0 and 1, 1 where the hit is, with the faults of both operands. Where one has a fault the hit says nothing.
+fn settled<L: Ledger>(
+    alloc: Global,
+    engine: &mut Engine,
+    left: &[Cell],
+    right: &[Cell],
+    hit: Ref,
+    steps: &mut Steps<L>,
+) -> Result<Table, StoreRefusal>
+    requires left { AreCells (store_of engine.old) left.now }
+    requires right { AreCells (store_of engine.old) right.now }
+    requires hit { Has (store_of engine.old) hit }
+    ensures cells { IfOk result (λ t. AreCells (store_of engine.new) t.cells.items) }
+    ensures single { IfOk result (λ t. t.single ≡ true) }
+    ensures reads { IfOk result (λ t. (bits : List Bool) (c d : Checked (List Values))
+        → Reads (λ r. value_of (store_of engine.old) r bits) left.now c
+        → Reads (λ r. value_of (store_of engine.old) r bits) right.now d
+        → Reads (λ r. value_of (store_of engine.new) r bits) t.cells.items
+        (judged c d (value_of (store_of engine.old) hit bits))) }
+    ensures held { IfErr result (IsRefusalOf (store_of engine.new)) }
+    ensures keeps { Keeps engine.old engine.new steps.old steps.new }
+    ensures spends { Spends (3 * length left.now + 3 * length right.now + 8) (store_of engine.old)
+        (store_of engine.new) }
+{
+    let faults = faults_of(alloc, engine, left, right, steps)?;
+    decided(engine, faults, hit, steps)
+}
+
 /// `in` on a left operand of one value; with a right operand of one value, `=`.
 pub(crate) fn compared<L: Ledger>(
     alloc: Global,
@@ -118,15 +154,18 @@ pub(crate) fn compared<L: Ledger>(
     requires right { AreCells (store_of engine.old) right.now.items }
     ensures cells { IfOk result (λ t. AreCells (store_of engine.new) t.cells.items) }
     ensures single { IfOk result (λ t. t.single ≡ true) }
-    ensures reads { IfOk result (λ t. (bits : List Bool) (a : Checked Values) (d : Checked (List Values)) → Reads (λ r. value_of (store_of engine.old) r bits) left.now (alone a) → Reads (λ r. value_of (store_of engine.old) r bits) right.now.items d
+    ensures reads { IfOk result
+        (λ t. (bits : List Bool) (a : Checked Values) (d : Checked (List Values))
+        → Reads (λ r. value_of (store_of engine.old) r bits) left.now (alone a)
+        → Reads (λ r. value_of (store_of engine.old) r bits) right.now.items d
         → Reads (λ r. value_of (store_of engine.new) r bits) t.cells.items (membership a d)) }
     ensures held { IfErr result (IsRefusalOf (store_of engine.new)) }
     ensures keeps { Keeps engine.old engine.new steps.old steps.new }
-    ensures spends { Spends (5 * length left.now + 3 * length right.now.items + 8) (store_of engine.old) (store_of engine.new) }
+    ensures spends { Spends (5 * length left.now + 3 * length right.now.items + 8)
+        (store_of engine.old) (store_of engine.new) }
 {
-    let faults = faults_of(alloc, engine, left, right, steps)?;
     let hit = matched(engine, left, right, steps)?;
-    decided(engine, faults, hit, steps)
+    settled(alloc, engine, left, right, hit, steps)
 }
 
 /// The region where the connective of two regions holds.
@@ -139,7 +178,9 @@ fn connected<L: Ledger>(
 ) -> Result<Ref, StoreRefusal>
     requires a { Has (store_of engine.old) a }
     requires b { Has (store_of engine.old) b }
-    ensures region { IfOk result (λ r. IsRegion (store_of engine.new) r (λ bits. logic op (value_of (store_of engine.old) a bits) (value_of (store_of engine.old) b bits))) }
+    ensures region { IfOk result (λ r. IsRegion (store_of engine.new) r
+        (λ bits. logic op (value_of (store_of engine.old) a bits) (value_of (store_of engine.old) b
+        bits))) }
     ensures held { IfErr result (IsRefusalOf (store_of engine.new)) }
     ensures keeps { Keeps engine.old engine.new steps.old steps.new }
     ensures spends { Spends 2 (store_of engine.old) (store_of engine.new) }
@@ -168,17 +209,19 @@ pub(crate) fn combined<L: Ledger>(
     requires right { AreCells (store_of engine.old) right.now.items }
     ensures cells { IfOk result (λ t. AreCells (store_of engine.new) t.cells.items) }
     ensures single { IfOk result (λ t. t.single ≡ true) }
-    ensures reads { IfOk result (λ t. (bits : List Bool) (a b : Checked Bool) → Reads (λ r. value_of (store_of engine.old) r bits) left.now.items (truths a) → Reads (λ r. value_of (store_of engine.old) r bits) right.now.items (truths b)
+    ensures reads { IfOk result (λ t. (bits : List Bool) (a b : Checked Bool)
+        → Reads (λ r. value_of (store_of engine.old) r bits) left.now.items (truths a)
+        → Reads (λ r. value_of (store_of engine.old) r bits) right.now.items (truths b)
         → Reads (λ r. value_of (store_of engine.new) r bits) t.cells.items (connective op a b)) }
     ensures held { IfErr result (IsRefusalOf (store_of engine.new)) }
     ensures keeps { Keeps engine.old engine.new steps.old steps.new }
-    ensures spends { Spends (3 * length left.now.items + 3 * length right.now.items + 10) (store_of engine.old) (store_of engine.new) }
+    ensures spends { Spends (3 * length left.now.items + 3 * length right.now.items + 10)
+        (store_of engine.old) (store_of engine.new) }
 {
-    let faults = faults_of(alloc, engine, left, right, steps)?;
     let a = left.region_of(Ok(truth(true)));
     let b = right.region_of(Ok(truth(true)));
     let hit = connected(engine, op, a, b, steps)?;
-    decided(engine, faults, hit, steps)
+    settled(alloc, engine, left, right, hit, steps)
 }
 
 /// The region where an order comparison holds of two numbers.
@@ -192,7 +235,8 @@ fn related<L: Ledger>(
 ) -> Result<Ref, StoreRefusal>
     requires left { All (λ (c : Cells). Has (store_of engine.old) c.region) left.now }
     requires right { All (λ (c : Cells). Has (store_of engine.old) c.region) right.now }
-    ensures region { IfOk result (λ r. IsRegion (store_of engine.new) r (λ bits. in_order (λ q. value_of (store_of engine.old) q bits) op left.now right.now)) }
+    ensures region { IfOk result (λ r. IsRegion (store_of engine.new) r
+        (λ bits. in_order (λ q. value_of (store_of engine.old) q bits) op left.now right.now)) }
     ensures held { IfErr result (IsRefusalOf (store_of engine.new)) }
     ensures keeps { Keeps engine.old engine.new steps.old steps.new }
     ensures spends { Spends (5 * length left.now + 5 * length right.now) (store_of engine.old)
@@ -219,14 +263,15 @@ pub(crate) fn ordered<L: Ledger>(
     requires right { AreCells (store_of engine.old) right.now }
     ensures cells { IfOk result (λ t. AreCells (store_of engine.new) t.cells.items) }
     ensures single { IfOk result (λ t. t.single ≡ true) }
-    ensures reads { IfOk result (λ t. (bits : List Bool) (a b : Checked ℤ) → Reads (λ r. value_of (store_of engine.old) r bits) left.now (numbers a) → Reads (λ r. value_of (store_of engine.old) r bits) right.now (numbers b)
+    ensures reads { IfOk result (λ t. (bits : List Bool) (a b : Checked ℤ)
+        → Reads (λ r. value_of (store_of engine.old) r bits) left.now (numbers a)
+        → Reads (λ r. value_of (store_of engine.old) r bits) right.now (numbers b)
         → Reads (λ r. value_of (store_of engine.new) r bits) t.cells.items (comparison op a b)) }
     ensures held { IfErr result (IsRefusalOf (store_of engine.new)) }
     ensures keeps { Keeps engine.old engine.new steps.old steps.new }
     ensures spends { Spends (8 * length left.now + 8 * length right.now + 8) (store_of engine.old)
         (store_of engine.new) }
 {
-    let faults = faults_of(alloc, engine, left, right, steps)?;
     let hit = related(alloc, engine, op, left, right, steps)?;
-    decided(engine, faults, hit, steps)
+    settled(alloc, engine, left, right, hit, steps)
 }

@@ -30,7 +30,8 @@ struct Mark {
 
 /// Adds the cell's mark, where its reading is a number.
 fn add_mark(marks: &mut Vec<Mark>, late: bool, cell: Cell) -> Result<(), AllocError>
-    ensures { OnOk result (marks.new.items ≡ marks.old.items ++ mark_of late cell.reading cell.region) }
+    ensures { OnOk result (marks.new.items ≡ marks.old.items ++ mark_of late cell.reading
+        cell.region) }
 {
     match cell.reading {
         Ok(Value::Number(number)) => marks.push(Mark {
@@ -212,7 +213,8 @@ fn pairs_of<L: Ledger>(
 ) -> Result<Ref, StoreRefusal>
     requires marks { All (λ (m : Marks). Has (store_of engine.old) m.region) marks.now }
     requires sorted { IsSortedBy is_before marks.now }
-    ensures region { IfOk result (λ r. IsRegion (store_of engine.new) r (λ bits. any_pair (λ q. value_of (store_of engine.old) q bits) strict marks.now)) }
+    ensures region { IfOk result (λ r. IsRegion (store_of engine.new) r
+        (λ bits. any_pair (λ q. value_of (store_of engine.old) q bits) strict marks.now)) }
     ensures held { IfErr result (IsRefusalOf (store_of engine.new)) }
     ensures keeps { Keeps engine.old engine.new steps.old steps.new }
     ensures spends { Spends (5 * length marks.now) (store_of engine.old) (store_of engine.new) }
@@ -236,7 +238,9 @@ pub(crate) fn below<L: Ledger>(
 ) -> Result<Ref, StoreRefusal>
     requires lesser { All (λ (c : Cells). Has (store_of engine.old) c.region) lesser.now }
     requires greater { All (λ (c : Cells). Has (store_of engine.old) c.region) greater.now }
-    ensures region { IfOk result (λ r. IsRegion (store_of engine.new) r (λ bits. any_below (λ q. value_of (store_of engine.old) q bits) strict lesser.now greater.now)) }
+    ensures region { IfOk result (λ r. IsRegion (store_of engine.new) r
+        (λ bits. any_below (λ q. value_of (store_of engine.old) q bits) strict lesser.now
+        greater.now)) }
     ensures held { IfErr result (IsRefusalOf (store_of engine.new)) }
     ensures keeps { Keeps engine.old engine.new steps.old steps.new }
     ensures spends { Spends (5 * length lesser.now + 5 * length greater.now) (store_of engine.old)

@@ -36,13 +36,19 @@ fn pair_with<L: Ledger>(
     requires right { All (λ (c : Cells). Has (store_of engine.old) c.region) right.now }
     requires out { AreCells (store_of engine.old) out.old.items }
     ensures cells { OnOk result (AreCells (store_of engine.new) out.new.items) }
-    ensures shows { OnOk result ((bits : List Bool) (k : Checked Values) → shows (λ r. value_of (store_of engine.new) r bits) out.new.items k
-        ≡ (shows (λ r. value_of (store_of engine.old) r bits) out.old.items k
-        || (pairs_to (λ r. value_of (store_of engine.old) r bits) op k right.now cell.reading && value_of (store_of engine.old) cell.region bits))) }
+    ensures shows { OnOk result ((bits : List Bool) (k : Checked Values)
+        → shows (λ r. value_of (store_of engine.new) r bits) out.new.items k
+        ≡ (shows (λ r. value_of (store_of engine.old) r bits) out.old.items k || (pairs_to
+        (λ r. value_of (store_of engine.old) r bits) op k right.now cell.reading && value_of
+        (store_of engine.old) cell.region bits))) }
     ensures held { IfErr result (IsRefusalOf (store_of engine.new)) }
     ensures keeps { Keeps engine.old engine.new steps.old steps.new }
-    ensures thrifty { AreApart (store_of engine.old) right.now → OnOk result (Spends (2 * weight (store_of engine.old) cell.region) (store_of engine.old) (store_of engine.new)) }
-    ensures frugal { AreApart (store_of engine.old) right.now → Spends (2 * weight (store_of engine.old) cell.region + 1) (store_of engine.old) (store_of engine.new) }
+    ensures thrifty { AreApart (store_of engine.old) right.now
+        → OnOk result (Spends (2 * weight (store_of engine.old) cell.region) (store_of engine.old)
+        (store_of engine.new)) }
+    ensures frugal { AreApart (store_of engine.old) right.now
+        → Spends (2 * weight (store_of engine.old) cell.region + 1) (store_of engine.old)
+        (store_of engine.new) }
 {
     match cell.reading {
         Ok(value) => spread(
@@ -70,12 +76,16 @@ fn pair_up<L: Ledger>(
     requires right { All (λ (c : Cells). Has (store_of engine.old) c.region) right.now }
     requires out { AreCells (store_of engine.old) out.old.items }
     ensures cells { OnOk result (AreCells (store_of engine.new) out.new.items) }
-    ensures shows { OnOk result ((bits : List Bool) (k : Checked Values) → shows (λ r. value_of (store_of engine.new) r bits) out.new.items k
-        ≡ (shows (λ r. value_of (store_of engine.old) r bits) out.old.items k
-        || any_cell (λ r. value_of (store_of engine.old) r bits) (pairs_to (λ r. value_of (store_of engine.old) r bits) op k right.now) left.now)) }
+    ensures shows { OnOk result ((bits : List Bool) (k : Checked Values)
+        → shows (λ r. value_of (store_of engine.new) r bits) out.new.items k
+        ≡ (shows (λ r. value_of (store_of engine.old) r bits) out.old.items k || any_cell
+        (λ r. value_of (store_of engine.old) r bits) (pairs_to
+        (λ r. value_of (store_of engine.old) r bits) op k right.now) left.now)) }
     ensures held { IfErr result (IsRefusalOf (store_of engine.new)) }
     ensures keeps { Keeps engine.old engine.new steps.old steps.new }
-    ensures frugal { AreApart (store_of engine.old) right.now → Spends (2 * weights (store_of engine.old) left.now + 1) (store_of engine.old) (store_of engine.new) }
+    ensures frugal { AreApart (store_of engine.old) right.now
+        → Spends (2 * weights (store_of engine.old) left.now + 1) (store_of engine.old)
+        (store_of engine.new) }
 {
     for cell in left {
         pair_with(engine, op, *cell, right, out, steps)?;
@@ -96,11 +106,17 @@ pub(crate) fn calculated<L: Ledger>(
     requires right { AreCells (store_of engine.old) right.now }
     ensures cells { IfOk result (λ t. AreCells (store_of engine.new) t.cells.items) }
     ensures single { IfOk result (λ t. t.single ≡ true) }
-    ensures reads { IfOk result (λ t. (bits : List Bool) (a b : Checked Values) → Reads (λ r. value_of (store_of engine.old) r bits) left.now (alone a) → Reads (λ r. value_of (store_of engine.old) r bits) right.now (alone b)
-        → Reads (λ r. value_of (store_of engine.new) r bits) t.cells.items (alone (paired op a b))) }
+    ensures reads { IfOk result (λ t. (bits : List Bool) (a b : Checked Values)
+        → Reads (λ r. value_of (store_of engine.old) r bits) left.now (alone a)
+        → Reads (λ r. value_of (store_of engine.old) r bits) right.now (alone b)
+        → Reads (λ r. value_of (store_of engine.new) r bits) t.cells.items
+        (alone (paired op a b))) }
     ensures held { IfErr result (IsRefusalOf (store_of engine.new)) }
     ensures keeps { Keeps engine.old engine.new steps.old steps.new }
-    ensures spends { AreApart (store_of engine.old) left.now → AreApart (store_of engine.old) right.now → Spends (3 * length left.now + 3 * length right.now + 3 + 2 * 2 ^ levels_of (store_of engine.old)) (store_of engine.old) (store_of engine.new) }
+    ensures spends { AreApart (store_of engine.old) left.now
+        → AreApart (store_of engine.old) right.now
+        → Spends (3 * length left.now + 3 * length right.now + 3 + 2 * 2 ^ levels_of
+        (store_of engine.old)) (store_of engine.old) (store_of engine.new) }
 {
     let faults = faults_of(alloc, engine, left, right, steps)?;
     let mut cells = faults.cells;

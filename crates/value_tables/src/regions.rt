@@ -19,12 +19,14 @@ pub(crate) fn meet<L: Ledger>(
 ) -> Result<Ref, StoreRefusal>
     requires f { Has (store_of engine.old) f }
     requires g { Has (store_of engine.old) g }
-    ensures region { IfOk result (λ r. IsRegion (store_of engine.new) r (λ bits. value_of (store_of engine.old) f bits && value_of (store_of engine.old) g bits)) }
+    ensures region { IfOk result (λ r. IsRegion (store_of engine.new) r
+        (λ bits. value_of (store_of engine.old) f bits && value_of (store_of engine.old) g bits)) }
     ensures held { IfErr result (IsRefusalOf (store_of engine.new)) }
     ensures keeps { Keeps engine.old engine.new steps.old steps.new }
     ensures spends { Spends 1 (store_of engine.old) (store_of engine.new) }
     // an operation that answers the empty region adds nothing
-    ensures stays { IfOk result (λ r. r ≡ 0 → Spends 0 (store_of engine.old) (store_of engine.new)) }
+    ensures stays { IfOk result (λ r. r ≡ 0
+        → Spends 0 (store_of engine.old) (store_of engine.new)) }
 {
     engine.and(f, g, steps)
 }
@@ -38,7 +40,8 @@ pub(crate) fn join<L: Ledger>(
 ) -> Result<Ref, StoreRefusal>
     requires f { Has (store_of engine.old) f }
     requires g { Has (store_of engine.old) g }
-    ensures region { IfOk result (λ r. IsRegion (store_of engine.new) r (λ bits. value_of (store_of engine.old) f bits || value_of (store_of engine.old) g bits)) }
+    ensures region { IfOk result (λ r. IsRegion (store_of engine.new) r
+        (λ bits. value_of (store_of engine.old) f bits || value_of (store_of engine.old) g bits)) }
     ensures held { IfErr result (IsRefusalOf (store_of engine.new)) }
     ensures keeps { Keeps engine.old engine.new steps.old steps.new }
     ensures spends { Spends 1 (store_of engine.old) (store_of engine.new) }
@@ -53,7 +56,8 @@ pub(crate) fn outside<L: Ledger>(
     steps: &mut Steps<L>,
 ) -> Result<Ref, StoreRefusal>
     requires { Has (store_of engine.old) f }
-    ensures region { IfOk result (λ r. IsRegion (store_of engine.new) r (λ bits. not (value_of (store_of engine.old) f bits))) }
+    ensures region { IfOk result (λ r. IsRegion (store_of engine.new) r
+        (λ bits. not (value_of (store_of engine.old) f bits))) }
     ensures held { IfErr result (IsRefusalOf (store_of engine.new)) }
     ensures keeps { Keeps engine.old engine.new steps.old steps.new }
     ensures spends { Spends 1 (store_of engine.old) (store_of engine.new) }
@@ -70,7 +74,9 @@ pub(crate) fn alike<L: Ledger>(
 ) -> Result<Ref, StoreRefusal>
     requires f { Has (store_of engine.old) f }
     requires g { Has (store_of engine.old) g }
-    ensures region { IfOk result (λ r. IsRegion (store_of engine.new) r (λ bits. if value_of (store_of engine.old) f bits then value_of (store_of engine.old) g bits else not (value_of (store_of engine.old) g bits))) }
+    ensures region { IfOk result (λ r. IsRegion (store_of engine.new) r
+        (λ bits. if value_of (store_of engine.old) f bits then value_of (store_of engine.old) g bits
+        else not (value_of (store_of engine.old) g bits))) }
     ensures held { IfErr result (IsRefusalOf (store_of engine.new)) }
     ensures keeps { Keeps engine.old engine.new steps.old steps.new }
     ensures spends { Spends 1 (store_of engine.old) (store_of engine.new) }
@@ -89,7 +95,9 @@ pub(crate) fn join_both<L: Ledger>(
     requires f { Has (store_of engine.old) f }
     requires g { Has (store_of engine.old) g }
     requires h { Has (store_of engine.old) h }
-    ensures region { IfOk result (λ r. IsRegion (store_of engine.new) r (λ bits. value_of (store_of engine.old) f bits || (value_of (store_of engine.old) g bits && value_of (store_of engine.old) h bits))) }
+    ensures region { IfOk result (λ r. IsRegion (store_of engine.new) r
+        (λ bits. value_of (store_of engine.old) f bits || (value_of (store_of engine.old) g bits &&
+        value_of (store_of engine.old) h bits))) }
     ensures held { IfErr result (IsRefusalOf (store_of engine.new)) }
     ensures keeps { Keeps engine.old engine.new steps.old steps.new }
     ensures spends { Spends 2 (store_of engine.old) (store_of engine.new) }
@@ -107,7 +115,9 @@ pub(crate) fn neither<L: Ledger>(
 ) -> Result<Ref, StoreRefusal>
     requires f { Has (store_of engine.old) f }
     requires g { Has (store_of engine.old) g }
-    ensures region { IfOk result (λ r. IsRegion (store_of engine.new) r (λ bits. not (value_of (store_of engine.old) f bits || value_of (store_of engine.old) g bits))) }
+    ensures region { IfOk result (λ r. IsRegion (store_of engine.new) r
+        (λ bits. not (value_of (store_of engine.old) f bits || value_of (store_of engine.old) g
+        bits))) }
     ensures held { IfErr result (IsRefusalOf (store_of engine.new)) }
     ensures keeps { Keeps engine.old engine.new steps.old steps.new }
     ensures spends { Spends 2 (store_of engine.old) (store_of engine.new) }
@@ -125,7 +135,9 @@ pub(crate) fn only<L: Ledger>(
 ) -> Result<Ref, StoreRefusal>
     requires f { Has (store_of engine.old) f }
     requires g { Has (store_of engine.old) g }
-    ensures region { IfOk result (λ r. IsRegion (store_of engine.new) r (λ bits. value_of (store_of engine.old) f bits && not (value_of (store_of engine.old) g bits))) }
+    ensures region { IfOk result (λ r. IsRegion (store_of engine.new) r
+        (λ bits. value_of (store_of engine.old) f bits && not (value_of (store_of engine.old) g
+        bits))) }
     ensures held { IfErr result (IsRefusalOf (store_of engine.new)) }
     ensures keeps { Keeps engine.old engine.new steps.old steps.new }
     ensures spends { Spends 2 (store_of engine.old) (store_of engine.new) }

@@ -32,11 +32,14 @@ pub(crate) fn united<L: Ledger>(
     requires left { AreCells (store_of engine.old) left.now }
     requires right { AreCells (store_of engine.old) right.now }
     ensures cells { IfOk result (λ out. AreCells (store_of engine.new) out.items) }
-    ensures reads { IfOk result (λ out. (bits : List Bool) (c d : Checked (List Values)) → Reads (λ r. value_of (store_of engine.old) r bits) left.now c → Reads (λ r. value_of (store_of engine.old) r bits) right.now d
+    ensures reads { IfOk result (λ out. (bits : List Bool) (c d : Checked (List Values))
+        → Reads (λ r. value_of (store_of engine.old) r bits) left.now c
+        → Reads (λ r. value_of (store_of engine.old) r bits) right.now d
         → Reads (λ r. value_of (store_of engine.new) r bits) out.items (all_values c d)) }
     ensures held { IfErr result (IsRefusalOf (store_of engine.new)) }
     ensures keeps { Keeps engine.old engine.new steps.old steps.new }
-    ensures spends { Spends (5 * length left.now + 5 * length right.now + 3) (store_of engine.old) (store_of engine.new) }
+    ensures spends { Spends (5 * length left.now + 5 * length right.now + 3) (store_of engine.old)
+        (store_of engine.new) }
 {
     let faults = faults_of(alloc, engine, left, right, steps)?;
     let sound = outside(engine, faults.region, steps)?;
@@ -56,11 +59,14 @@ pub(crate) fn negated<L: Ledger>(
     requires { AreCells (store_of engine.old) operand.now.cells.items }
     ensures cells { IfOk result (λ t. AreCells (store_of engine.new) t.cells.items) }
     ensures single { IfOk result (λ t. t.single ≡ true) }
-    ensures reads { IfOk result (λ t. (bits : List Bool) (c : Checked (List Values)) → Reads (λ r. value_of (store_of engine.old) r bits) operand.now.cells.items c → IsProper c → (operand.now.single ≡ true → IsSingle c)
+    ensures reads { IfOk result (λ t. (bits : List Bool) (c : Checked (List Values))
+        → Reads (λ r. value_of (store_of engine.old) r bits) operand.now.cells.items c → IsProper c
+        → (operand.now.single ≡ true → IsSingle c)
         → Reads (λ r. value_of (store_of engine.new) r bits) t.cells.items (negation c)) }
     ensures held { IfErr result (IsRefusalOf (store_of engine.new)) }
     ensures keeps { Keeps engine.old engine.new steps.old steps.new }
-    ensures spends { Spends (7 * length operand.now.cells.items + 4) (store_of engine.old) (store_of engine.new) }
+    ensures spends { Spends (7 * length operand.now.cells.items + 4) (store_of engine.old)
+        (store_of engine.new) }
 {
     let boolean = tested(alloc, engine, operand, Test::Boolean, steps)?;
     let mut cells = CellList::new(alloc);
@@ -94,13 +100,20 @@ fn choose<L: Ledger>(
     requires out { AreCells (store_of engine.old) out.old.items }
     ensures cells { OnOk result (AreCells (store_of engine.new) out.new.items) }
     ensures has { IfOk result (Has (store_of engine.new)) }
-    ensures shows { OnOk result ((bits : List Bool) (b : Checked Bool) (d : Checked (List Values)) → Reads (λ r. value_of (store_of engine.old) r bits) guard.now.items (truths b) → Reads (λ r. value_of (store_of engine.old) r bits) right.now d
-        → (k : Checked Values) → shows (λ r. value_of (store_of engine.new) r bits) out.new.items k ≡ (shows (λ r. value_of (store_of engine.old) r bits) out.old.items k || (value_of (store_of engine.old) left bits && arm_shows b d k))) }
-    ensures rest { IfOk result (λ r. (bits : List Bool) (b : Checked Bool) → Reads (λ q. value_of (store_of engine.old) q bits) guard.now.items (truths b)
-        → value_of (store_of engine.new) r bits ≡ (value_of (store_of engine.old) left bits && goes_on b)) }
+    ensures shows { OnOk result ((bits : List Bool) (b : Checked Bool) (d : Checked (List Values))
+        → Reads (λ r. value_of (store_of engine.old) r bits) guard.now.items (truths b)
+        → Reads (λ r. value_of (store_of engine.old) r bits) right.now d → (k : Checked Values)
+        → shows (λ r. value_of (store_of engine.new) r bits) out.new.items k
+        ≡ (shows (λ r. value_of (store_of engine.old) r bits) out.old.items k ||
+        (value_of (store_of engine.old) left bits && arm_shows b d k))) }
+    ensures rest { IfOk result (λ r. (bits : List Bool) (b : Checked Bool)
+        → Reads (λ q. value_of (store_of engine.old) q bits) guard.now.items (truths b)
+        → value_of (store_of engine.new) r bits
+        ≡ (value_of (store_of engine.old) left bits && goes_on b)) }
     ensures held { IfErr result (IsRefusalOf (store_of engine.new)) }
     ensures keeps { Keeps engine.old engine.new steps.old steps.new }
-    ensures spends { Spends (2 * length guard.now.items + 2 * length right.now + 2) (store_of engine.old) (store_of engine.new) }
+    ensures spends { Spends (2 * length guard.now.items + 2 * length right.now + 2)
+        (store_of engine.old) (store_of engine.new) }
 {
     spread(engine, guard, Pick::Faults, left, out, steps)?;
     let yes = meet(engine, guard.region_of(Ok(truth(true))), left, steps)?;
@@ -124,13 +137,20 @@ pub(crate) fn add_arm<L: Ledger>(
     requires out { AreCells (store_of engine.old) out.old.items }
     ensures cells { OnOk result (AreCells (store_of engine.new) out.new.items) }
     ensures has { IfOk result (Has (store_of engine.new)) }
-    ensures shows { OnOk result ((bits : List Bool) (c d : Checked (List Values)) → IsOperand (λ r. value_of (store_of engine.old) r bits) guard.now.cells.items guard.now.single c → Reads (λ r. value_of (store_of engine.old) r bits) right.now d
-        → (k : Checked Values) → shows (λ r. value_of (store_of engine.new) r bits) out.new.items k ≡ (shows (λ r. value_of (store_of engine.old) r bits) out.old.items k || (value_of (store_of engine.old) left bits && arm_shows (guard_of c) d k))) }
-    ensures rest { IfOk result (λ r. (bits : List Bool) (c : Checked (List Values)) → IsOperand (λ q. value_of (store_of engine.old) q bits) guard.now.cells.items guard.now.single c
-        → value_of (store_of engine.new) r bits ≡ (value_of (store_of engine.old) left bits && goes_on (guard_of c))) }
+    ensures shows { OnOk result ((bits : List Bool) (c d : Checked (List Values))
+        → IsOperand (λ r. value_of (store_of engine.old) r bits) guard.now.cells.items
+        guard.now.single c → Reads (λ r. value_of (store_of engine.old) r bits) right.now d
+        → (k : Checked Values) → shows (λ r. value_of (store_of engine.new) r bits) out.new.items k
+        ≡ (shows (λ r. value_of (store_of engine.old) r bits) out.old.items k ||
+        (value_of (store_of engine.old) left bits && arm_shows (guard_of c) d k))) }
+    ensures rest { IfOk result (λ r. (bits : List Bool) (c : Checked (List Values))
+        → IsOperand (λ q. value_of (store_of engine.old) q bits) guard.now.cells.items
+        guard.now.single c → value_of (store_of engine.new) r bits
+        ≡ (value_of (store_of engine.old) left bits && goes_on (guard_of c))) }
     ensures held { IfErr result (IsRefusalOf (store_of engine.new)) }
     ensures keeps { Keeps engine.old engine.new steps.old steps.new }
-    ensures spends { Spends (7 * length guard.now.cells.items + 2 * length right.now + 6) (store_of engine.old) (store_of engine.new) }
+    ensures spends { Spends (7 * length guard.now.cells.items + 2 * length right.now + 6)
+        (store_of engine.old) (store_of engine.new) }
 {
     let boolean = tested(alloc, engine, guard, Test::Boolean, steps)?;
     choose(engine, &boolean, right, left, out, steps)

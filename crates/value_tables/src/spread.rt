@@ -33,15 +33,19 @@ fn put<L: Ledger>(
     requires within { Has (store_of engine.old) within }
     requires out { AreCells (store_of engine.old) out.old.items }
     ensures cells { OnOk result (AreCells (store_of engine.new) out.new.items) }
-    ensures shows { OnOk result ((bits : List Bool) (k : Checked Values) → shows (λ r. value_of (store_of engine.new) r bits) out.new.items k
-        ≡ (shows (λ r. value_of (store_of engine.old) r bits) out.old.items k
-        || ((becomes pick k cell.reading && value_of (store_of engine.old) cell.region bits) && value_of (store_of engine.old) within bits))) }
+    ensures shows { OnOk result ((bits : List Bool) (k : Checked Values)
+        → shows (λ r. value_of (store_of engine.new) r bits) out.new.items k
+        ≡ (shows (λ r. value_of (store_of engine.old) r bits) out.old.items k ||
+        ((becomes pick k cell.reading && value_of (store_of engine.old) cell.region bits) &&
+        value_of (store_of engine.old) within bits))) }
     ensures few { OnOk result (length out.new.items ≤ length out.old.items + 1) }
     ensures held { IfErr result (IsRefusalOf (store_of engine.new)) }
     ensures keeps { Keeps engine.old engine.new steps.old steps.new }
     ensures spends { Spends 2 (store_of engine.old) (store_of engine.new) }
-    ensures thrifty { OnOk result (Spends (2 * overlap (store_of engine.old) cell.region within) (store_of engine.old) (store_of engine.new)) }
-    ensures frugal { Spends (2 * overlap (store_of engine.old) cell.region within + 1) (store_of engine.old) (store_of engine.new) }
+    ensures thrifty { OnOk result (Spends (2 * overlap (store_of engine.old) cell.region within)
+        (store_of engine.old) (store_of engine.new)) }
+    ensures frugal { Spends (2 * overlap (store_of engine.old) cell.region within + 1)
+        (store_of engine.old) (store_of engine.new) }
 {
     match pick.apply(cell.reading) {
         Some(reading) => {
@@ -65,15 +69,19 @@ pub(crate) fn spread<L: Ledger>(
     requires within { Has (store_of engine.old) within }
     requires out { AreCells (store_of engine.old) out.old.items }
     ensures cells { OnOk result (AreCells (store_of engine.new) out.new.items) }
-    ensures shows { OnOk result ((bits : List Bool) (k : Checked Values) → shows (λ r. value_of (store_of engine.new) r bits) out.new.items k
-        ≡ (shows (λ r. value_of (store_of engine.old) r bits) out.old.items k
-        || (any_cell (λ r. value_of (store_of engine.old) r bits) (becomes pick k) cells.now && value_of (store_of engine.old) within bits))) }
+    ensures shows { OnOk result ((bits : List Bool) (k : Checked Values)
+        → shows (λ r. value_of (store_of engine.new) r bits) out.new.items k
+        ≡ (shows (λ r. value_of (store_of engine.old) r bits) out.old.items k || (any_cell
+        (λ r. value_of (store_of engine.old) r bits) (becomes pick k) cells.now && value_of
+        (store_of engine.old) within bits))) }
     ensures few { OnOk result (length out.new.items ≤ length out.old.items + length cells.now) }
     ensures held { IfErr result (IsRefusalOf (store_of engine.new)) }
     ensures keeps { Keeps engine.old engine.new steps.old steps.new }
     ensures spends { Spends (2 * length cells.now) (store_of engine.old) (store_of engine.new) }
-    ensures thrifty { OnOk result (Spends (2 * overlaps (store_of engine.old) cells.now within) (store_of engine.old) (store_of engine.new)) }
-    ensures frugal { Spends (2 * overlaps (store_of engine.old) cells.now within + 1) (store_of engine.old) (store_of engine.new) }
+    ensures thrifty { OnOk result (Spends (2 * overlaps (store_of engine.old) cells.now within)
+        (store_of engine.old) (store_of engine.new)) }
+    ensures frugal { Spends (2 * overlaps (store_of engine.old) cells.now within + 1)
+        (store_of engine.old) (store_of engine.new) }
 {
     for cell in cells {
         put(engine, *cell, pick, within, out, steps)?;

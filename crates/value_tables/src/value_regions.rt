@@ -45,8 +45,10 @@ pub struct Regions {
 
 /// Adds the row of a cell, to those of values or to those of faults.
 fn add_row(rows: &mut Vec<Row>, faults: &mut Vec<FaultRow>, cell: &Cell) -> Result<(), AllocError>
-    ensures rows { OnOk result (rows.new.items ≡ rows.old.items ++ rows_of cell.now.reading cell.now.region) }
-    ensures faults { OnOk result (faults.new.items ≡ faults.old.items ++ faults_of cell.now.reading cell.now.region) }
+    ensures rows { OnOk result (rows.new.items ≡ rows.old.items ++ rows_of cell.now.reading
+        cell.now.region) }
+    ensures faults { OnOk result (faults.new.items ≡ faults.old.items ++ faults_of cell.now.reading
+        cell.now.region) }
 {
     let region = cell.region;
     match cell.reading {
@@ -87,12 +89,15 @@ pub fn table<L: Ledger>(
     requires evaluable { IsEvaluable model.now (term_of expr.now) }
     requires layout { layout.now.types ≡ types_of model.now }
     requires levels { levels_of (store_of engine.old) ≡ 2 * bit_count layout.now.types }
-    ensures regions { IfOk result (λ t. AreRegions (store_of engine.new) layout.now model.now (term_of expr.now) t.rows.items t.faults.items) }
-    ensures few { IfOk result (λ t. length t.rows.items + length t.faults.items ≤ node_count (term_of expr.now) * 2 ^ levels_of (store_of engine.old)) }
+    ensures regions { IfOk result (λ t. AreRegions (store_of engine.new) layout.now model.now
+        (term_of expr.now) t.rows.items t.faults.items) }
+    ensures few { IfOk result (λ t. length t.rows.items + length t.faults.items
+        ≤ node_count (term_of expr.now) * 2 ^ levels_of (store_of engine.old)) }
     ensures held { IfErr result (IsRefusalOf (store_of engine.new)) }
     ensures grows { Grows (store_of engine.old) (store_of engine.new) }
     // at each list of the levels' bits an expression of n nodes has at most n readings
-    ensures growth { length (triples (store_of engine.new)) ≤ length (triples (store_of engine.old)) + 16 * (node_count (term_of expr.now) + 1) ^ 2 * 4 ^ levels_of (store_of engine.old) }
+    ensures growth { length (triples (store_of engine.new)) ≤ length (triples (store_of engine.old))
+        + 16 * (node_count (term_of expr.now) + 1) ^ 2 * 4 ^ levels_of (store_of engine.old) }
     ensures refused { refused_of engine.old ≤ refused_of engine.new }
     ensures lists { lists_of engine.new ≡ lists_of engine.old }
     ensures capacity { capacity_of engine.new ≡ capacity_of engine.old }

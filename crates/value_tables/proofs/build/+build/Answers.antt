@@ -1,4 +1,4 @@
-use Rattle.std.proofs.Common.{◌≡◌, ◌+◌, ◌*◌, ◌^◌, ◌<◌, ◌≤◌, length, take, ◌&&◌, ◌||◌, cond, drop, Bool, true, Ok, List, [], refl, sym, ◌∙◌, ap, arith, rules, subst}
+use Rattle.std.proofs.Common.{◌≡◌, ◌+◌, ◌*◌, ◌/◌, ◌^◌, ◌<◌, ◌≤◌, length, take, ◌&&◌, ◌||◌, cond, drop, Bool, true, List, refl, sym, ◌∙◌, ap, arith, rules, subst}
 use Rattle.std.proofs.lemmas.Bool.{false≢true}
 use Rattle.bdd_nodes.specs.Store.{value_of, levels_of}
 use Rattle.bdd_ops.specs.Engine.{store_of}
@@ -15,17 +15,16 @@ use Rattle.kripke_model.specs.Evaluable.{IsEvaluable, AreEvaluable, AreEvaluable
 use Rattle.kripke_model.proofs.ReadingLemmas.{braces_term, case_term}
 use Rattle.value_tables.specs.Cells.{same_reading, any_of, shows, Reads, AreCells}
 use Rattle.value_tables.specs.States.{meaning_of, arms_meaning, elements_meaning, state_shown}
-use Rattle.value_tables.specs.Tables.{guard_of, all_values, arm_shows, goes_on}
+use Rattle.value_tables.specs.Tables.{IsSetTable, guard_of, arm_shows, goes_on}
 use Rattle.value_tables.proofs.RegionLemmas.{any_cell-grows, AreCells-grows, Keeps-same, keeps_join, Spends-same}
 use Rattle.value_tables.proofs.StepLemmas.{if_ok}
-use Rattle.value_tables.proofs.BinaryLemmas.{reads_grows, reads_as}
-use Rattle.value_tables.proofs.EvalLemmas.{eval_proper, elements_at, elements_past, arms_at, arms_past, values_assoc, values_first, values_last, arm_split}
-use Rattle.value_tables.proofs.BuildLemmas.{operand, term_table, not_table, binary_table, braces_table, IsTable-grows, evaluable_at, arm_evaluable_at, elements_evaluable, nodes_at, arm_nodes_at, no_cells, no_values, no_arms, last_arm}
+use Rattle.value_tables.proofs.EvalLemmas.{eval_proper, arms_at, arms_past, arm_split}
+use Rattle.value_tables.proofs.BuildLemmas.{operand, term_table, not_table, binary_table, braces_table, IsTable-grows, IsSetTable-grows, arm_evaluable_at, elements_some, elements_evaluable, arm_nodes_at, nodes-some, halves_nodes, halves_evaluable, halves_values, only_element, only_nodes, element_table, united_table, no_cells, no_arms, last_arm}
 use Rattle.value_tables.specs.declared.cells.Cell.{Cell}
-use Rattle.value_tables.specs.Work.{Spends, allowance, list_allowance}
+use Rattle.value_tables.specs.Work.{Spends, allowance}
 use Rattle.std.proofs.lemmas.Result.{err_from_is_err_and, on_ok_weaker}
-use Rattle.value_tables.proofs.ReadingCounts.{few_more, none_few, eval_amount, node_count-some, reads-few, table-few}
-use Rattle.value_tables.proofs.GrowthLemmas.{nodes_of, nodes_of_arms, nodes_step, nodes_more_le, nodes_all, arms_step, arms_more_le, arms_all, variable_spends, running_spends, next_spends, not_spends, left_spends, both_spend, binary_spends, element_started, element_spends, list_spends, arm_guard, arm_right, arm_spends, arm_joined, arms_spend}
+use Rattle.value_tables.proofs.ReadingCounts.{eval_amount, elements_amount, node_count-some, table-few, set-few}
+use Rattle.value_tables.proofs.GrowthLemmas.{nodes_of_arms, arms_step, arms_more_le, arms_all, variable_spends, running_spends, next_spends, not_spends, left_spends, both_spend, binary_spends, element_spends, half_spends, halves_spend, lists_spend, list_spends, arm_guard, arm_right, arm_spends, arms_spend}
 use Rattle.value_tables.proofs.build.+build.Goals as goal
 
 pub build-returns-in-Const-clause-table : goal.build-returns-in-Const-clause-table
@@ -77,38 +76,6 @@ build-returns-in-Case-clause-table g t c =
     term_table c.build_arms.new.engine.store c.args.layout.now c.args.model.now c.args.next (Term.Case (arms_in c.deref-in-Case.result.now)) (term_of c.args.expr.now)
     (sym (ap term_of c.in-Case.is ∙ case_term c.in-Case.arms ∙ ap (λ (x : List Arm). Term.Case (arms_in x)) (sym c.deref-in-Case.ensures.value))) c.build_arms.result c.build_arms.ensures.table
 
-pub build_elements-loop-element-preserved : goal.build_elements-loop-element-preserved
-build_elements-loop-element-preserved g t c =
-    let lay = c.args.layout.now in
-    let m = c.args.model.now in
-    let es = c.args.elements.now in
-    let n = c.loop-element.element-index in
-    let s = c.loop-element.engine.store in
-    let b = c.build.new.engine.store in
-    let e : Expr = c.element-item.result in
-    let i = c.loop-element.invariant in
-    let to_b = c.build.ensures.keeps.grows in
-    let f : List Bool → Checked (List Value) = meaning_of lay m c.args.next (term_of e) in
-    record {
-      cells = c.in_ok-cells.ensures.cells;
-      so_far = λ bits.
-          let r = i.so_far bits in (
-            all_values r.0 (f bits),
-            c.in_ok-cells.ensures.reads bits r.0 (f bits)
-                (subst (λ xs. Reads (λ q. value_of b q bits) xs r.0) (sym c.deref.ensures.value) (reads_grows s b to_b c.loop-element.cells.items i.cells.has bits r.0 r.1))
-                (subst (λ xs. Reads (λ q. value_of b q bits) xs (f bits)) (sym c.deref-in-loop-element.ensures.value) (c.in_ok-table.ensures.table.reads bits)),
-            r.2 ∙ ap (all_values r.0) (elements_at m (state_shown lay c.args.next bits) (state_shown lay true bits) es n e c.loop-element-test.true
-                ∙ ap (λ (x : Expr). all_values (eval m (term_of x) (state_shown lay c.args.next bits) (state_shown lay true bits)) (elements_meaning lay m c.args.next (terms_in (drop (n + 1) es)) bits)) (sym c.element-item.is))
-                ∙ values_assoc r.0 (f bits) (elements_meaning lay m c.args.next (terms_in (drop (n + 1) es)) bits),
-            few_more r.0 (f bits) (nodes_of (take n es)) (node_count (term_of e)) (nodes_of (take (n + 1) es)) r.3 (eval_amount m (term_of e) (state_shown lay c.args.next bits) (state_shown lay true bits)) (nodes_step es n e c.loop-element-test.true c.element-item.is),
-          );
-      spends = element_spends c.args.engine.now.store s b c.united.new.engine.store i.keeps.grows to_b (nodes_of (take n es)) (node_count (term_of e)) (nodes_of (take (n + 1) es)) (length c.deref.result.now) (length c.deref-in-loop-element.result.now)
-          (node_count-some (term_of e)) (nodes_step es n e c.loop-element-test.true c.element-item.is) i.spends c.build.ensures.spends c.united.ensures.spends
-          (subst (λ (xs : List Cell). length xs ≤ nodes_of (take n es) * 2 ^ levels_of s) (sym c.deref.ensures.value) (reads-few s c.loop-element.cells.items (nodes_of (take n es)) i.cells (λ bits. let r = i.so_far bits in (r.0, r.1, r.3))))
-          (subst (λ (xs : List Cell). length xs ≤ node_count (term_of e) * 2 ^ levels_of b) (sym c.deref-in-loop-element.ensures.value) (table-few b c.in_ok-table.table.cells.items _ f (node_count (term_of e)) c.in_ok-table.ensures.table (λ bits. eval_amount m (term_of e) (state_shown lay c.args.next bits) (state_shown lay true bits))));
-      keeps = keeps_join (keeps_join i.keeps c.build.ensures.keeps) c.united.ensures.keeps;
-    }
-
 pub build_arms-loop-arm-preserved : goal.build_arms-loop-arm-preserved
 build_arms-loop-arm-preserved g t c =
     let lay = c.args.layout.now in
@@ -131,7 +98,7 @@ build_arms-loop-arm-preserved g t c =
           ∙ ap (λ (x : Arm). guard_of (eval m (term_of x.guard) (state_shown lay c.args.next bits) (state_shown lay true bits)) >>= λ b. cond b (eval m (term_of x.right) (state_shown lay c.args.next bits) (state_shown lay true bits)) rest) (sym c.arm-item.is)) j))))
           (c.in_ok-left.ensures.shows bits k)
           (c.in_ok-left.ensures.rest bits);
-      spends = arm_joined c.args.engine.now.store s c.build_arm.new.engine.store i.keeps.grows (nodes_of_arms (take n arms)) (node_count (term_of a.guard) + node_count (term_of a.right)) (nodes_of_arms (take (n + 1) arms))
+      spends = lists_spend c.args.engine.now.store s c.build_arm.new.engine.store i.keeps.grows (nodes_of_arms (take n arms)) (node_count (term_of a.guard) + node_count (term_of a.right)) (nodes_of_arms (take (n + 1) arms))
           (arms_step arms n a c.loop-arm-test.true c.arm-item.is) i.spends c.build_arm.ensures.spends;
       keeps = keeps_join i.keeps c.build_arm.ensures.keeps;
     }
@@ -141,7 +108,9 @@ build-build_elements-requires g t c =
     let e : term_of c.args.expr.now ≡ Term.Braces (terms_in c.deref-in-Braces.result.now) = ap term_of c.in-Braces.is ∙ braces_term c.in-Braces.elements ∙ ap (λ (x : List Expr). Term.Braces (terms_in x)) (sym c.deref-in-Braces.ensures.value) in
     let w = ap node_count e in
     let smaller : 2 * element_nodes (terms_in c.deref-in-Braces.result.now) + 1 < 2 * node_count (term_of c.args.expr.now) = omega (arith, w) in
-    let good : AreEvaluable c.args.model.now (terms_in c.deref-in-Braces.result.now) = elements_evaluable c.args.model.now _ (subst (λ (x : Term). IsEvaluable c.args.model.now x) e c.requires.evaluable) in
+    let whole = subst (λ (x : Term). IsEvaluable c.args.model.now x) e c.requires.evaluable in
+    let some : 0 < length c.deref-in-Braces.result.now = elements_some c.args.model.now _ whole in
+    let good : AreEvaluable c.args.model.now (terms_in c.deref-in-Braces.result.now) = elements_evaluable c.args.model.now _ whole in
     search rules
 
 pub build-build_arms-requires : goal.build-build_arms-requires
@@ -154,40 +123,6 @@ build-build_arms-requires g t c =
 
 pub build-returns-in_ok-right-in-Binary-clause-keeps : goal.build-returns-in_ok-right-in-Binary-clause-keeps
 build-returns-in_ok-right-in-Binary-clause-keeps g t c = keeps_join (keeps_join c.build-in-Binary.ensures.keeps c.build-in-Binary-2.ensures.keeps) c.binary_of.ensures.keeps
-
-pub build_elements-loop-element-init : goal.build_elements-loop-element-init
-build_elements-loop-element-init g t c = record {
-  cells = no_cells c.args.engine.now.store _ c.new-cells.ensures.items;
-  so_far = λ bits. (Ok [], no_values _ _ c.new-cells.ensures.items, sym (values_first _), none_few _);
-  spends = Spends-same c.args.engine.now.store _;
-  keeps = Keeps-same c.args.engine.now c.args.steps.now;
-}
-
-pub build_elements-build-requires : goal.build_elements-build-requires
-build_elements-build-requires g t c =
-    let e : Expr = c.element-item.result in
-    let w = nodes_at c.args.elements.now c.loop-element.element-index e c.loop-element-test.true in
-    let u = ap (λ (x : Expr). node_count (term_of x)) c.element-item.is in
-    let smaller : 2 * node_count (term_of e) < 2 * element_nodes (terms_in c.args.elements.now) + 1 = omega (arith, w, u) in
-    let good : IsEvaluable c.args.model.now (term_of e) = subst (λ (x : Expr). IsEvaluable c.args.model.now (term_of x)) (sym c.element-item.is) (evaluable_at c.args.model.now c.args.elements.now c.loop-element.element-index e c.loop-element-test.true c.requires.evaluable) in
-    let deep : levels_of (store_of c.loop-element.engine) ≡ 2 * bit_count c.args.layout.now.types = c.loop-element.invariant.keeps.grows.levels ∙ c.requires.levels in
-    search rules
-
-pub build_elements-returns-in_err-cells-clause-keeps : goal.build_elements-returns-in_err-cells-clause-keeps
-build_elements-returns-in_err-cells-clause-keeps g t c = keeps_join (keeps_join c.loop-element.invariant.keeps c.build.ensures.keeps) c.united.ensures.keeps
-
-pub build_elements-returns-clause-table : goal.build_elements-returns-clause-table
-build_elements-returns-clause-table g t c =
-    let lay = c.args.layout.now in
-    let m = c.args.model.now in
-    let i = c.loop-element.invariant in
-    record {
-      regions = i.cells;
-      reads = λ bits.
-          let r = i.so_far bits in
-          reads_as _ _ r.0 (elements_meaning lay m c.args.next (terms_in c.args.elements.now) bits)
-          (sym (r.2 ∙ ap (all_values r.0) (elements_past m (state_shown lay c.args.next bits) (state_shown lay true bits) c.args.elements.now c.loop-element.element-index c.loop-element-test.false) ∙ values_last r.0)) r.1;
-    }
 
 pub build_arms-loop-arm-init : goal.build_arms-loop-arm-init
 build_arms-loop-arm-init g t c = record {
@@ -222,8 +157,122 @@ build_arms-returns-in_err-left-clause-spends g t c =
     let a : Arm = c.arm-item.result in
     let i = c.loop-arm.invariant in
     list_spends c.args.engine.now.store c.build_arm.new.engine.store (arm_nodes (arms_in arms)) (1 + arm_nodes (arms_in arms)) refl
-    (arm_joined c.args.engine.now.store c.loop-arm.engine.store c.build_arm.new.engine.store i.keeps.grows (nodes_of_arms (take n arms)) (node_count (term_of a.guard) + node_count (term_of a.right)) (arm_nodes (arms_in arms))
+    (lists_spend c.args.engine.now.store c.loop-arm.engine.store c.build_arm.new.engine.store i.keeps.grows (nodes_of_arms (take n arms)) (node_count (term_of a.guard) + node_count (term_of a.right)) (arm_nodes (arms_in arms))
     (arms_more_le arms n a c.loop-arm-test.true c.arm-item.is) i.spends c.build_arm.ensures.spends)
+
+-- ---- elements
+
+pub build_elements-returns-then-elements-eq1-clause-table : goal.build_elements-returns-then-elements-eq1-clause-table
+build_elements-returns-then-elements-eq1-clause-table g t c =
+    let es = c.args.elements.now in
+    let e : Expr = c.index-elements-0.result in
+    element_table c.build.new.engine.store c.args.layout.now c.args.model.now c.args.next es e (only_element es e c.if-elements-eq1.true c.index-elements-0.is) c.in_ok-table.table.cells.items c.in_ok-table.table.single c.in_ok-table.ensures.table
+
+pub build_elements-returns-in_err-table-clause-spends : goal.build_elements-returns-in_err-table-clause-spends
+build_elements-returns-in_err-table-clause-spends g t c =
+    let es = c.args.elements.now in
+    let e : Expr = c.index-elements-0.result in
+    element_spends c.args.engine.now.store c.build.new.engine.store (node_count (term_of e)) (element_nodes (terms_in es)) (node_count-some (term_of e)) (only_nodes es e (only_element es e c.if-elements-eq1.true c.index-elements-0.is)) c.build.ensures.spends
+
+pub build_elements-returns-then-elements-eq1-clause-spends : goal.build_elements-returns-then-elements-eq1-clause-spends
+build_elements-returns-then-elements-eq1-clause-spends g t c =
+    let es = c.args.elements.now in
+    let e : Expr = c.index-elements-0.result in
+    element_spends c.args.engine.now.store c.build.new.engine.store (node_count (term_of e)) (element_nodes (terms_in es)) (node_count-some (term_of e)) (only_nodes es e (only_element es e c.if-elements-eq1.true c.index-elements-0.is)) c.build.ensures.spends
+
+pub build_elements-build_elements-requires : goal.build_elements-build_elements-requires
+build_elements-build_elements-requires g t c =
+    let es = c.args.elements.now in
+    let xs = c.split_at.result.0.now in
+    let ys = c.split_at.result.1.now in
+    let some : 0 < length xs = omega (arith, c.split_at.ensures.front_len, c.requires.some) in
+    let behind : 0 < length ys = omega (arith, c.split_at.ensures.back_len, c.requires.some) in
+    let n = halves_nodes es xs ys (length es / 2) c.split_at.ensures.front c.split_at.ensures.back in
+    let smaller : 2 * element_nodes (terms_in xs) + 1 < 2 * element_nodes (terms_in es) + 1 = omega (arith, n, nodes-some ys behind) in
+    let good = halves_evaluable es xs ys (length es / 2) c.split_at.ensures.front c.split_at.ensures.back c.args.model.now c.requires.evaluable in
+    let first : AreEvaluable c.args.model.now (terms_in xs) = good.0 in
+    search rules
+
+pub build_elements-build_elements-requires-2 : goal.build_elements-build_elements-requires-2
+build_elements-build_elements-requires-2 g t c =
+    let es = c.args.elements.now in
+    let xs = c.split_at.result.0.now in
+    let ys = c.split_at.result.1.now in
+    let first : 0 < length xs = omega (arith, c.split_at.ensures.front_len, c.requires.some) in
+    let some : 0 < length ys = omega (arith, c.split_at.ensures.back_len, c.requires.some) in
+    let n = halves_nodes es xs ys (length es / 2) c.split_at.ensures.front c.split_at.ensures.back in
+    let smaller : 2 * element_nodes (terms_in ys) + 1 < 2 * element_nodes (terms_in es) + 1 = omega (arith, n, nodes-some xs first) in
+    let good = halves_evaluable es xs ys (length es / 2) c.split_at.ensures.front c.split_at.ensures.back c.args.model.now c.requires.evaluable in
+    let behind : AreEvaluable c.args.model.now (terms_in ys) = good.1 in
+    let deep : levels_of (store_of c.build_elements.new.engine) ≡ 2 * bit_count c.args.layout.now.types = c.build_elements.ensures.keeps.grows.levels ∙ c.requires.levels in
+    search rules
+
+pub build_elements-united-requires-clause-left : goal.build_elements-united-requires-clause-left
+build_elements-united-requires-clause-left g t c =
+    let q = c.build_elements-2.new.engine.store in
+    subst (AreCells q) (sym c.deref.ensures.value) (AreCells-grows c.build_elements.new.engine.store q c.build_elements-2.ensures.keeps.grows _ c.in_ok-left.ensures.table.regions)
+
+pub build_elements-united-requires-clause-right : goal.build_elements-united-requires-clause-right
+build_elements-united-requires-clause-right g t c = subst (AreCells c.build_elements-2.new.engine.store) (sym c.deref-2.ensures.value) c.in_ok-right.ensures.table.regions
+
+pub build_elements-returns-clause-table : goal.build_elements-returns-clause-table
+build_elements-returns-clause-table g t c =
+    let lay = c.args.layout.now in
+    let m = c.args.model.now in
+    let es = c.args.elements.now in
+    let xs = c.split_at.result.0.now in
+    let ys = c.split_at.result.1.now in
+    let p = c.build_elements.new.engine.store in
+    let q = c.build_elements-2.new.engine.store in
+    let f : List Bool → Checked (List Value) = elements_meaning lay m c.args.next (terms_in xs) in
+    let h : List Bool → Checked (List Value) = elements_meaning lay m c.args.next (terms_in ys) in
+    united_table q c.united.new.engine.store c.deref.result.now c.deref-2.result.now f h (elements_meaning lay m c.args.next (terms_in es))
+    (subst (λ cells. IsSetTable q cells f) (sym c.deref.ensures.value) (IsSetTable-grows p q c.build_elements-2.ensures.keeps.grows c.in_ok-left.left.items f c.in_ok-left.ensures.table))
+    (subst (λ cells. IsSetTable q cells h) (sym c.deref-2.ensures.value) c.in_ok-right.ensures.table)
+    (halves_values es xs ys (length es / 2) c.split_at.ensures.front c.split_at.ensures.back lay m c.args.next)
+    c.united.result c.united.ensures.cells c.united.ensures.reads
+
+pub build_elements-returns-in_err-right-clause-keeps : goal.build_elements-returns-in_err-right-clause-keeps
+build_elements-returns-in_err-right-clause-keeps g t c = keeps_join c.build_elements.ensures.keeps c.build_elements-2.ensures.keeps
+
+pub build_elements-returns-clause-keeps : goal.build_elements-returns-clause-keeps
+build_elements-returns-clause-keeps g t c = keeps_join (keeps_join c.build_elements.ensures.keeps c.build_elements-2.ensures.keeps) c.united.ensures.keeps
+
+pub build_elements-returns-in_err-left-clause-spends : goal.build_elements-returns-in_err-left-clause-spends
+build_elements-returns-in_err-left-clause-spends g t c =
+    let es = c.args.elements.now in
+    let xs = c.split_at.result.0.now in
+    let ys = c.split_at.result.1.now in
+    let n = halves_nodes es xs ys (length es / 2) c.split_at.ensures.front c.split_at.ensures.back in
+    half_spends c.args.engine.now.store c.build_elements.new.engine.store (element_nodes (terms_in xs)) (element_nodes (terms_in es)) (omega (arith, n)) c.build_elements.ensures.spends
+
+pub build_elements-returns-in_err-right-clause-spends : goal.build_elements-returns-in_err-right-clause-spends
+build_elements-returns-in_err-right-clause-spends g t c =
+    let es = c.args.elements.now in
+    let xs = c.split_at.result.0.now in
+    let ys = c.split_at.result.1.now in
+    let n = halves_nodes es xs ys (length es / 2) c.split_at.ensures.front c.split_at.ensures.back in
+    lists_spend c.args.engine.now.store c.build_elements.new.engine.store c.build_elements-2.new.engine.store c.build_elements.ensures.keeps.grows (element_nodes (terms_in xs)) (element_nodes (terms_in ys)) (element_nodes (terms_in es))
+    (omega (arith, n)) c.build_elements.ensures.spends c.build_elements-2.ensures.spends
+
+pub build_elements-returns-clause-spends : goal.build_elements-returns-clause-spends
+build_elements-returns-clause-spends g t c =
+    let lay = c.args.layout.now in
+    let m = c.args.model.now in
+    let es = c.args.elements.now in
+    let xs = c.split_at.result.0.now in
+    let ys = c.split_at.result.1.now in
+    let p = c.build_elements.new.engine.store in
+    let q = c.build_elements-2.new.engine.store in
+    let some : 0 < length xs = omega (arith, c.split_at.ensures.front_len, c.requires.some) in
+    let behind : 0 < length ys = omega (arith, c.split_at.ensures.back_len, c.requires.some) in
+    halves_spend c.args.engine.now.store p q c.united.new.engine.store c.build_elements.ensures.keeps.grows c.build_elements-2.ensures.keeps.grows (element_nodes (terms_in xs)) (element_nodes (terms_in ys)) (element_nodes (terms_in es))
+    (length c.deref.result.now) (length c.deref-2.result.now) (nodes-some xs some) (nodes-some ys behind) (halves_nodes es xs ys (length es / 2) c.split_at.ensures.front c.split_at.ensures.back)
+    c.build_elements.ensures.spends c.build_elements-2.ensures.spends c.united.ensures.spends
+    (subst (λ (cells : List Cell). length cells ≤ element_nodes (terms_in xs) * 2 ^ levels_of p) (sym c.deref.ensures.value) (set-few p c.in_ok-left.left.items (elements_meaning lay m c.args.next (terms_in xs)) (element_nodes (terms_in xs)) c.in_ok-left.ensures.table
+    (λ bits. elements_amount m (terms_in xs) (state_shown lay c.args.next bits) (state_shown lay true bits))))
+    (subst (λ (cells : List Cell). length cells ≤ element_nodes (terms_in ys) * 2 ^ levels_of q) (sym c.deref-2.ensures.value) (set-few q c.in_ok-right.right.items (elements_meaning lay m c.args.next (terms_in ys)) (element_nodes (terms_in ys)) c.in_ok-right.ensures.table
+    (λ bits. elements_amount m (terms_in ys) (state_shown lay c.args.next bits) (state_shown lay true bits))))
 
 -- ---- one arm
 
@@ -398,11 +447,6 @@ build-returns-in-Case-clause-spends g t c =
     subst (λ n. Spends (allowance n (2 ^ levels_of c.args.engine.now.store)) c.args.engine.now.store c.build_arms.new.engine.store)
     (sym (ap node_count (ap term_of c.in-Case.is ∙ case_term c.in-Case.arms ∙ ap (λ (x : List Arm). Term.Case (arms_in x)) (sym c.deref-in-Case.ensures.value)))) c.build_arms.ensures.spends
 
-pub build_elements-returns-clause-spends : goal.build_elements-returns-clause-spends
-build_elements-returns-clause-spends g t c =
-    let s = c.args.engine.now.store in
-    subst (λ n. Spends (list_allowance n (2 ^ levels_of s)) s c.loop-element.engine.store) (nodes_all c.args.elements.now c.loop-element.element-index c.loop-element-test.false) c.loop-element.invariant.spends
-
 pub build_arms-returns-clause-spends : goal.build_arms-returns-clause-spends
 build_arms-returns-clause-spends g t c =
     arms_spend c.args.engine.now.store c.loop-arm.engine.store c.add.new.engine.store c.loop-arm.invariant.keeps.grows (nodes_of_arms (take c.loop-arm.arm-index c.args.arms.now)) (arm_nodes (arms_in c.args.arms.now))
@@ -435,31 +479,6 @@ build-returns-in_err-cells-in-Braces-clause-spends g t c =
     list_spends c.args.engine.now.store c.build_elements.new.engine.store (element_nodes (terms_in c.deref-in-Braces.result.now)) (node_count (term_of c.args.expr.now))
     (ap node_count (ap term_of c.in-Braces.is ∙ braces_term c.in-Braces.elements ∙ ap (λ (x : List Expr). Term.Braces (terms_in x)) (sym c.deref-in-Braces.ensures.value))) c.build_elements.ensures.spends
 
-pub build_elements-returns-in_err-table-clause-spends : goal.build_elements-returns-in_err-table-clause-spends
-build_elements-returns-in_err-table-clause-spends g t c =
-    let es = c.args.elements.now in
-    let n = c.loop-element.element-index in
-    let e : Expr = c.element-item.result in
-    let i = c.loop-element.invariant in
-    element_started c.args.engine.now.store c.loop-element.engine.store c.build.new.engine.store i.keeps.grows (nodes_of (take n es)) (node_count (term_of e)) (element_nodes (terms_in es))
-    (node_count-some (term_of e)) (nodes_more_le es n e c.loop-element-test.true c.element-item.is) i.spends c.build.ensures.spends
-
-pub build_elements-returns-in_err-cells-clause-spends : goal.build_elements-returns-in_err-cells-clause-spends
-build_elements-returns-in_err-cells-clause-spends g t c =
-    let lay = c.args.layout.now in
-    let m = c.args.model.now in
-    let es = c.args.elements.now in
-    let n = c.loop-element.element-index in
-    let s = c.loop-element.engine.store in
-    let b = c.build.new.engine.store in
-    let e : Expr = c.element-item.result in
-    let i = c.loop-element.invariant in
-    let f : List Bool → Checked (List Value) = meaning_of lay m c.args.next (term_of e) in
-    element_spends c.args.engine.now.store s b c.united.new.engine.store i.keeps.grows c.build.ensures.keeps.grows (nodes_of (take n es)) (node_count (term_of e)) (element_nodes (terms_in es)) (length c.deref.result.now) (length c.deref-in-loop-element.result.now)
-    (node_count-some (term_of e)) (nodes_more_le es n e c.loop-element-test.true c.element-item.is) i.spends c.build.ensures.spends c.united.ensures.spends
-    (subst (λ (xs : List Cell). length xs ≤ nodes_of (take n es) * 2 ^ levels_of s) (sym c.deref.ensures.value) (reads-few s c.loop-element.cells.items (nodes_of (take n es)) i.cells (λ bits. let r = i.so_far bits in (r.0, r.1, r.3))))
-    (subst (λ (xs : List Cell). length xs ≤ node_count (term_of e) * 2 ^ levels_of b) (sym c.deref-in-loop-element.ensures.value) (table-few b c.in_ok-table.table.cells.items _ f (node_count (term_of e)) c.in_ok-table.ensures.table (λ bits. eval_amount m (term_of e) (state_shown lay c.args.next bits) (state_shown lay true bits))))
-
 pub build_arms-returns-in_err-add-clause-spends : goal.build_arms-returns-in_err-add-clause-spends
 build_arms-returns-in_err-add-clause-spends g t c =
     arms_spend c.args.engine.now.store c.loop-arm.engine.store c.add.new.engine.store c.loop-arm.invariant.keeps.grows (nodes_of_arms (take c.loop-arm.arm-index c.args.arms.now)) (arm_nodes (arms_in c.args.arms.now))
@@ -470,14 +489,6 @@ build-returns-in_err-right-in-Binary-clause-keeps g t c = keeps_join c.build-in-
 
 pub build-returns-in_ok-operand-in-Not-clause-keeps : goal.build-returns-in_ok-operand-in-Not-clause-keeps
 build-returns-in_ok-operand-in-Not-clause-keeps g t c = keeps_join c.build-in-Not.ensures.keeps c.negated.ensures.keeps
-
-pub build_elements-returns-in_err-table-clause-keeps : goal.build_elements-returns-in_err-table-clause-keeps
-build_elements-returns-in_err-table-clause-keeps g t c = keeps_join c.loop-element.invariant.keeps c.build.ensures.keeps
-
-pub build_elements-united-requires-clause-left : goal.build_elements-united-requires-clause-left
-build_elements-united-requires-clause-left g t c =
-    let b = c.build.new.engine.store in
-    subst (AreCells b) (sym c.deref.ensures.value) (AreCells-grows c.loop-element.engine.store b c.build.ensures.keeps.grows c.loop-element.cells.items c.loop-element.invariant.cells)
 
 pub build_arms-returns-in_err-left-clause-held : goal.build_arms-returns-in_err-left-clause-held
 build_arms-returns-in_err-left-clause-held g t c =

@@ -1,4 +1,4 @@
-use Rattle.std.proofs.Common.{◌≡◌, ◌+◌, ◌*◌, ◌^◌, ◌≤◌, ◌&&◌, ◌||◌, Bool, List, length, drop, take}
+use Rattle.std.proofs.Common.{◌≡◌, ◌+◌, ◌*◌, ◌^◌, ◌&&◌, ◌||◌, Bool, List, drop, take}
 use Rattle.bdd_nodes.specs.Store.{value_of, levels_of, Has}
 use Rattle.bdd_ops.specs.Engine.{store_of}
 use Rattle.kripke_model.specs.declared.expressions.Value.{Value}
@@ -6,10 +6,9 @@ use Rattle.kripke_model.specs.Evaluation.{Checked}
 use Rattle.kripke_model.specs.Reading.{term_of, terms_in, arms_in}
 use Rattle.kripke_model.specs.Size.{node_count, element_nodes, arm_nodes}
 use Rattle.value_tables.specs.Work.{Keeps, Spends, list_allowance}
-use Rattle.value_tables.specs.Cells.{shows, same_reading, readings, any_of, Reads, AreCells}
-use Rattle.value_tables.specs.States.{elements_meaning, arms_meaning}
-use Rattle.value_tables.specs.Tables.{all_values}
-use Rattle.value_tables.proofs.GrowthLemmas.{nodes_of, nodes_of_arms}
+use Rattle.value_tables.specs.Cells.{shows, same_reading, any_of, AreCells}
+use Rattle.value_tables.specs.States.{arms_meaning}
+use Rattle.value_tables.proofs.GrowthLemmas.{nodes_of_arms}
 use Rattle.value_tables.proofs.build.+build.Given as goal
 
 abbrev pub decreases-build : goal.decreases-build
@@ -23,17 +22,6 @@ decreases-build_arm g l = 2 * (node_count (term_of l.arm.now.guard) + node_count
 
 abbrev pub decreases-build_arms : goal.decreases-build_arms
 decreases-build_arms g l = 2 * arm_nodes (arms_in l.arms.now) + 1
-
--- the cells are those of the elements so far
-abbrev pub invariant-build_elements-loop-element : goal.invariant-build_elements-loop-element
-invariant-build_elements-loop-element g l = record {
-  cells : AreCells (store_of l.engine) l.cells.items;
-  so_far : (bits : List Bool) → (c : Checked (List Value)) × Reads (λ r. value_of (store_of l.engine) r bits) l.cells.items c
-      × (elements_meaning l.layout l.model l.next (terms_in l.elements) bits ≡ all_values c (elements_meaning l.layout l.model l.next (terms_in (drop l.element-index l.elements)) bits))
-      × (length (readings c) ≤ nodes_of (take l.element-index l.elements));
-  spends : Spends (list_allowance (nodes_of (take l.element-index l.elements)) (2 ^ levels_of (store_of l.initial.engine))) (store_of l.initial.engine) (store_of l.engine);
-  keeps : Keeps l.initial.engine l.engine l.initial.steps l.steps;
-}
 
 -- the cells are those of the arms so far, and the rest is that of the arms that are left
 abbrev pub invariant-build_arms-loop-arm : goal.invariant-build_arms-loop-arm
