@@ -1,0 +1,17 @@
+pub mod Places
+pub mod Bounds
+pub mod Sound
+pub mod Unique
+pub mod StepCalls
+pub mod LoopCalls
+pub mod TestCalls
+pub mod HoldCalls
+pub mod WayCalls
+pub mod Parts
+pub mod Releases
+pub mod ClosedCalls
+pub mod ApartCalls
+pub mod Members
+pub mod Alike
+pub mod Later
+pub mod LatchDelays
