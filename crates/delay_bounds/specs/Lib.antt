@@ -1,3 +1,5 @@
+pub mod Stay
+pub mod Longest
 pub mod Closed
 pub mod Delays
 pub mod Form
@@ -6,3 +8,8 @@ pub mod Shows
 pub mod Pinned
 pub mod Laws
 pub mod Tests
+pub mod Reaching
+pub mod Back
+pub mod Changes
+pub mod Search
+pub mod Ends

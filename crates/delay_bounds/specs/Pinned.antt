@@ -5,7 +5,9 @@ use Rattle.region_sets.specs.declared.pins.Pin.{Pin}
 use Rattle.region_sets.specs.declared.pins.SetRefusal.{SetRefusal}
 use Rattle.region_sets.specs.Sets.{Sets, region}
 use Rattle.region_sets.specs.Ranks.{slots}
-use Rattle.delay_bounds.specs.Form.{Shortest, Longest, DelayProof, map_shortest, map_longest, map_proof, sets_of}
+use Rattle.delay_bounds.specs.declared.proof.Shortest as shortest
+use Rattle.delay_bounds.specs.Form.{Shortest, Longest, DelayProof, map_shortest, map_longest, map_proof, sets_of, shortest_sets}
+use Rattle.delay_bounds.specs.Seen.{seen_shortest}
 
 -- the proof over the states that the pins stand for
 abbrev pub over_states : Sets → DelayProof Pin → DelayProof StateSet
@@ -23,3 +25,8 @@ proof_slots proof = slots (sets_of proof)
 abbrev pub result_slots : Result (DelayProof Pin) SetRefusal → List ℕ
 result_slots (Ok proof) = proof_slots proof
 result_slots (Err refusal) = []
+
+-- the slots of the pins in the answer of a search
+abbrev pub shortest_slots : Result shortest.Shortest SetRefusal → List ℕ
+shortest_slots (Ok answer) = slots (shortest_sets (seen_shortest answer))
+shortest_slots (Err refusal) = []

@@ -1,16 +1,14 @@
 //! Proofs of the delays from go to x in a model in which x is 1 from the step on in which go was 1.
 
-ghost use Rattle.std.specs.Prelude.{IfSome};
-ghost use Rattle.kripke_model.specs.Leaves.{IsModelLeaf};
-ghost use Rattle.kripke_model.specs.Reading.{term_of};
 ghost use Rattle.kripke_model.specs.WellFormed.{ctl_of};
 ghost use Rattle.fair_fixpoint.specs.Walks.{HasModelLeaves};
 
 use crate::latch_proofs::{Case, is_shown};
+use crate::leaves::leaf_in;
 use case_models::formulas::spec_formulas;
 use case_models::kinds::trees;
 use case_models::reading::model_of;
-use kripke_model::expressions::{Expr, Formula};
+use kripke_model::expressions::Formula;
 use kripke_model::models::Ruled;
 use region_sets::SetRefusal;
 use std::alloc::Global;
@@ -25,18 +23,6 @@ ASSIGN
 SPEC go
 SPEC x
 ";
-
-/// The formula's expression, where it has no path operators.
-fn leaf_in<'a>(model: &Ruled, formula: &'a Formula) -> Option<&'a Expr>
-    requires { HasModelLeaves model.now (ctl_of formula.now) }
-    ensures { IfSome result (λ e. IsModelLeaf model.now (term_of e.now)) }
-{
-    let _ = model;
-    match formula {
-        Formula::Leaf(expr) => Some(expr),
-        _ => None,
-    }
-}
 
 /// Whether the case's proof shows its delays, over trees. `None` where a formula is no leaf.
 fn shown_between(
