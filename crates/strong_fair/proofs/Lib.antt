@@ -1,0 +1,10 @@
+pub mod Pairs
+pub mod Sound
+pub mod Loops
+pub mod LatchStrong
+pub mod Alike
+pub mod RowSteps
+pub mod RowCalls
+pub mod RowLists
+pub mod Taking
+pub mod Closing
