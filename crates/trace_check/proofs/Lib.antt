@@ -1,0 +1,4 @@
+pub mod Members
+pub mod Judge
+pub mod Visited
+pub mod Verdicts

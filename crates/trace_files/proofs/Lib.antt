@@ -1,0 +1,12 @@
+pub mod Texts
+pub mod Prints
+pub mod Beginnings
+pub mod Reasons
+pub mod Known
+pub mod OneTrace
+pub mod FrontLemmas
+pub mod WrittenLines
+pub mod FoundLines
+pub mod FoundStates
+pub mod FoundPaths
+pub mod RefusedTexts

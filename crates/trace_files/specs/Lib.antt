@@ -1,0 +1,7 @@
+pub mod Trace
+pub mod Spells
+pub mod Refuses
+pub mod Laws
+pub mod Small
+pub mod Parts
+pub mod Told
