@@ -13,17 +13,21 @@ use Rattle.clap.specs.declared.error.Error.{Error}
 use Rattle.clap.specs.declared.error.kind.ErrorKind.TheVariants.{OutOfMemory}
 use Rattle.clap.specs.declared.parser.matches.ArgMatches.{ArgMatches}
 use Rattle.clap.proofs.WalkLemmas.{both, first_value-rows, one_text-rows}
-use Rattle.command_words.specs.Given.{Values, check_app, check_with, gen_app, gen_with, recheck_app}
-use Rattle.command_words.specs.Given.{recheck_with}
-use Rattle.command_words.specs.Parts.{Part, Form, parts_of, check_form, gen_form, recheck_form}
-use Rattle.command_words.specs.Words.{Command, Usage, check_of, command_by, gen_of, recheck_of}
-use Rattle.command_words.specs.Words.{two_files}
-use Rattle.command_words.proofs.Kept.{Kept, file_names, keep_parts, model_name, nothing}
+use Rattle.command_words.specs.Given.{Values, check_app, check_with, delay_app, delay_names}
+use Rattle.command_words.specs.Given.{delay_with, file_names, files_app, gen_app, gen_with}
+use Rattle.command_words.specs.Given.{recheck_with, replay_with}
+use Rattle.command_words.specs.Parts.{Part, Form, parts_of, check_form, gen_form, limit_form}
+use Rattle.command_words.specs.Words.{Command, Usage, check_of, command_by, delay_of, gen_of}
+use Rattle.command_words.specs.Words.{recheck_of, replay_of}
+use Rattle.command_words.proofs.Kept.{Kept, keep_parts, model_name, nothing}
 use Rattle.command_words.proofs.Kept.{number_name, wants}
 use Rattle.command_words.proofs.ClapAgrees.{Agrees, AllUtf8, HasNone, IsWhole}
 use Rattle.command_words.proofs.ClapEnds.{ReadsAll, ReadsGen}
-use Rattle.command_words.proofs.ClapCommands.{check_agrees, gen_agrees, recheck_agrees}
-use Rattle.command_words.proofs.Commands.{IsGen, check_words, gen_words, recheck_words}
+use Rattle.command_words.proofs.ClapCommands.{check_agrees, delay_agrees, files_agrees}
+use Rattle.command_words.proofs.ClapCommands.{gen_agrees}
+use Rattle.command_words.proofs.Commands.{IsGen, check_words, gen_words}
+use Rattle.command_words.proofs.Limited.{delay_words, no_delay, no_files, no_trace}
+use Rattle.command_words.proofs.Limited.{recheck_words, replay_words}
 
 module _ (app : App) (simple : is_simple_and_free app ≡ true) (words : List Text) where
   -- what is found in the words that are taken
@@ -115,19 +119,6 @@ no_model values wanted = go (values (codes "model")) refl
     go None e = rw e refl
     go (Some model) e = let bad : false ≡ true = rw e at wanted in cc
 
-no_files : (values : Values) → wants file_names values ≡ true → recheck_with values ≡ None
-no_files values wanted = go (values (codes "model")) refl (values (codes "proof")) refl
-  where
-    one : (model : Text) → two_files (model ∷ []) ≡ None
-    one [] = refl
-    one (byte ∷ model) = refl
-
-    go : (model : Option Text) → values (codes "model") ≡ model → (proof : Option Text)
-        → values (codes "proof") ≡ proof → recheck_with values ≡ None
-    go None e proof f = rw e refl
-    go (Some model) e None f = rw (e, f, one model) refl
-    go (Some model) e (Some proof) f = let bad : false ≡ true = rw (e, f) at wanted in cc
-
 -- ---- each command
 
 module _ {Z : Type 0} (words : List (String Z)) where
@@ -148,18 +139,48 @@ module _ {Z : Type 0} (words : List (String Z)) where
         none_found check_app built texts model_name check_form check_of check_with
         (check_agrees texts (all_utf8 words)) (check_words texts) no_model same given told
 
-    pub recheck_found : built ≡ recheck_app → (m : ArgMatches) (command : Command) → given ≡ Some m
-        → command ≡ unwrap_or (recheck_with (first_value (found_of m))) Usage
-        → command ≡ command_by recheck_form recheck_of texts
+    pub recheck_found : built ≡ files_app (codes "recheck") → (m : ArgMatches) (command : Command)
+        → given ≡ Some m → command ≡ unwrap_or (recheck_with (first_value (found_of m))) Usage
+        → command ≡ command_by limit_form recheck_of texts
     recheck_found same =
-        found recheck_app built texts file_names recheck_form recheck_of recheck_with
-        (recheck_agrees texts (all_utf8 words)) (recheck_words texts) no_files same given told
+        found (files_app (codes "recheck")) built texts file_names limit_form recheck_of recheck_with
+        (files_agrees (codes "recheck") texts (all_utf8 words)) (recheck_words texts) no_files same given
+        told
 
-    pub recheck_refused : built ≡ recheck_app → given ≡ None
-        → Usage ≡ command_by recheck_form recheck_of texts
+    pub recheck_refused : built ≡ files_app (codes "recheck") → given ≡ None
+        → Usage ≡ command_by limit_form recheck_of texts
     recheck_refused same =
-        none_found recheck_app built texts file_names recheck_form recheck_of recheck_with
-        (recheck_agrees texts (all_utf8 words)) (recheck_words texts) no_files same given told
+        none_found (files_app (codes "recheck")) built texts file_names limit_form recheck_of recheck_with
+        (files_agrees (codes "recheck") texts (all_utf8 words)) (recheck_words texts) no_files same given
+        told
+
+    pub replay_found : built ≡ files_app (codes "replay") → (m : ArgMatches) (command : Command)
+        → given ≡ Some m → command ≡ unwrap_or (replay_with (first_value (found_of m))) Usage
+        → command ≡ command_by limit_form replay_of texts
+    replay_found same =
+        found (files_app (codes "replay")) built texts file_names limit_form replay_of replay_with
+        (files_agrees (codes "replay") texts (all_utf8 words)) (replay_words texts) no_trace same given
+        told
+
+    pub replay_refused : built ≡ files_app (codes "replay") → given ≡ None
+        → Usage ≡ command_by limit_form replay_of texts
+    replay_refused same =
+        none_found (files_app (codes "replay")) built texts file_names limit_form replay_of replay_with
+        (files_agrees (codes "replay") texts (all_utf8 words)) (replay_words texts) no_trace same given
+        told
+
+    pub delay_found : built ≡ delay_app → (m : ArgMatches) (command : Command) → given ≡ Some m
+        → command ≡ unwrap_or (delay_with (first_value (found_of m))) Usage
+        → command ≡ command_by limit_form delay_of texts
+    delay_found same =
+        found delay_app built texts delay_names limit_form delay_of delay_with
+        (delay_agrees texts (all_utf8 words)) (delay_words texts) no_delay same given told
+
+    pub delay_refused : built ≡ delay_app → given ≡ None
+        → Usage ≡ command_by limit_form delay_of texts
+    delay_refused same =
+        none_found delay_app built texts delay_names limit_form delay_of delay_with
+        (delay_agrees texts (all_utf8 words)) (delay_words texts) no_delay same given told
 
     -- the flag of `gen` is read as a text
     by_flag : (m : ArgMatches) (command : Command) (kept : Option Kept) (wanted : Option Command)

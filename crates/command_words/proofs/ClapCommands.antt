@@ -4,22 +4,27 @@ use Rattle.std.proofs.Common.{refl, sym, subst}
 use Rattle.clap.specs.Walk.{Text, nothing_held, rows_after, stop_after}
 use Rattle.clap.specs.Simple.{App, Shape, entered, matches_of}
 use Rattle.clap.specs.Faults.{built_fault, entered_fault, fault_of, is_simple_and_free, level_fault}
-use Rattle.command_words.specs.Given.{check_app, gen_app, recheck_app}
-use Rattle.command_words.specs.Parts.{parts_of, check_form, gen_form, recheck_form}
-use Rattle.command_words.proofs.Kept.{file_names, keep_parts, model_name, nothing, number_name}
+use Rattle.command_words.specs.Given.{check_app, delay_app, delay_names, file_names, files_app}
+use Rattle.command_words.specs.Given.{gen_app}
+use Rattle.command_words.specs.Parts.{parts_of, check_form, gen_form, limit_form}
+use Rattle.command_words.proofs.Kept.{keep_parts, model_name, nothing, number_name}
 use Rattle.command_words.proofs.ClapTurns.{shape_with}
 use Rattle.command_words.proofs.ClapAgrees.{Agrees, AllUtf8}
 use Rattle.command_words.proofs.ClapWalk.{agrees}
 use Rattle.command_words.proofs.ClapForms.{check_met, check_rules, check_short, gen_met, gen_rules}
-use Rattle.command_words.proofs.ClapForms.{gen_short, recheck_met, recheck_rules, recheck_short}
+use Rattle.command_words.proofs.ClapForms.{delay_met, delay_rules, files_met, files_rules}
+use Rattle.command_words.proofs.ClapForms.{gen_short, limit_short}
 use Rattle.command_words.proofs.ClapEnds.{ReadsAll, ReadsGen, check_ending, gen_ending}
-use Rattle.command_words.proofs.ClapEnds.{recheck_ending}
+use Rattle.command_words.proofs.ClapEnds.{delay_ending, files_ending}
 
 pub check_simple : is_simple_and_free check_app ≡ true
 check_simple = refl
 
-pub recheck_simple : is_simple_and_free recheck_app ≡ true
-recheck_simple = refl
+pub files_simple : (name : Text) → is_simple_and_free (files_app name) ≡ true
+files_simple name = refl
+
+pub delay_simple : is_simple_and_free delay_app ≡ true
+delay_simple = refl
 
 pub gen_simple : is_simple_and_free gen_app ≡ true
 gen_simple = refl
@@ -49,16 +54,27 @@ check_agrees words utf8 =
     (agrees (codes "check") model_name check_rules check_form ReadsAll (refl, refl, refl)
     (λ char. refl) check_short (λ byte bytes. check_met (byte ∷ bytes)) check_ending words utf8)
 
-pub recheck_agrees : (words : List Text) → AllUtf8 words
-    → Agrees file_names ReadsAll (fault_of recheck_app words) (matches_of recheck_app words)
-    (keep_parts file_names nothing (parts_of recheck_form words))
-recheck_agrees words utf8 =
-    subst (λ fault. Agrees file_names ReadsAll fault (rows_after recheck_rules [] words)
-    (keep_parts file_names nothing (parts_of recheck_form words)))
-    (sym (one_level (shape_with (codes "recheck") recheck_rules) words))
-    (agrees (codes "recheck") file_names recheck_rules recheck_form ReadsAll
-    (refl, refl, (refl, refl, refl)) (λ char. refl) recheck_short
-    (λ byte bytes. recheck_met (byte ∷ bytes)) recheck_ending words utf8)
+pub files_agrees : (name : Text) (words : List Text) → AllUtf8 words
+    → Agrees file_names ReadsAll (fault_of (files_app name) words)
+    (matches_of (files_app name) words) (keep_parts file_names nothing (parts_of limit_form words))
+files_agrees name words utf8 =
+    subst (λ fault. Agrees file_names ReadsAll fault (rows_after files_rules [] words)
+    (keep_parts file_names nothing (parts_of limit_form words)))
+    (sym (one_level (shape_with name files_rules) words))
+    (agrees name file_names files_rules limit_form ReadsAll (refl, refl, (refl, refl, refl))
+    (λ char. refl) limit_short (λ byte bytes. files_met (byte ∷ bytes)) (files_ending name) words
+    utf8)
+
+pub delay_agrees : (words : List Text) → AllUtf8 words
+    → Agrees delay_names ReadsAll (fault_of delay_app words) (matches_of delay_app words)
+    (keep_parts delay_names nothing (parts_of limit_form words))
+delay_agrees words utf8 =
+    subst (λ fault. Agrees delay_names ReadsAll fault (rows_after delay_rules [] words)
+    (keep_parts delay_names nothing (parts_of limit_form words)))
+    (sym (one_level (shape_with (codes "delay") delay_rules) words))
+    (agrees (codes "delay") delay_names delay_rules limit_form ReadsAll
+    (refl, refl, (refl, refl, (refl, refl, refl))) (λ char. refl) limit_short
+    (λ byte bytes. delay_met (byte ∷ bytes)) delay_ending words utf8)
 
 pub gen_agrees : (words : List Text) → AllUtf8 words
     → Agrees number_name ReadsGen (fault_of gen_app words) (matches_of gen_app words)

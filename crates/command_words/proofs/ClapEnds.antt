@@ -13,13 +13,14 @@ use Rattle.clap.specs.Takes.{is_given}
 use Rattle.clap.specs.Faults.{check_fault, default_fault, defaults_fault, given_default_fault}
 use Rattle.clap.specs.declared.parser.matches.ValueSource.TheVariants.{DefaultValue}
 use Rattle.command_words.specs.Given.{Values}
-use Rattle.command_words.proofs.Kept.{Kept, file_names, flag_value, model_name, number_name, wants}
+use Rattle.command_words.specs.Given.{file_names, delay_names}
+use Rattle.command_words.proofs.Kept.{Kept, flag_value, model_name, number_name, wants}
 use Rattle.command_words.proofs.ClapRows.{Has, at_new, found, found_new, found_none, found_other}
 use Rattle.command_words.proofs.ClapRows.{has_none, has_some, row}
 use Rattle.command_words.proofs.ClapTurns.{shape_with}
 use Rattle.command_words.proofs.ClapUses.{flag_built, operand_built}
 use Rattle.command_words.proofs.ClapAgrees.{Agrees, ends}
-use Rattle.command_words.proofs.ClapForms.{check_rules, gen_rules, recheck_rules}
+use Rattle.command_words.proofs.ClapForms.{check_rules, delay_rules, files_rules, gen_rules}
 
 -- ---- arguments without default values change nothing
 
@@ -140,11 +141,18 @@ pub check_ending : (rows : List Row) (kept : Kept) → Has rows kept.values
 check_ending =
     ending (codes "check") model_name check_rules (refl, (refl, (refl, tt))) (λ rows. refl)
 
-pub recheck_ending : (rows : List Row) (kept : Kept) → Has rows kept.values
-    → Agrees file_names ReadsAll (ends (shape_with (codes "recheck") recheck_rules) rows)
-    (fold with_default rows recheck_rules) (Some kept)
-recheck_ending =
-    ending (codes "recheck") file_names recheck_rules (refl, (refl, (refl, tt))) (λ rows. refl)
+pub files_ending : (name : Text) (rows : List Row) (kept : Kept) → Has rows kept.values
+    → Agrees file_names ReadsAll (ends (shape_with name files_rules) rows)
+    (fold with_default rows files_rules) (Some kept)
+files_ending name =
+    ending name file_names files_rules (refl, (refl, (refl, tt))) (λ rows. refl)
+
+pub delay_ending : (rows : List Row) (kept : Kept) → Has rows kept.values
+    → Agrees delay_names ReadsAll (ends (shape_with (codes "delay") delay_rules) rows)
+    (fold with_default rows delay_rules) (Some kept)
+delay_ending =
+    ending (codes "delay") delay_names delay_rules (refl, (refl, (refl, (refl, tt))))
+    (λ rows. refl)
 
 -- ---- the flag of `gen`, which has a default
 

@@ -7,7 +7,7 @@ use Rattle.std.proofs.lemmas.Slice.Eq.{bytes_eq-Decides}
 use Rattle.std.proofs.lemmas.List.{take-append-drop}
 use Rattle.clap.specs.Walk.{Rule, Text, arg_by_id, arg_by_long}
 use Rattle.command_words.specs.Parts.{Part, Nodes, Proof, Check, Form, Unknown, Whole, Valued}
-use Rattle.command_words.specs.Parts.{check_form, gen_form, option_or, recheck_form}
+use Rattle.command_words.specs.Parts.{check_form, gen_form, option_or, limit_form}
 use Rattle.command_words.proofs.ClapTurns.{Meets, MeetsNone, MeetsValued, MeetsJoined, MeetsFlag}
 use Rattle.command_words.proofs.ClapTurns.{MeetsUnneeded}
 use Rattle.command_words.proofs.ClapUses.{Takes, operand_built, option_built, flag_built}
@@ -19,10 +19,15 @@ check_rules =
     operand_built 1 (codes "model") ∷ option_built (codes "nodes") ∷ option_built (codes "proof")
     ∷ []
 
-abbrev pub recheck_rules : List Rule
-recheck_rules =
-    operand_built 1 (codes "model") ∷ operand_built 2 (codes "proof") ∷ option_built (codes "nodes")
+abbrev pub files_rules : List Rule
+files_rules =
+    operand_built 1 (codes "model") ∷ operand_built 2 (codes "file") ∷ option_built (codes "nodes")
     ∷ []
+
+abbrev pub delay_rules : List Rule
+delay_rules =
+    operand_built 1 (codes "model") ∷ operand_built 2 (codes "from") ∷ operand_built 3 (codes "to")
+    ∷ option_built (codes "nodes") ∷ []
 
 abbrev pub gen_rules : List Rule
 gen_rules = operand_built 1 (codes "number") ∷ flag_built (codes "check") ∷ []
@@ -38,9 +43,9 @@ pub check_short : (byte : ℕ) (bytes : List ℕ) → (byte == 45) ≡ false
     → check_form (45 ∷ byte ∷ bytes) ≡ Unknown
 check_short byte bytes other = rw (other, turned byte other) refl
 
-pub recheck_short : (byte : ℕ) (bytes : List ℕ) → (byte == 45) ≡ false
-    → recheck_form (45 ∷ byte ∷ bytes) ≡ Unknown
-recheck_short byte bytes other = rw (other, turned byte other) refl
+pub limit_short : (byte : ℕ) (bytes : List ℕ) → (byte == 45) ≡ false
+    → limit_form (45 ∷ byte ∷ bytes) ≡ Unknown
+limit_short byte bytes other = rw (other, turned byte other) refl
 
 pub gen_short : (byte : ℕ) (bytes : List ℕ) → (byte == 45) ≡ false
     → gen_form (45 ∷ byte ∷ bytes) ≡ Unknown
@@ -139,16 +144,29 @@ check_met text =
         (other_or (codes "nodes") refl (λ more. refl) Nodes _ text e
         ∙ other_or (codes "proof") refl (λ more. refl) Proof Unknown text f)
 
-pub recheck_met : (text : Text) → Meets recheck_rules recheck_form text
-recheck_met text = go (bytes_eq (codes "nodes") (name_in text)) refl
-  where
-    go : (is_nodes : Bool) → bytes_eq (codes "nodes") (name_in text) ≡ is_nodes
-        → Meets recheck_rules recheck_form text
-    go true e =
-        option_meets recheck_rules recheck_form (codes "nodes") Nodes (λ value free values. refl)
-        refl refl refl (λ value. refl) text e (value_in text) refl (cut text)
-    go false e =
-        MeetsNone (rw e refl) (other_or (codes "nodes") refl (λ more. refl) Nodes Unknown text e)
+-- commands whose one option is `--nodes`
+module _ (rules : List Rule)
+    (by_id : arg_by_id rules (codes "nodes") ≡ Some (option_built (codes "nodes")))
+    (by_long : arg_by_long rules (codes "nodes") ≡ Some (option_built (codes "nodes")))
+    (no_other : (text : Text) → bytes_eq (codes "nodes") (name_in text) ≡ false
+    → arg_by_long rules (name_in text) ≡ None) where
+  limit_met : (text : Text) → Meets rules limit_form text
+  limit_met text = go (bytes_eq (codes "nodes") (name_in text)) refl
+    where
+      go : (is_nodes : Bool) → bytes_eq (codes "nodes") (name_in text) ≡ is_nodes
+          → Meets rules limit_form text
+      go true e =
+          option_meets rules limit_form (codes "nodes") Nodes (λ value free values. refl) by_id
+          by_long refl (λ value. refl) text e (value_in text) refl (cut text)
+      go false e =
+          MeetsNone (no_other text e)
+          (other_or (codes "nodes") refl (λ more. refl) Nodes Unknown text e)
+
+pub files_met : (text : Text) → Meets files_rules limit_form text
+files_met = limit_met files_rules refl refl (λ text e. rw e refl)
+
+pub delay_met : (text : Text) → Meets delay_rules limit_form text
+delay_met = limit_met delay_rules refl refl (λ text e. rw e refl)
 
 -- no other text is the flag
 other_check : (text : Text) → bytes_eq (codes "check") (name_in text) ≡ false

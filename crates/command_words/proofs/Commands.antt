@@ -4,16 +4,14 @@ use Rattle.std.proofs.Common.{Option, Some, None, IfSome, if◌then◌else◌, r
 use Rattle.std.proofs.Common.{arith}
 use Rattle.std.specs.Option.{option_map, option_and_then}
 use Rattle.std.proofs.lemmas.List.{append-nil}
-use Rattle.command_words.specs.Given.{Values, both_of, check_lists, check_with, gen_with, list_of}
-use Rattle.command_words.specs.Given.{recheck_lists, recheck_with}
+use Rattle.command_words.specs.Given.{Values, check_lists, check_with, gen_with, list_of}
 use Rattle.command_words.specs.Parts.{Part, Operand, Nodes, Proof, Check, check_form, gen_form}
-use Rattle.command_words.specs.Parts.{parts_of, operands, limits, proofs, checks, recheck_form}
-use Rattle.command_words.specs.Words.{Command, Print, File, Ring, Decide, Recheck, work_on}
-use Rattle.command_words.specs.Words.{usual_limit, only_file, only_number, only_limit, only_proofs}
-use Rattle.command_words.specs.Words.{two_files, at_most_once, check_of, gen_of, recheck_of}
-use Rattle.command_words.proofs.PartKinds.{Every, IsOfCheck, IsOfGen, IsOfRecheck, parts_of_check}
-use Rattle.command_words.proofs.PartKinds.{parts_of_gen, parts_of_recheck}
-use Rattle.command_words.proofs.Kept.{Kept, file_names, flag_value, keep_all, keep_parts}
+use Rattle.command_words.specs.Parts.{parts_of, operands, limits, proofs, checks}
+use Rattle.command_words.specs.Words.{Command, Print, File, Ring, Decide, work_on, usual_limit}
+use Rattle.command_words.specs.Words.{only_file, only_number, only_limit, only_proofs, at_most_once}
+use Rattle.command_words.specs.Words.{check_of, gen_of}
+use Rattle.command_words.proofs.PartKinds.{Every, IsOfCheck, IsOfGen, parts_of_check, parts_of_gen}
+use Rattle.command_words.proofs.Kept.{Kept, flag_value, keep_all, keep_parts}
 use Rattle.command_words.proofs.Kept.{model_name, nothing, number_name, put}
 
 -- the name of an operand that is still to come, by the word that was given for it
@@ -56,29 +54,10 @@ two_names models limits names first second = go (only_file models) (only_limit l
     go (Some model) (Some limit) =
         ap (option_map (λ name. work_on (File model) limit (Decide name))) (none model first)
 
-three_files : (first second third : List ℕ) (files limits : List (List ℕ))
-    → recheck_lists (first ∷ second ∷ third ∷ files) limits ≡ None
-three_files [] second third files limits = refl
-three_files (byte ∷ first) [] third files limits = refl
-three_files (byte ∷ first) (other ∷ second) third files limits = refl
-
-two_rechecked : (files limits : List (List ℕ)) (first second : List ℕ)
-    → recheck_lists files (first ∷ second ∷ limits) ≡ None
-two_rechecked files limits first second = go (two_files files)
-  where
-    go : (names : Option (List ℕ × List ℕ))
-        → option_and_then (λ names. option_map
-        (λ limit. work_on (File names.0) limit (Recheck names.1)) None) names ≡ None
-    go None = refl
-    go (Some names) = refl
-
 -- ---- from what is kept so far and the parts to come
 
 abbrev check_kept : Option Kept → Option Command
 check_kept = option_and_then (λ kept. check_with kept.values)
-
-abbrev recheck_kept : Option Kept → Option Command
-recheck_kept = option_and_then (λ kept. recheck_with kept.values)
 
 -- the command `check` of what is kept, with the operand that was given, and of the parts to come
 abbrev IsCheck : Option (List ℕ) → Values → List Part → Type 0
@@ -125,72 +104,6 @@ check_from model values is (Proof name ∷ parts) all =
     (check_from model (put (codes "proof") name values) is parts all.1) (values (codes "proof"))
     refl
 check_from model values is (Check ∷ parts) all = absurd all.0
-
--- the operands of `recheck` that were given
-data Files : Type 0 where
-  NoFile : Files
-  OneFile : (model : List ℕ) → Files
-  BothFiles : (model proof : List ℕ) → Files
-
-abbrev words_in : Files → List (List ℕ)
-words_in NoFile = []
-words_in (OneFile model) = model ∷ []
-words_in (BothFiles model proof) = model ∷ proof ∷ []
-
-abbrev free_in : Files → List (List ℕ)
-free_in NoFile = file_names
-free_in (OneFile model) = codes "proof" ∷ []
-free_in (BothFiles model proof) = []
-
-abbrev model_in : Files → Option (List ℕ)
-model_in NoFile = None
-model_in (OneFile model) = Some model
-model_in (BothFiles model proof) = Some model
-
-abbrev proof_in : Files → Option (List ℕ)
-proof_in NoFile = None
-proof_in (OneFile model) = None
-proof_in (BothFiles model proof) = Some proof
-
-words_are : (files : Files) → words_in files ++ [] ≡ both_of (model_in files) (proof_in files)
-words_are NoFile = refl
-words_are (OneFile model) = refl
-words_are (BothFiles model proof) = refl
-
-abbrev IsRecheck : Files → Values → List Part → Type 0
-IsRecheck files values parts =
-    recheck_lists (words_in files ++ operands parts)
-    (list_of (values (codes "nodes")) ++ limits parts)
-    ≡ recheck_kept (keep_all (free_in files) values parts)
-
-recheck_nodes : (files : Files) (values : Values) (value : List ℕ) (parts : List Part)
-    → IsRecheck files (put (codes "nodes") value values) parts
-    → (before : Option (List ℕ)) → values (codes "nodes") ≡ before
-    → IsRecheck files values (Nodes value ∷ parts)
-recheck_nodes files values value parts rest None e = rw e rest
-recheck_nodes files values value parts rest (Some first) e =
-    rw e (two_rechecked (words_in files ++ operands parts) (limits parts) first value)
-
-recheck_from : (files : Files) (values : Values) → values (codes "model") ≡ model_in files
-    → values (codes "proof") ≡ proof_in files → (parts : List Part) → Every IsOfRecheck parts
-    → IsRecheck files values parts
-recheck_from files values is_model is_proof [] all =
-    λ i. recheck_lists ((words_are files ∙ (λ j. both_of (sym is_model j) (sym is_proof j))) i)
-    (append-nil (list_of (values (codes "nodes"))) i)
-recheck_from NoFile values is_model is_proof (Operand word ∷ parts) all =
-    rw is_model (recheck_from (OneFile word) (put (codes "model") word values) refl is_proof parts
-    all.1)
-recheck_from (OneFile model) values is_model is_proof (Operand word ∷ parts) all =
-    rw is_proof (recheck_from (BothFiles model word) (put (codes "proof") word values) is_model refl
-    parts all.1)
-recheck_from (BothFiles model proof) values is_model is_proof (Operand word ∷ parts) all =
-    three_files model proof word (operands parts) (list_of (values (codes "nodes")) ++ limits parts)
-recheck_from files values is_model is_proof (Nodes value ∷ parts) all =
-    recheck_nodes files values value parts
-    (recheck_from files (put (codes "nodes") value values) is_model is_proof parts all.1)
-    (values (codes "nodes")) refl
-recheck_from files values is_model is_proof (Proof name ∷ parts) all = absurd all.0
-recheck_from files values is_model is_proof (Check ∷ parts) all = absurd all.0
 
 -- ---- the same for `gen`, whose flag stands or not
 
@@ -279,16 +192,6 @@ check_words words = go (parts_of check_form words) (parts_of_check words)
         → check_kept (keep_parts model_name nothing parts) ≡ option_and_then check_of parts
     go None all = refl
     go (Some parts) all = sym (check_from None nothing refl parts all)
-
-pub recheck_words : (words : List (List ℕ))
-    → recheck_kept (keep_parts file_names nothing (parts_of recheck_form words))
-    ≡ option_and_then recheck_of (parts_of recheck_form words)
-recheck_words words = go (parts_of recheck_form words) (parts_of_recheck words)
-  where
-    go : (parts : Option (List Part)) → IfSome parts (Every IsOfRecheck)
-        → recheck_kept (keep_parts file_names nothing parts) ≡ option_and_then recheck_of parts
-    go None all = refl
-    go (Some parts) all = sym (recheck_from NoFile nothing refl refl parts all)
 
 pub gen_words : (words : List (List ℕ))
     → IsGen (option_and_then gen_of (parts_of gen_form words))

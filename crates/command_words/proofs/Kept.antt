@@ -12,12 +12,9 @@ nothing name = None
 abbrev pub put : (name value : List ℕ) → Values → Values
 put name value values other = if bytes_eq name other then Some value else values other
 
--- the operands of `check`, of `recheck` and of `gen`
+-- the operands of `check` and of `gen`
 abbrev pub model_name : List (List ℕ)
 model_name = codes "model" ∷ []
-
-abbrev pub file_names : List (List ℕ)
-file_names = codes "model" ∷ codes "proof" ∷ []
 
 abbrev pub number_name : List (List ℕ)
 number_name = codes "number" ∷ []

@@ -10,6 +10,7 @@ mod ClapUses
 mod ClapWalk
 mod Commands
 mod Kept
+mod Limited
 mod Numbers
 mod PartKinds
 mod Ranges

@@ -3,7 +3,7 @@ use Rattle.std.proofs.Common.{ℕ, ◌+◌, Bool, true, false, List, [], ◌∷�
 use Rattle.std.proofs.Common.{nat_eq, drop, length, Option, Some, None, IfSome, if◌then◌else◌}
 use Rattle.std.specs.List.{starts_with}
 use Rattle.command_words.specs.Parts.{Part, Operand, Nodes, Proof, Check, Form, Unknown, Whole}
-use Rattle.command_words.specs.Parts.{Valued, check_form, gen_form, recheck_form, option_or}
+use Rattle.command_words.specs.Parts.{Valued, check_form, gen_form, limit_form, option_or}
 use Rattle.command_words.specs.Parts.{is_option, before, parts_of, by_form, parts_valued}
 
 abbrev pub Every : (Part → Type 0) → List Part → Type 0
@@ -76,11 +76,11 @@ IsOfCheck (Nodes value) = Unit {0}
 IsOfCheck (Proof name) = Unit {0}
 IsOfCheck Check = ⊥
 
-abbrev pub IsOfRecheck : Part → Type 0
-IsOfRecheck (Operand word) = Unit {0}
-IsOfRecheck (Nodes value) = Unit {0}
-IsOfRecheck (Proof name) = ⊥
-IsOfRecheck Check = ⊥
+abbrev pub IsOfLimited : Part → Type 0
+IsOfLimited (Operand word) = Unit {0}
+IsOfLimited (Nodes value) = Unit {0}
+IsOfLimited (Proof name) = ⊥
+IsOfLimited Check = ⊥
 
 abbrev pub IsOfGen : Part → Type 0
 IsOfGen (Operand word) = Unit {0}
@@ -109,8 +109,8 @@ check_forms word =
     (option_or (codes "--proof") Proof Unknown word)
     (option_forms IsOfCheck (codes "--proof") Proof (λ value. tt) Unknown tt word) word
 
-recheck_forms : (word : List ℕ) → IsForm IsOfRecheck (recheck_form word)
-recheck_forms word = option_forms IsOfRecheck (codes "--nodes") Nodes (λ value. tt) Unknown tt word
+limit_forms : (word : List ℕ) → IsForm IsOfLimited (limit_form word)
+limit_forms word = option_forms IsOfLimited (codes "--nodes") Nodes (λ value. tt) Unknown tt word
 
 gen_forms : (word : List ℕ) → IsForm IsOfGen (gen_form word)
 gen_forms word = go (bytes_eq word (codes "--check"))
@@ -122,8 +122,8 @@ gen_forms word = go (bytes_eq word (codes "--check"))
 pub parts_of_check : (words : List (List ℕ)) → EveryOf IsOfCheck (parts_of check_form words)
 parts_of_check = every_part IsOfCheck (λ word. tt) check_form check_forms
 
-pub parts_of_recheck : (words : List (List ℕ)) → EveryOf IsOfRecheck (parts_of recheck_form words)
-parts_of_recheck = every_part IsOfRecheck (λ word. tt) recheck_form recheck_forms
+pub parts_of_limited : (words : List (List ℕ)) → EveryOf IsOfLimited (parts_of limit_form words)
+parts_of_limited = every_part IsOfLimited (λ word. tt) limit_form limit_forms
 
 pub parts_of_gen : (words : List (List ℕ)) → EveryOf IsOfGen (parts_of gen_form words)
 parts_of_gen = every_part IsOfGen (λ word. tt) gen_form gen_forms

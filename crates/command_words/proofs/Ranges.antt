@@ -3,12 +3,13 @@ use Rattle.std.proofs.Common.{◌≡◌, ℕ, ◌<◌, ◌≤◌, ◌^◌, Bool,
 use Rattle.std.proofs.Common.{None, IfSome, if◌then◌else◌, unwrap_or, refl, arith}
 use Rattle.std.specs.Option.{option_map, option_and_then}
 use Rattle.command_words.specs.Number.{number_of}
-use Rattle.command_words.specs.Parts.{Part, Form, check_form, gen_form, recheck_form, parts_of}
+use Rattle.command_words.specs.Parts.{Part, Form, check_form, gen_form, limit_form, parts_of}
 use Rattle.command_words.specs.Parts.{operands, limits, proofs, checks}
-use Rattle.command_words.specs.Words.{Command, Usage, Print, File, Ring, Decide, Recheck, work_on}
+use Rattle.command_words.specs.Words.{Command, Usage, Print, File, Ring, Decide, work_on}
 use Rattle.command_words.specs.Words.{usual_limit, only_file, only_number, only_limit, only_proofs}
-use Rattle.command_words.specs.Words.{two_files, at_most_once, check_of, gen_of, recheck_of}
-use Rattle.command_words.specs.Words.{command_by, HasLimits, HasRing}
+use Rattle.command_words.specs.Words.{two_files, file_and_specs, at_most_once, check_of, gen_of}
+use Rattle.command_words.specs.Words.{recheck_of, recheck_work, delay_of, delay_work, command_by}
+use Rattle.command_words.specs.Words.{HasLimits, HasRing, replay_of, replay_work}
 use Rattle.command_words.proofs.Numbers.{number_is_decimal}
 
 abbrev InRange : ℕ → Type 0
@@ -47,12 +48,13 @@ of_check (Some from) (Some most) name told = go (name from)
     go None = tt
     go (Some saved) = (tt, told.0, told.1)
 
-of_recheck : (names : Option (List ℕ × List ℕ)) (limit : Option ℕ) → IfSome limit InRange
-    → IfSome (option_and_then (λ both. option_map
-    (λ most. work_on (File both.0) most (Recheck both.1)) limit) names) HasLimits
-of_recheck None limit told = tt
-of_recheck (Some both) None told = tt
-of_recheck (Some both) (Some most) told = (tt, told.0, told.1)
+of_limited : {A : Type 0} (make : A → ℕ → Command)
+    → ((one : A) (limit : ℕ) → InRange limit → HasLimits (make one limit))
+    → (asked : Option A) (limit : Option ℕ) → IfSome limit InRange
+    → IfSome (option_and_then (λ one. option_map (make one) limit) asked) HasLimits
+of_limited make made None limit told = tt
+of_limited make made (Some one) None told = tt
+of_limited make made (Some one) (Some most) told = made one most told
 
 of_words : (words : List (List ℕ)) → IfSome (only_number words) HasRing
 of_words [] = tt
@@ -87,10 +89,21 @@ check_limits =
     of_parts check_of (λ parts. of_check (only_file (operands parts)) (only_limit (limits parts))
     (λ model. only_proofs model (proofs parts)) (of_limit (limits parts))) check_form
 
-pub recheck_limits : (words : List (List ℕ)) → HasLimits (command_by recheck_form recheck_of words)
+pub recheck_limits : (words : List (List ℕ)) → HasLimits (command_by limit_form recheck_of words)
 recheck_limits =
-    of_parts recheck_of (λ parts. of_recheck (two_files (operands parts))
-    (only_limit (limits parts)) (of_limit (limits parts))) recheck_form
+    of_parts recheck_of (λ parts. of_limited recheck_work (λ names limit told. (tt, told.0, told.1))
+    (two_files (operands parts)) (only_limit (limits parts)) (of_limit (limits parts))) limit_form
+
+pub replay_limits : (words : List (List ℕ)) → HasLimits (command_by limit_form replay_of words)
+replay_limits =
+    of_parts replay_of (λ parts. of_limited replay_work (λ names limit told. (tt, told.0, told.1))
+    (two_files (operands parts)) (only_limit (limits parts)) (of_limit (limits parts))) limit_form
+
+pub delay_limits : (words : List (List ℕ)) → HasLimits (command_by limit_form delay_of words)
+delay_limits =
+    of_parts delay_of (λ parts. of_limited delay_work (λ asked limit told. (tt, told.0, told.1))
+    (file_and_specs (operands parts)) (only_limit (limits parts)) (of_limit (limits parts)))
+    limit_form
 
 pub gen_limits : (words : List (List ℕ)) → HasLimits (command_by gen_form gen_of words)
 gen_limits =

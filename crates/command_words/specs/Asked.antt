@@ -7,7 +7,7 @@ use Rattle.command_words.specs.declared.command.Work.{Work}
 use Rattle.command_words.specs.declared.command.Source.{Source}
 use Rattle.command_words.specs.declared.command.Source.TheVariants.{File, Ring}
 use Rattle.command_words.specs.declared.command.Job.{Job}
-use Rattle.command_words.specs.declared.command.Job.TheVariants.{Decide, Recheck}
+use Rattle.command_words.specs.declared.command.Job.TheVariants.{Decide, Recheck, Delay, Replay}
 
 abbrev pub source_asked : Source → words.Source
 source_asked (File name) = words.File name.now
@@ -16,6 +16,8 @@ source_asked (Ring n) = words.Ring n
 abbrev pub job_asked : Job → words.Job
 job_asked (Decide name) = words.Decide (option_map (λ s. s.now) name)
 job_asked (Recheck name) = words.Recheck name.now
+job_asked (Delay from to) = words.Delay from to
+job_asked (Replay name) = words.Replay name.now
 
 abbrev pub work_asked : Work → words.Work
 work_asked work = record { source = source_asked work.source; limit = work.limit; job = job_asked work.job }

@@ -5,9 +5,10 @@ use Rattle.std.specs.Option.{option_map, option_and_then}
 use Rattle.clap.specs.Words.{App, Rule, new_app, new_rule, with_rule}
 use Rattle.clap.specs.Simple.{on_top}
 use Rattle.clap.specs.declared.builder.action.ArgAction.TheVariants.{Set, SetTrue}
-use Rattle.command_words.specs.Words.{Command, Print, File, Ring, Decide, Recheck, work_on}
-use Rattle.command_words.specs.Words.{usual_limit, only_file, two_files, only_number, only_limit}
-use Rattle.command_words.specs.Words.{only_proofs}
+use Rattle.command_words.specs.Words.{Command, Print, File, Ring, Decide, work_on, usual_limit}
+use Rattle.command_words.specs.Words.{only_file, two_files, file_and_specs, only_number}
+use Rattle.command_words.specs.Words.{only_limit, only_proofs, limited_lists, recheck_work}
+use Rattle.command_words.specs.Words.{delay_work, replay_work}
 
 -- an operand of this name
 abbrev pub operand_rule : List ℕ → Rule
@@ -32,10 +33,19 @@ check_app =
     (option_rule (codes "nodes")))
     (option_rule (codes "proof"))
 
-abbrev pub recheck_app : App
-recheck_app =
-    with_rule (with_rule (with_rule (bare_app (codes "recheck")) (operand_rule (codes "model")))
-    (operand_rule (codes "proof")))
+-- the command of this name, with two files
+abbrev pub files_app : (name : List ℕ) → App
+files_app name =
+    with_rule (with_rule (with_rule (bare_app name) (operand_rule (codes "model")))
+    (operand_rule (codes "file")))
+    (option_rule (codes "nodes"))
+
+abbrev pub delay_app : App
+delay_app =
+    with_rule (with_rule (with_rule (with_rule (bare_app (codes "delay"))
+    (operand_rule (codes "model")))
+    (operand_rule (codes "from")))
+    (operand_rule (codes "to")))
     (option_rule (codes "nodes"))
 
 abbrev pub gen_app : App
@@ -70,23 +80,37 @@ check_with values =
     check_lists (list_of (values (codes "model"))) (list_of (values (codes "nodes")))
     (list_of (values (codes "proof")))
 
--- the command `recheck` with these operands, and values of `--nodes`
-abbrev pub recheck_lists : (files limits : List (List ℕ)) → Option Command
-recheck_lists files limits =
-    option_and_then (λ names. option_map (λ limit.
-    work_on (File names.0) limit (Recheck names.1))
-    (only_limit limits))
-    (two_files files)
+-- a word, where it is given, and those behind it
+abbrev pub with_words : Option (List ℕ) → List (List ℕ) → List (List ℕ)
+with_words None words = []
+with_words (Some word) words = word ∷ words
 
--- two operands, of which the second stands behind the first
-abbrev pub both_of : Option (List ℕ) → Option (List ℕ) → List (List ℕ)
-both_of None second = []
-both_of (Some first) second = first ∷ list_of second
+-- the words that are given for the operands of these names
+abbrev pub operands_with : (names : List (List ℕ)) → Values → List (List ℕ)
+operands_with [] values = []
+operands_with (name ∷ names) values = with_words (values name) (operands_with names values)
+
+-- a command with operands of these names, which are read so, and with `--nodes`
+abbrev pub limited_with : {A : Type 0} → (names : List (List ℕ)) → (List (List ℕ) → Option A)
+    → (A → ℕ → Command) → Values → Option Command
+limited_with names read make values =
+    limited_lists read make (operands_with names values) (list_of (values (codes "nodes")))
+
+-- the operands of `recheck` and of `replay`, and those of `delay`
+abbrev pub file_names : List (List ℕ)
+file_names = codes "model" ∷ codes "file" ∷ []
+
+abbrev pub delay_names : List (List ℕ)
+delay_names = codes "model" ∷ codes "from" ∷ codes "to" ∷ []
 
 abbrev pub recheck_with : Values → Option Command
-recheck_with values =
-    recheck_lists (both_of (values (codes "model")) (values (codes "proof")))
-    (list_of (values (codes "nodes")))
+recheck_with = limited_with file_names two_files recheck_work
+
+abbrev pub replay_with : Values → Option Command
+replay_with = limited_with file_names two_files replay_work
+
+abbrev pub delay_with : Values → Option Command
+delay_with = limited_with delay_names file_and_specs delay_work
 
 -- the command `gen` with this operand, where `--check` stands or not
 abbrev pub gen_with : Values → Bool → Option Command

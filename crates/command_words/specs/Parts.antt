@@ -37,9 +37,9 @@ abbrev pub check_form : List ℕ → Form
 check_form word =
     option_or (codes "--nodes") Nodes (option_or (codes "--proof") Proof Unknown word) word
 
--- The options of `recheck`: `--nodes N` and `--nodes=N`.
-abbrev pub recheck_form : List ℕ → Form
-recheck_form word = option_or (codes "--nodes") Nodes Unknown word
+-- The options of `recheck`, `delay` and `replay`: `--nodes N` and `--nodes=N`.
+abbrev pub limit_form : List ℕ → Form
+limit_form word = option_or (codes "--nodes") Nodes Unknown word
 
 -- The options of `gen`: `--check`.
 abbrev pub gen_form : List ℕ → Form

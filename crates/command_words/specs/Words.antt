@@ -3,7 +3,7 @@ use Rattle.std.specs.Prelude.{ℕ, zero, suc, ◌<◌, ◌≤◌, ◌^◌, Bool,
 use Rattle.std.specs.Prelude.{Option, Some, None, if◌then◌else◌, bytes_eq, codes, unwrap_or}
 use Rattle.std.specs.Option.{option_map, option_and_then}
 use Rattle.command_words.specs.Number.{number_of}
-use Rattle.command_words.specs.Parts.{Part, Form, check_form, gen_form, recheck_form, parts_of}
+use Rattle.command_words.specs.Parts.{Part, Form, check_form, gen_form, limit_form, parts_of}
 use Rattle.command_words.specs.Parts.{operands, limits, proofs, checks}
 
 -- where a model comes from
@@ -19,6 +19,11 @@ pub data Job : Type 0 where
   Decide : (proofs : Option (List ℕ)) → Job
   -- test the blocks of the proof file of this name
   Recheck : (proofs : List ℕ) → Job
+  -- find the delays from the states of one specification to those of another, which are told by
+  -- their numbers, counted from 1
+  Delay : (from to : ℕ) → Job
+  -- judge the trace file of this name
+  Replay : (trace : List ℕ) → Job
 
 pub record Work : Type 0 where
   pub source : Source
@@ -46,10 +51,29 @@ abbrev pub only_file : List (List ℕ) → Option (List ℕ)
 only_file ((byte ∷ name) ∷ []) = Some (byte ∷ name)
 only_file names = None
 
--- the two operands, which name a model's file and a proof file
+-- the two operands, which name a model's file and a second one
 abbrev pub two_files : List (List ℕ) → Option (List ℕ × List ℕ)
-two_files ((byte ∷ model) ∷ (first ∷ proof) ∷ []) = Some (byte ∷ model, first ∷ proof)
+two_files ((byte ∷ model) ∷ (first ∷ second) ∷ []) = Some (byte ∷ model, first ∷ second)
 two_files names = None
+
+-- the number of a specification, as the word writes it
+abbrev pub spec_number : List ℕ → Option ℕ
+spec_number = number_of 256
+
+-- a file and the numbers of two specifications
+pub record FileAndSpecs : Type 0 where
+  pub file : List ℕ
+  pub from : ℕ
+  pub to : ℕ
+
+-- the three operands, which name a model's file and two of its specifications by their numbers
+abbrev pub file_and_specs : List (List ℕ) → Option FileAndSpecs
+file_and_specs ((byte ∷ model) ∷ from ∷ to ∷ []) =
+    option_and_then (λ i. option_map (λ j.
+    record { file = byte ∷ model; from = i; to = j })
+    (spec_number to))
+    (spec_number from)
+file_and_specs words = None
 
 -- the one operand, which is a number of processes
 abbrev pub only_number : List (List ℕ) → Option ℕ
@@ -85,13 +109,37 @@ check_of parts =
     (only_limit (limits parts)))
     (only_file (operands parts))
 
+-- what is asked by operands and the values of `--nodes`
+abbrev pub limited_lists : {A : Type 0} → (List (List ℕ) → Option A) → (A → ℕ → Command)
+    → (words limits : List (List ℕ)) → Option Command
+limited_lists read make words limits =
+    option_and_then (λ asked. option_map (make asked) (only_limit limits)) (read words)
+
+-- a command whose operands are read so, and whose one option is `--nodes N`
+abbrev pub limited_of : {A : Type 0} → (List (List ℕ) → Option A) → (A → ℕ → Command) → List Part
+    → Option Command
+limited_of read make parts = limited_lists read make (operands parts) (limits parts)
+
+abbrev pub recheck_work : List ℕ × List ℕ → ℕ → Command
+recheck_work names limit = work_on (File names.0) limit (Recheck names.1)
+
 -- `recheck MODEL PROOF [--nodes N]`
 abbrev pub recheck_of : List Part → Option Command
-recheck_of parts =
-    option_and_then (λ names. option_map (λ limit.
-    work_on (File names.0) limit (Recheck names.1))
-    (only_limit (limits parts)))
-    (two_files (operands parts))
+recheck_of = limited_of two_files recheck_work
+
+abbrev pub replay_work : List ℕ × List ℕ → ℕ → Command
+replay_work names limit = work_on (File names.0) limit (Replay names.1)
+
+-- `replay MODEL TRACE [--nodes N]`
+abbrev pub replay_of : List Part → Option Command
+replay_of = limited_of two_files replay_work
+
+abbrev pub delay_work : FileAndSpecs → ℕ → Command
+delay_work asked limit = work_on (File asked.file) limit (Delay asked.from asked.to)
+
+-- `delay MODEL FROM TO [--nodes N]`
+abbrev pub delay_of : List Part → Option Command
+delay_of = limited_of file_and_specs delay_work
 
 -- `gen N [--check]`
 abbrev pub gen_of : List Part → Option Command
@@ -111,7 +159,9 @@ command_of [] = Usage
 command_of (word ∷ words) =
     if bytes_eq word (codes "check") then command_by check_form check_of words
     else if bytes_eq word (codes "gen") then command_by gen_form gen_of words
-    else if bytes_eq word (codes "recheck") then command_by recheck_form recheck_of words
+    else if bytes_eq word (codes "recheck") then command_by limit_form recheck_of words
+    else if bytes_eq word (codes "delay") then command_by limit_form delay_of words
+    else if bytes_eq word (codes "replay") then command_by limit_form replay_of words
     else Usage
 
 -- there is a ring of n processes

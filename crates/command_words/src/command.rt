@@ -4,7 +4,9 @@ ghost use Rattle.command_words.specs.Words.{HasLimits, command_of};
 ghost use Rattle.command_words.specs.Asked.{asked};
 
 use crate::check::read_check;
+use crate::delay::read_delay;
 use crate::recheck::read_recheck;
+use crate::replay::read_replay;
 use crate::ring::read_gen;
 use std::alloc::{AllocError, Global};
 
@@ -43,6 +45,11 @@ pub enum Job<'a> {
     Decide { proofs: Option<&'a str> },
     /// Test the blocks of the proof file of this name.
     Recheck { proofs: &'a str },
+    /// Find the shortest and the longest delay from the states of specification `from` to those of specification `to`,
+    /// both counted from 1.
+    Delay { from: u32, to: u32 },
+    /// Judge the trace file of this name.
+    Replay { trace: &'a str },
 }
 
 /// The command that the words after the program's name are.
@@ -50,13 +57,16 @@ pub enum Job<'a> {
 /// - `check MODEL [--nodes N] [--proof FILE]`, with N from 1 to 2,147,483,647, and 1,000,000 where
 ///   no limit is asked for; FILE is another name than MODEL
 /// - `recheck MODEL PROOF [--nodes N]`, with N as for `check`
+/// - `delay MODEL FROM TO [--nodes N]`, with FROM and TO from 1 to 256, and N as for `check`
+/// - `replay MODEL TRACE [--nodes N]`, with N as for `check`
 /// - `gen N [--check]`, with N from 1 to 999
 ///
 /// Options and operands mix freely, `--nodes=N` is the same as `--nodes N`, and behind a word `--`
 /// each word is an operand. No file's name is empty. All other words are `Usage`. An `Err` comes
 /// for want of memory alone.
 pub fn read_words(alloc: Global, words: &[String]) -> Result<Command<'_>, AllocError>
-    ensures command { IfOk result (λ command. asked command ≡ command_of (map string_bytes words.now)) }
+    ensures command { IfOk result
+        (λ command. asked command ≡ command_of (map string_bytes words.now)) }
     ensures limits { IfOk result (λ command. HasLimits (asked command)) }
 {
     let [word, rest @ ..] = words else {
@@ -66,6 +76,8 @@ pub fn read_words(alloc: Global, words: &[String]) -> Result<Command<'_>, AllocE
         "check" => read_check(alloc, rest),
         "gen" => read_gen(alloc, rest),
         "recheck" => read_recheck(alloc, rest),
+        "delay" => read_delay(alloc, rest),
+        "replay" => read_replay(alloc, rest),
         _ => Ok(Command::Usage),
     }
 }

@@ -3,8 +3,9 @@ ghost use Rattle.std.specs.Prelude.{◌≡◌, ◌≢◌, [], IfOk, MatchOption,
 ghost use Rattle.std.specs.Prelude.{string_bytes};
 ghost use Rattle.clap.specs.Words.{app_of, fault_of, first_value, found_of, is_simple_and_free};
 ghost use Rattle.clap.specs.Words.{matches_of, rows_of, rule_of};
-ghost use Rattle.command_words.specs.Words.{only_file};
-ghost use Rattle.command_words.specs.Given.{bare_app, flag_rule, limit_with, list_of};
+ghost use Rattle.std.specs.Option.{option_and_then};
+ghost use Rattle.command_words.specs.Words.{only_file, spec_number};
+ghost use Rattle.command_words.specs.Given.{bare_app, files_app, flag_rule, limit_with, list_of};
 ghost use Rattle.command_words.specs.Given.{operand_rule, option_rule};
 
 use crate::number::read_number;
@@ -15,6 +16,9 @@ use std::alloc::{AllocError, Global};
 pub(crate) const USUAL_LIMIT: u32 = 1_000_000;
 
 const GREATEST_LIMIT: u32 = 2_147_483_647;
+
+// As many specifications as a model has at most.
+const MOST_SPECS: u32 = 256;
 
 // What is given to this command. None where its words are refused.
 pub(crate) fn given<'a>(
@@ -68,6 +72,19 @@ pub(crate) fn flag<'a>(alloc: Global, name: &'a str) -> Arg<'a>
     Arg::new(alloc, name).long(name).action(ArgAction::SetTrue)
 }
 
+// The command of this name, with the names of two files and a limit.
+pub(crate) fn files_command<'a>(
+    alloc: Global,
+    name: &'a str,
+) -> Result<clap::Command<'a>, AllocError>
+    ensures { IfOk result (λ command. app_of command ≡ files_app name.now) }
+{
+    bare_command(alloc, name)
+        .arg(operand(alloc, "model"))?
+        .arg(operand(alloc, "file"))?
+        .arg(option(alloc, "nodes"))
+}
+
 // The name of a file that this argument gives, which is not empty.
 pub(crate) fn given_file<'a>(matches: &ArgMatches<'a>, argument: &str) -> Option<&'a str>
     ensures { option_map (λ name. name.now) result
@@ -76,6 +93,17 @@ pub(crate) fn given_file<'a>(matches: &ArgMatches<'a>, argument: &str) -> Option
     match matches.get_str(argument) {
         Some(name) if !name.is_empty() => Some(name),
         _ => None,
+    }
+}
+
+// The number of a specification that this argument gives. None where its word is no such number.
+pub(crate) fn given_spec(matches: &ArgMatches<'_>, argument: &str) -> Option<u32>
+    ensures { result
+        ≡ option_and_then spec_number (first_value (found_of matches.now) argument.now) }
+{
+    match matches.get_str(argument) {
+        Some(word) => read_number(word, MOST_SPECS),
+        None => None,
     }
 }
 

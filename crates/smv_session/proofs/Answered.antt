@@ -6,7 +6,8 @@ use Rattle.std.proofs.lemmas.Bool.{false≢true}
 use Rattle.std.proofs.lemmas.List.Elements.{All-nil, All-cons}
 use Rattle.bdd_nodes.specs.declared.refusal.Held.{Held}
 use Rattle.command_words.specs.Words as words
-use Rattle.command_words.specs.Words.{Command, Source, File, Ring, Work, Job, Decide, Recheck, Print, Do}
+use Rattle.command_words.specs.Words.{Command, Source, File, Ring, Work, Job, Decide, Recheck, Delay, Replay, Print, Do}
+use Rattle.delay_answers.specs.Delayed.{Delayed, LeavesDelays}
 use Rattle.kripke_model.specs.System.{System}
 use Rattle.smv_outside.specs.Contents.{Contents}
 use Rattle.smv_rings.specs.Rings.{ring_text}
@@ -26,7 +27,10 @@ use Rattle.smv_texts.specs.declared.ending.Ending.TheVariants as endings
 use Rattle.smv_texts.specs.declared.status.Status.TheVariants.{Undecided, ModelRefused, OutsideFault, Usage, Memory, ProofRefused}
 use Rattle.spec_verdicts.specs.Checked.{EndsWith}
 use Rattle.proof_answers.specs.Answers.{Answer}
-use Rattle.proof_answers.specs.Rechecked.{EndsAnswers, Rechecked}
+use Rattle.proof_answers.specs.Rechecked.{EndsAnswers, LeavesUnanswered, Rechecked}
+use Rattle.trace_answers.specs.Replayed.{Replayed, ends_judged}
+use Rattle.trace_check.specs.declared.judged.Judged.{Judged}
+use Rattle.trace_check.specs.declared.judged.Judged.TheVariants as judgements
 
 -- ---- endings and statuses
 
@@ -100,9 +104,17 @@ one_held m limit held full one is = record {
   some = let count = ap length one in omega (arith, count);
 }
 
+left_end : (m : System) (limit from to : ℕ) (r : Reply) → LeavesDelays m limit from to r → IsWorkEnding m limit r.ending
+left_end m limit from to r u = subst (IsWorkEnding m limit) (sym u.ends) (one_held m limit u.held u.full u.one u.of_limit.0)
+
+unanswered_end : (m : System) (limit : ℕ) (r : Reply) → LeavesUnanswered m limit r → IsWorkEnding m limit r.ending
+unanswered_end m limit r u = subst (IsWorkEnding m limit) (sym u.ends) (one_held m limit u.held u.full u.one u.of_limit.0)
+
 undecides_end : (job : Job) (m : System) (limit : ℕ) (r : Reply) → Undecides job m limit r → IsWorkEnding m limit r.ending
 undecides_end (Decide proofs) m limit r u = subst (IsWorkEnding m limit) (sym u.ends) (one_held m limit u.held u.full u.one u.of_limit.0)
-undecides_end (Recheck proofs) m limit r u = subst (IsWorkEnding m limit) (sym u.ends) (one_held m limit u.held u.full u.one u.of_limit.0)
+undecides_end (Recheck proofs) m limit r u = unanswered_end m limit r u
+undecides_end (Delay from to) m limit r u = left_end m limit from to r u
+undecides_end (Replay trace) m limit r u = unanswered_end m limit r u
 
 checked_end : (m : System) (limit : ℕ) (fs : List Finding) (e : Ending) → EndsWith m limit fs e → IsWorkEnding m limit e
 checked_end m limit fs endings.Clear ends = tt
@@ -127,10 +139,31 @@ rechecked_end : (m : System) (limit : ℕ) (bytes : List ℕ) (r : Reply) → Re
 rechecked_end m limit bytes r (inl refused) = subst (IsWorkEnding m limit) (sym refused.ends) tt
 rechecked_end m limit bytes r (inr answered) = answers_end m limit answered.answers r.ending answered.ends
 
+delayed_end : (m : System) (limit from to : ℕ) (r : Reply) → Delayed m limit from to r → IsWorkEnding m limit r.ending
+delayed_end m limit from to r (inl tells) = subst (IsWorkEnding m limit) (sym tells.ends) tt
+delayed_end m limit from to r (inr left) = left_end m limit from to r left
+
+judged_end : (m : System) (limit : ℕ) (judged : Judged) → IsWorkEnding m limit (ends_judged judged)
+judged_end m limit judgements.Shape = tt
+judged_end m limit judgements.Initial = tt
+judged_end m limit (judgements.Step n) = tt
+judged_end m limit (judgements.Unfair k) = tt
+judged_end m limit judgements.Property = tt
+judged_end m limit judgements.Accepted = tt
+
+replayed_end : (m : System) (limit : ℕ) (bytes : List ℕ) (r : Reply) → Replayed m limit bytes r → IsWorkEnding m limit r.ending
+replayed_end m limit bytes r (inl refused) = subst (IsWorkEnding m limit) (sym refused.ends) tt
+replayed_end m limit bytes r (inr (inl found)) = subst (IsWorkEnding m limit) (sym found.ends) (judged_end m limit found.judged)
+replayed_end m limit bytes r (inr (inr left)) =
+    subst (IsWorkEnding m limit) (sym left.ends) (one_held m limit left.held left.full left.one left.of_limit.0)
+
 does_end : (job : Job) (m : System) (limit : ℕ) (second : Option (List ℕ)) (r : Reply) → Does job m limit second r → IsWorkEnding m limit r.ending
 does_end (Decide proofs) m limit second r does = checked_end m limit does.findings r.ending does.ends
 does_end (Recheck proofs) m limit None r does = absurd does
 does_end (Recheck proofs) m limit (Some bytes) r does = rechecked_end m limit bytes r does
+does_end (Delay from to) m limit second r does = delayed_end m limit from to r does
+does_end (Replay trace) m limit None r does = absurd does
+does_end (Replay trace) m limit (Some bytes) r does = replayed_end m limit bytes r does
 
 work_end : (w : Work) (contents : Option Contents) (m : System) (r : Reply) → Takes w contents m r → IsWorkEnding m w.limit r.ending
 work_end w contents m r (inl undecided) = undecides_end w.job m w.limit r undecided
@@ -220,7 +253,7 @@ module _ (one : OneAnswer) (w : Work) (contents : Option Contents) (bytes : List
   pub refused_always : (refusal : Refusal) → Refuses w.job bytes refusal → is_fault refusal ≡ false → (r.ending ≡ endings.ModelRefused) × (text_of r ≡ refusal_line refusal)
   refused_always refusal applies other = elim answer [
     | inl line ↦ (line.ends, line.text ∙ ap refusal_line (one.refusal w.job bytes line.refusal refusal line.applies applies))
-    | inr taken ↦ absurd (false≢true (sym other ∙ one.model_or_refusal w.job bytes taken.model refusal taken.has applies))
+    | inr taken ↦ absurd (false≢true (sym other ∙ one.model_or_refusal w.job bytes taken.model refusal taken.has taken.names applies))
   ]
 
   -- a fault is told, or the model is left undecided

@@ -2,6 +2,7 @@
 use Rattle.std.proofs.Common.{◌≡◌, ℕ, ◌+◌, ◌*◌, ◌^◌, ◌≤◌, Some, arith}
 use Rattle.std.proofs.lemmas.Nat.{mul-le}
 use Rattle.bit_encode.specs.Code.{state_bits}
+use Rattle.fair_fixpoint.specs.SatSets.{pin_bound}
 use Rattle.fair_rules.specs.FreePart.{constraint_nodes}
 use Rattle.kripke_model.specs.Ctl.{Ctl}
 use Rattle.kripke_model.specs.Flat.{node_total}
@@ -27,3 +28,25 @@ pub trial_fits : (m : System) (j : ℕ) (f : Ctl) → spec_formula m j ≡ Some 
 trial_fits m j f is few =
     fits (node_total m) (node_count f + constraint_nodes m) (constraint_count m) (state_count m)
     (2 ^ state_bits m) (nodes_fit m j f is) few
+
+delays_room : (s k states p : ℕ) → states ≤ p → 6 * states + 32 ≤ 12 * (s + 2) * (k + 2) * p + 64
+delays_room s k states p few =
+    let width : 1 * states ≤ (k + 2) * p = mul-le 1 states (k + 2) p (omega arith) few in
+    let all : 1 * (1 * states) ≤ (s + 2) * ((k + 2) * p) =
+    mul-le 1 (1 * states) (s + 2) ((k + 2) * p) (omega arith) width in
+    omega (arith, all)
+
+-- how much the judgement of a trace does
+pub judging_fits : (m : System) (j : ℕ) (f : Ctl) → spec_formula m j ≡ Some f
+    → state_count m ≤ 2 ^ state_bits m
+    → pin_bound m (constraint_nodes m) (state_count m) ≤ room m
+judging_fits m j f is few =
+    let nodes = nodes_fit m j f is in
+    let twice = fits (node_total m) (constraint_nodes m) (constraint_count m) (state_count m)
+    (2 ^ state_bits m) (omega (arith, nodes)) few in
+    omega (arith, twice)
+
+-- and how much the search for delays does
+pub delays_fit : (m : System) → state_count m ≤ 2 ^ state_bits m → 6 * state_count m + 32 ≤ room m
+delays_fit m few =
+    delays_room (node_total m) (constraint_count m) (state_count m) (2 ^ state_bits m) few

@@ -1,10 +1,11 @@
 -- What is promised of the jobs over a model.
 use Rattle.std.proofs.Common.{◌≡◌, ◌⊎◌, ◌<◌, ◌≤◌, inl, inr, ℕ, List, [], ◌∷◌, length, replicate}
-use Rattle.std.proofs.Common.{Option, Some, None, refl, sym, subst, arith}
+use Rattle.std.proofs.Common.{Option, Some, None, refl, sym, ap, subst, arith, ◌∙◌}
 use Rattle.std.specs.Prelude.{All, IfSome, count_by}
 use Rattle.std.proofs.lemmas.List.Elements.{All-head}
 use Rattle.bdd_nodes.specs.declared.refusal.Held.{Held}
-use Rattle.command_words.specs.Words.{Job, Work, Decide, Recheck}
+use Rattle.command_words.specs.Words.{Job, Work, Decide, Recheck, Delay, Replay}
+use Rattle.delay_answers.specs.Delayed.{Delayed, LeavesDelays}
 use Rattle.kripke_model.specs.Faults.{IsFaultless}
 use Rattle.kripke_model.specs.System.{System, Condition}
 use Rattle.proof_answers.proofs.Accepting.{all_accepted}
@@ -19,10 +20,12 @@ use Rattle.smv_outside.specs.Contents.{Contents, bytes_under}
 use Rattle.smv_session.specs.Answers.{Takes}
 use Rattle.smv_session.specs.Commands.{AreFoundIn, DecidesAll, ExportsProofs, IsOfVerdicts}
 use Rattle.smv_session.specs.Commands.{IsRechecked, RechecksProofs, ReportsVerdicts, ShowsStates}
-use Rattle.smv_session.specs.Commands.{AcceptsProved, TellsOfProofs}
-use Rattle.smv_session.specs.Jobs.{Does, IsSecond, Undecides}
+use Rattle.smv_session.specs.Commands.{AcceptsProved, FindsDelays, IsDelayed, IsJudged}
+use Rattle.smv_session.specs.Commands.{IsReplayed, ReplaysTraces, TellsOfProofs}
+use Rattle.smv_session.specs.Jobs.{Does, IsLoaded, IsSecond, Undecides}
+use Rattle.trace_answers.specs.Replayed.{Replayed}
 use Rattle.smv_session.specs.Session.{Leaves, Puts, RefusesModels, Session, Shows, TakesModels}
-use Rattle.smv_session.proofs.Tried.{names_any}
+use Rattle.smv_session.proofs.Tried.{names_none}
 use Rattle.smv_texts.specs.Replies.{Reply, text_of}
 use Rattle.smv_texts.specs.Report.{Finding, Unknown, is_unknown, report}
 use Rattle.smv_texts.specs.Statuses.{status_of}
@@ -173,7 +176,7 @@ all_of s w m r proofs is le (inr done) shows =
 pub decides_all : (s : Session) → RefusesModels s → TakesModels s → DecidesAll s
 decides_all s refuses takes = record {
   decides = λ quiet w bytes m proofs asks is accepted le.
-      let other = refuses.never quiet w bytes m asks accepted (names_any w m) in
+      let other = refuses.never quiet w bytes m asks accepted (names_none w.job (Decide proofs) m is refl) in
       let taken = takes.takes quiet w bytes m asks accepted.has other in
       all_of s w m taken.0 proofs is le taken.1 taken.2;
 }
@@ -209,7 +212,108 @@ pub accepts_proved : (s : Session) → RefusesModels s → TakesModels s → Acc
 unfolding AcceptsText
 accepts_proved s refuses takes = record {
   accepts = λ quiet w bytes m proofs asks is accepted le.
-      let other = refuses.never quiet w bytes m asks accepted (names_any w m) in
+      let other = refuses.never quiet w bytes m asks accepted (names_none w.job (Recheck proofs) m is refl) in
       let taken = takes.takes quiet w bytes m asks accepted.has other in
       accepted_of s w m taken.0 proofs is le taken.1 taken.2;
+}
+
+-- ---- delay
+
+delayed_of : (s : Session) (m : System) (limit from to : ℕ) (r : Reply) → IsFaultless m → Shows s r
+    → Delayed m limit from to r
+    → ((r : Reply) × LeavesDelays m limit from to r × Shows s r) ⊎ IsDelayed s m from to
+delayed_of s m limit from to r faultless shows (inl tells) = inr (record {
+  faultless = faultless;
+  shortest = tells.shortest;
+  longest = tells.longest;
+  are = tells.are;
+  status = shows.status ∙ ap status_of tells.ends;
+  puts = subst (Puts s) tells.text shows.text;
+})
+delayed_of s m limit from to r faultless shows (inr left) = inl (r, left, shows)
+
+delays_of : (s : Session) (w : Work) (m : System) (from to : ℕ) (r : Reply)
+    → w.job ≡ Delay from to → Takes w s.contents m r → Shows s r
+    → ((r : Reply) × LeavesDelays m w.limit from to r × Shows s r) ⊎ IsDelayed s m from to
+delays_of s w m from to r is (inl u) shows =
+    inl (r, subst (λ (job : Job). Undecides job m w.limit r) is u, shows)
+delays_of s w m from to r is (inr done) shows =
+    delayed_of s m w.limit from to r done.faultless shows
+    (subst (λ (job : Job). Does job m w.limit done.second r) is done.does)
+
+pub finds_delays : (s : Session) → RefusesModels s → TakesModels s → FindsDelays s
+finds_delays s refuses takes = record {
+  finds = λ quiet w bytes m from to asks is has other.
+      let taken = takes.takes quiet w bytes m asks has other in
+      delays_of s w m from to taken.0 is taken.1 taken.2;
+  always = λ quiet w bytes m from to asks is accepted names le.
+      let other = refuses.never quiet w bytes m asks accepted names in
+      let taken = takes.takes quiet w bytes m asks accepted.has other in
+      elim (delays_of s w m from to taken.0 is taken.1 taken.2) [
+        | inl left ↦ (let below = left.1.of_limit.1 in absurd (omega (arith, le, below)))
+        | inr told ↦ told
+      ];
+}
+
+-- ---- replay
+
+replayed_of : (s : Session) (m : System) (limit : ℕ) (trace : List ℕ) (r : Reply)
+    (second : Option (List ℕ)) → IsFaultless m → Shows s r → IsLoaded trace s.contents second
+    → Does (Replay trace) m limit second r → IsReplayed s m limit trace
+replayed_of s m limit trace r None faultless shows there does = absurd does
+replayed_of s m limit trace r (Some bytes) faultless shows there does = record {
+  faultless = faultless;
+  bytes = bytes;
+  there = there;
+  reply = r;
+  replayed = does;
+  shows = shows;
+}
+
+traces_of : (s : Session) (w : Work) (m : System) (trace : List ℕ) (r : Reply)
+    → w.job ≡ Replay trace → Takes w s.contents m r → Shows s r
+    → ((r : Reply) × LeavesUnanswered m w.limit r × Shows s r) ⊎ IsReplayed s m w.limit trace
+traces_of s w m trace r is (inl u) shows =
+    inl (r, subst (λ (job : Job). Undecides job m w.limit r) is u, shows)
+traces_of s w m trace r is (inr done) shows =
+    inr (replayed_of s m w.limit trace r done.second done.faultless shows
+    (subst (λ (job : Job). IsSecond job s.contents done.second) is done.loaded)
+    (subst (λ (job : Job). Does job m w.limit done.second r) is done.does))
+
+-- where the limit is enough it is judged
+judged_of : (s : Session) (m : System) (limit : ℕ) (trace : List ℕ) → enough m ≤ limit
+    → IsReplayed s m limit trace → IsJudged s m trace
+judged_of s m limit trace le told = elim told.replayed [
+  | inl refused ↦ record {
+    bytes = told.bytes;
+    there = told.there;
+    reply = told.reply;
+    judged = inl refused;
+    shows = told.shows;
+  }
+  | inr rest ↦ elim rest [
+    | inl found ↦ record {
+      bytes = told.bytes;
+      there = told.there;
+      reply = told.reply;
+      judged = inr found;
+      shows = told.shows;
+    }
+    | inr left ↦ (let below = left.of_limit.1 in absurd (omega (arith, le, below)))
+  ]
+]
+
+pub replays : (s : Session) → RefusesModels s → TakesModels s → ReplaysTraces s
+replays s refuses takes = record {
+  replays = λ quiet w bytes m trace asks is has other.
+      let taken = takes.takes quiet w bytes m asks has other in
+      traces_of s w m trace taken.0 is taken.1 taken.2;
+  always = λ quiet w bytes m trace asks is accepted le.
+      let other = refuses.never quiet w bytes m asks accepted
+      (names_none w.job (Replay trace) m is refl) in
+      let taken = takes.takes quiet w bytes m asks accepted.has other in
+      elim (traces_of s w m trace taken.0 is taken.1 taken.2) [
+        | inl left ↦ (let below = left.1.of_limit.1 in absurd (omega (arith, le, below)))
+        | inr told ↦ judged_of s m w.limit trace le told
+      ];
 }

@@ -12,9 +12,7 @@ use Rattle.smv_outside.specs.declared.faults.LoadFault.{LoadFault}
 use Rattle.smv_outside.specs.declared.faults.LoadFault.TheVariants.{Failed, NotThere, TooLong, Memory}
 use Rattle.smv_session.specs.Answers.{IsModelReply, IsSourceName, Reads}
 use Rattle.smv_rings.specs.Rings.{ring_text}
-use Rattle.kripke_model.specs.System.{System}
-use Rattle.proof_text.specs.Spells.{most_bytes}
-use Rattle.smv_session.specs.Foreseen.{Foresees, ForeseesProofs, ForeseesText, IsAnswer, IsForeseenAs, RefusesLongProofs}
+use Rattle.smv_session.specs.Foreseen.{Foresees, ForeseesSecond, ForeseesText, IsAnswer, IsForeseenAs, RefusesLong, most_second_bytes}
 use Rattle.smv_session.specs.Refuses.{Refuses}
 use Rattle.smv_session.specs.declared.session.Foreseen.{Foreseen}
 use Rattle.smv_session.specs.declared.session.Foreseen.TheVariants as foreseen
@@ -96,21 +94,21 @@ told_fault w name contents before after f NotThere from counts more there lacks 
 told_fault w name contents before after f (TooLong taken) from counts more there lacks told = long_answer w name contents before after taken f from counts (more taken refl) (there taken refl) told
 told_fault w name contents before after f Memory from counts more there lacks told = absurd told
 
--- the same of the load of a proof file
-pub told_proofs : (m : System) (limit : ℕ) (name : List ℕ) (contents : Option Contents) (before after : FileFaults) (f : Foreseen) (fault : LoadFault)
+-- the same of the load of a second file
+pub told_second : (Replies : List ℕ → replies.Reply → Type 0) (name : List ℕ) (contents : Option Contents) (before after : FileFaults) (f : Foreseen) (fault : LoadFault)
     → CountsLoad {T = Vec ℕ} before after (Err fault)
-    → ((taken : ℕ) → fault ≡ TooLong taken → most_bytes < taken)
+    → ((taken : ℕ) → fault ≡ TooLong taken → most_second_bytes < taken)
     → ((taken : ℕ) → fault ≡ TooLong taken → IfSome contents (λ files. IsSomeAnd (bytes_under files name) (λ bytes. taken ≤ length bytes)))
     → (fault ≡ NotThere → IfSome contents (λ files. bytes_under files name ≡ None))
-    → IsForeseenAs RefusesLongProofs fault f → ForeseesProofs m limit contents name before after f
-told_proofs m limit name contents before after f Failed counts more there lacks told = subst (ForeseesProofs m limit contents name before after) (sym told) counts
-told_proofs m limit name contents before after f NotThere counts more there lacks told =
-    subst (ForeseesProofs m limit contents name before after) (sym told) (counts.0, counts.1, lacks refl, counts.2)
-told_proofs m limit name contents before after (foreseen.Reply reply) (TooLong taken) counts more there lacks told =
-    let found = too_long most_bytes name contents taken (more taken refl) (there taken refl) in
-    record { bytes = found.0; there = found.2; answer = told m limit found.0 found.1; quiet = counts }
-told_proofs m limit name contents before after (foreseen.Fault fault) (TooLong taken) counts more there lacks told = absurd told
-told_proofs m limit name contents before after f Memory counts more there lacks told = absurd told
+    → IsForeseenAs (RefusesLong Replies) fault f → ForeseesSecond Replies contents name before after f
+told_second Replies name contents before after f Failed counts more there lacks told = subst (ForeseesSecond Replies contents name before after) (sym told) counts
+told_second Replies name contents before after f NotThere counts more there lacks told =
+    subst (ForeseesSecond Replies contents name before after) (sym told) (counts.0, counts.1, lacks refl, counts.2)
+told_second Replies name contents before after (foreseen.Reply reply) (TooLong taken) counts more there lacks told =
+    let found = too_long most_second_bytes name contents taken (more taken refl) (there taken refl) in
+    record { bytes = found.0; there = found.2; answer = told found.0 found.1; quiet = counts }
+told_second Replies name contents before after (foreseen.Fault fault) (TooLong taken) counts more there lacks told = absurd told
+told_second Replies name contents before after f Memory counts more there lacks told = absurd told
 
 -- ---- replies
 

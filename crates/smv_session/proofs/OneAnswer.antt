@@ -18,9 +18,11 @@ use Rattle.smv_instantiate.specs.Refuses as flattening
 use Rattle.trans_parts.specs.FirstFault.{IsFirstFault}
 use Rattle.smv_session.specs.Source.{line_at, token_line, HasTokens, HasProgram, HasFlat, HasRuled, HasModel, IsAccepted}
 use Rattle.command_words.specs.Words.{Job}
-use Rattle.smv_session.specs.Jobs.{NamesLeaves}
+use Rattle.smv_session.specs.Jobs.{NamesLeaves, numbers_of}
+use Rattle.spec_leaves.specs.Named.{IsFirstOther}
+use Rattle.spec_leaves.proofs.Others.{not_both, one_first}
 use Rattle.smv_session.specs.Refuses.{Refuses}
-use Rattle.smv_texts.specs.Refusals.{Refusal, TooLong, BadByte, NumberTooLarge, NoProgram, TooDeep, NotFlat, BreaksRule, TooManyBits, Faults, is_fault}
+use Rattle.smv_texts.specs.Refusals.{Refusal, TooLong, BadByte, NumberTooLarge, NoProgram, TooDeep, NotFlat, BreaksRule, TooManyBits, NoLeaf, Faults, is_fault}
 use Rattle.smv_session.proofs.FaultLemmas.{one_fault, faultless_or_fault}
 
 -- what the layers say of their answers
@@ -49,7 +51,8 @@ Passes job bytes (suc (suc zero)) = (p : Program) × HasProgram bytes p
 Passes job bytes (suc (suc (suc zero))) = (m : System) × HasFlat bytes m
 Passes job bytes (suc (suc (suc (suc zero)))) = (m : System) × HasRuled bytes m
 Passes job bytes (suc (suc (suc (suc (suc zero))))) = (m : System) × HasModel bytes m
-Passes job bytes (suc (suc (suc (suc (suc (suc k)))))) = (m : System) × IsAccepted bytes m × NamesLeaves job m
+Passes job bytes (suc (suc (suc (suc (suc (suc zero)))))) = (m : System) × HasModel bytes m × NamesLeaves job m
+Passes job bytes (suc (suc (suc (suc (suc (suc (suc k))))))) = (m : System) × IsAccepted bytes m × NamesLeaves job m
 
 -- the step at which it is refused
 abbrev stage : Refusal → ℕ
@@ -61,7 +64,8 @@ stage (TooDeep l) = 2
 stage (NotFlat r) = 3
 stage (BreaksRule r) = 4
 stage (TooManyBits bits) = 5
-stage (Faults m kind l here after) = 6
+stage (NoLeaf j) = 6
+stage (Faults m kind l here after) = 7
 
 module _ (job : Job) (bytes : List ℕ) where
   down : (k : ℕ) → Passes job bytes (suc k) → Passes job bytes k
@@ -70,8 +74,9 @@ module _ (job : Job) (bytes : List ℕ) where
   down (suc (suc zero)) h = (h.1.program, h.1.has)
   down (suc (suc (suc zero))) h = (h.0, h.1.flat)
   down (suc (suc (suc (suc zero)))) h = (h.0, h.1.ruled)
-  down (suc (suc (suc (suc (suc zero))))) h = (h.0, h.1.has)
-  down (suc (suc (suc (suc (suc (suc k)))))) h = h
+  down (suc (suc (suc (suc (suc zero))))) h = (h.0, h.1)
+  down (suc (suc (suc (suc (suc (suc zero)))))) h = (h.0, h.1.has, h.2)
+  down (suc (suc (suc (suc (suc (suc (suc k))))))) h = h
 
   passes_down : (n k : ℕ) → k ≤ n → Passes job bytes n → Passes job bytes k
   passes_down zero k below h = let e : zero ≡ k = omega (arith, below) in subst (Passes job bytes) e h
@@ -89,7 +94,8 @@ module _ (job : Job) (bytes : List ℕ) where
   passed (NotFlat r) k below h = passes_down 2 k (omega (arith, below)) (h.0, h.1)
   passed (BreaksRule r) k below h = passes_down 3 k (omega (arith, below)) (h.0, h.1)
   passed (TooManyBits bits) k below h = passes_down 4 k (omega (arith, below)) (h.0, h.1)
-  passed (Faults m kind l here after) k below h = passes_down 5 k (omega (arith, below)) (m, h.0)
+  passed (NoLeaf j) k below h = passes_down 5 k (omega (arith, below)) (h.0, h.1)
+  passed (Faults m kind l here after) k below h = passes_down 6 k (omega (arith, below)) (m, h.0, h.1)
 
 module _ (laws : Laws) (job : Job) (bytes : List ℕ) where
   one_tokens : (ts us : List Placed) → HasTokens bytes ts → HasTokens bytes us → ts ≡ us
@@ -119,13 +125,14 @@ module _ (laws : Laws) (job : Job) (bytes : List ℕ) where
   stopped (NotFlat r) h has = has.1.kept r (subst (λ p. flattening.Refuses (plain.program p) r) (one_program h.0 has.1.program h.1 has.1.has) h.2)
   stopped (BreaksRule r) h has = has.1.rules r (subst (λ m. Breaks m r) (one_flat h.0 has.0 h.1 has.1.flat) h.2)
   stopped (TooManyBits bits) h has = let few = subst (λ m. state_bits m ≤ 128) (one_ruled has.0 h.0 has.1.ruled h.1) has.1.few in omega (arith, few, h.2)
+  stopped (NoLeaf j) h has = not_both h.0 (numbers_of job) j (subst (NamesLeaves job) (one_model has.0 h.0 has.1 h.1) has.2) h.2
   stopped (Faults m kind l here after) h has = faultless_or_fault m kind l here after h.2 (subst IsFaultless (one_model has.0 m has.1.has h.0) has.1.faultless)
 
   -- what is accepted is not refused
   pub accepted_or_refusal : (m : System) (r : Refusal) → IsAccepted bytes m → NamesLeaves job m → Refuses job bytes r → ⊥
-  accepted_or_refusal m r accepted names h = stopped r h (passes_down job bytes 6 (stage r) (at_most r) (m, accepted, names))
+  accepted_or_refusal m r accepted names h = stopped r h (passes_down job bytes 7 (stage r) (at_most r) (m, accepted, names))
     where
-      at_most : (r : Refusal) → stage r ≤ 6
+      at_most : (r : Refusal) → stage r ≤ 7
       at_most TooLong = omega arith
       at_most (BadByte l) = omega arith
       at_most (NumberTooLarge l) = omega arith
@@ -134,13 +141,14 @@ module _ (laws : Laws) (job : Job) (bytes : List ℕ) where
       at_most (NotFlat r) = omega arith
       at_most (BreaksRule r) = omega arith
       at_most (TooManyBits bits) = omega arith
+      at_most (NoLeaf j) = omega arith
       at_most (Faults m kind l here after) = omega arith
 
-  -- what has a model is refused for a fault alone
-  pub model_or_refusal : (m : System) (r : Refusal) → HasModel bytes m → Refuses job bytes r → is_fault r ≡ true
-  model_or_refusal m r has h = by_fault r h (λ at_most. stopped r h (passes_down job bytes 5 (stage r) at_most (m, has)))
+  -- what has a model is refused for a fault alone, where the job's numbers name sets of states
+  pub model_or_refusal : (m : System) (r : Refusal) → HasModel bytes m → NamesLeaves job m → Refuses job bytes r → is_fault r ≡ true
+  model_or_refusal m r has names h = by_fault r h (λ at_most. stopped r h (passes_down job bytes 6 (stage r) at_most (m, has, names)))
     where
-      by_fault : (r : Refusal) → Refuses job bytes r → (stage r ≤ 5 → ⊥) → is_fault r ≡ true
+      by_fault : (r : Refusal) → Refuses job bytes r → (stage r ≤ 6 → ⊥) → is_fault r ≡ true
       by_fault (Faults m kind l here after) h stops = refl
       by_fault TooLong h stops = absurd (stops (omega arith))
       by_fault (BadByte l) h stops = absurd (stops (omega arith))
@@ -150,6 +158,7 @@ module _ (laws : Laws) (job : Job) (bytes : List ℕ) where
       by_fault (NotFlat r) h stops = absurd (stops (omega arith))
       by_fault (BreaksRule r) h stops = absurd (stops (omega arith))
       by_fault (TooManyBits bits) h stops = absurd (stops (omega arith))
+      by_fault (NoLeaf j) h stops = absurd (stops (omega arith))
 
   same_stage : (r q : Refusal) → Refuses job bytes r → Refuses job bytes q → stage r ≡ stage q
   same_stage r q h k = elim (cases_lt (stage r) (stage q)) [
@@ -191,6 +200,8 @@ module _ (laws : Laws) (job : Job) (bytes : List ℕ) where
       ap NotFlat (laws.one_flat_refusal (plain.program k.0) r q (subst (λ p. flattening.Refuses (plain.program p) r) (one_program h.0 k.0 h.1 k.1) h.2) k.2)
   one_at_stage (BreaksRule r) (BreaksRule q) e h k = ap BreaksRule (laws.one_static_refusal k.0 r q (subst (λ m. Breaks m r) (one_flat h.0 k.0 h.1 k.1) h.2) k.2)
   one_at_stage (TooManyBits bits) (TooManyBits other) e h k = ap TooManyBits (h.3 ∙ ap state_bits (one_ruled h.0 k.0 h.1 k.1) ∙ sym k.3)
+  one_at_stage (NoLeaf j) (NoLeaf i) e h k =
+      ap NoLeaf (one_first k.0 (numbers_of job) j i (subst (λ m. IsFirstOther m (numbers_of job) j) (one_model h.0 k.0 h.1 k.1) h.2) k.2)
   one_at_stage (Faults m kind l here after) (Faults n other j there next) e h k = same_fault m n kind other l j here there after next (one_model m n h.0 k.0) h.2 k.2
   one_at_stage r q e h k = absurd (omega (arith, e))
 

@@ -1,7 +1,7 @@
 -- All promises of a call.
 use Rattle.std.proofs.Common.{◌≡◌, Option}
 use Rattle.command_words.specs.Words.{command_of}
-use Rattle.smv_session.specs.Commands.{AcceptsProved, DecidesAll, ExportsProofs, GeneratesText, RechecksProofs, ReportsVerdicts, ShowsStates}
+use Rattle.smv_session.specs.Commands.{AcceptsProved, DecidesAll, ExportsProofs, FindsDelays, GeneratesText, RechecksProofs, ReplaysTraces, ReportsVerdicts, ShowsStates}
 use Rattle.smv_session.specs.Foreseen.{Finishes, Foresees}
 use Rattle.smv_session.specs.OneAnswer.{OneAnswer}
 use Rattle.smv_session.specs.Session.{Session, PutsAnswer, AnswersUsage, RefusesModels, TakesModels, HasEvidence, HasStatusOfReply, KeepsContents, FaultHasCause, AnswersFaults, PutsFaultLine, FaultLinesHaveCause, CutsOffAnswer, MemoryChangesNothing}
@@ -34,6 +34,8 @@ pub record Promises (s : Session) : Type 0 where
   pub rechecked : RechecksProofs s
   pub enough : DecidesAll s
   pub proved : AcceptsProved s
+  pub delays : FindsDelays s
+  pub replayed : ReplaysTraces s
 
 promises : (s : Session) → OneAnswer → Ends s → Promises s
 promises s one e = record {
@@ -57,6 +59,8 @@ promises s one e = record {
   rechecked = decided.rechecked s (ended.takes s one e);
   enough = decided.decides_all s (ended.refused s one e) (ended.takes s one e);
   proved = decided.accepts_proved s (ended.refused s one e) (ended.takes s one e);
+  delays = decided.finds_delays s (ended.refused s one e) (ended.takes s one e);
+  replayed = decided.replays s (ended.refused s one e) (ended.takes s one e);
 }
 
 -- what was foreseen was saved and put, or not

@@ -1,6 +1,7 @@
 -- Sets that are ready for the next specification.
-use Rattle.std.proofs.Common.{◌≡◌, ◌∙◌, inl, inr, ℕ, ◌+◌, ◌*◌, ◌^◌, ◌≤◌, [], Result, Some, Err}
-use Rattle.std.proofs.Common.{sym, ap, subst, arith, length}
+use Rattle.std.proofs.Common.{◌≡◌, ◌∙◌, inl, inr, ℕ, ◌+◌, ◌*◌, ◌≤◌, [], Result, Err}
+use Rattle.std.proofs.Common.{Ok, List, sym, ap, subst, arith, length, append-nil}
+use Rattle.fair_fixpoint.proofs.Lists.{to_ok}
 use Rattle.std.proofs.lemmas.Bool.{cases_lt}
 use Rattle.std.proofs.lemmas.Nat.{mul-le}
 use Rattle.std.proofs.lemmas.List.{length-map}
@@ -16,7 +17,6 @@ use Rattle.kripke_model.specs.Signs.{node_count}
 use Rattle.kripke_model.specs.System.{System}
 use Rattle.proof_form.specs.Form.{Proof, sets_of}
 use Rattle.proof_form.specs.Pinned.{proof_slots}
-use Rattle.proof_form.specs.Shape.{spec_formula}
 use Rattle.region_sets.specs.Sets.{Adds, Gauge, IsCall, Sets}
 use Rattle.path_laws.specs.StateCount.{state_count}
 use Rattle.region_sets.specs.declared.pins.Pin.{Pin}
@@ -24,7 +24,6 @@ use Rattle.region_sets.specs.declared.pins.SetRefusal.{SetRefusal}
 use Rattle.region_sets.specs.declared.pins.SetRefusal.TheVariants.{Full}
 use Rattle.region_sets.proofs.Calls.{let_go, then_call}
 use Rattle.smv_session.specs.Relation.{AreOver, IsBuiltFor, trial_pins}
-use Rattle.smv_session.proofs.Budget.{trial_fits}
 use Rattle.smv_texts.specs.Evidence.{IsMet}
 use Rattle.bit_encode.specs.Enough.{enough, times_enough}
 use Rattle.trans_parts.specs.Budget.{room}
@@ -62,19 +61,18 @@ ready_new m limit p s are over gauge live spare fulls =
       fulls = λ le. fulls;
     }
 
--- ---- a specification is tried
+-- ---- a specification is tried, or delays are looked for
 
-module _ (m : System) (limit j : ℕ) (f : Ctl) (is : spec_formula m j ≡ Some f)
-    (few : state_count m ≤ 2 ^ state_bits m) (a b : Sets) (ready : IsBuiltFor m limit a) where
-  none_full : {T : Type 0} {r : Result T SetRefusal} → IsCall (trial_pins m f) a b [] r
+module _ (m : System) (limit pins : ℕ) (fits : pins ≤ room m) (a b : Sets)
+    (ready : IsBuiltFor m limit a) where
+  none_full : {T : Type 0} {r : Result T SetRefusal} → IsCall pins a b [] r
       → enough m ≤ limit → b.fulls ≡ 0
   none_full call le =
-      let room : a.live + trial_pins m f ≤ a.room =
-      omega (arith, ready.live, trial_fits m j f is few, ready.spare le) in
+      let room : a.live + pins ≤ a.room = omega (arith, ready.live, fits, ready.spare le) in
       call.spare room ∙ ready.fulls le
 
   -- and the sets are ready for the next one
-  pub ready_after : {T : Type 0} {r : Result T SetRefusal} → IsCall (trial_pins m f) a b [] r
+  pub ready_after : {T : Type 0} {r : Result T SetRefusal} → IsCall pins a b [] r
       → IsBuiltFor m limit b
   ready_after call = record {
     over = call.pins.over ∙ ready.over;
@@ -86,7 +84,7 @@ module _ (m : System) (limit j : ℕ) (f : Ctl) (is : spec_formula m j ≡ Some 
 
   -- a store was full only where the limit is below what is enough
   pub met_by : {T : Type 0} (held : Held)
-      → IsCall (trial_pins m f) {T = T} a b [] (Err (Full held)) → IsMet m limit held
+      → IsCall pins {T = T} a b [] (Err (Full held)) → IsMet m limit held
   met_by held call =
       let gauge = call.pins.gauge ∙ ready.gauge in (
         (
@@ -121,3 +119,10 @@ after_block m f p proved few written back same =
     let_go {xs = proof_slots p} {ys = []}
     (then_call (trial_pins m f) proved written (omega arith) (omega (arith, as_many, few)))
     back same
+
+-- the pins that a call left are released
+pub all_released : {T U : Type 0} {h : ℕ} {a b c : Sets} {r : Result T SetRefusal} (xs : List ℕ)
+    (x : U) → IsCall h a b xs r → Adds c b xs → c.fulls ≡ b.fulls → IsCall h {T = U} a c [] (Ok x)
+all_released {h = h} {a = a} {b = b} {r = r} xs x call back same =
+    to_ok x (let_go {xs = xs} {ys = []}
+    (subst (λ ks. IsCall h a b ks r) (sym (append-nil xs)) call) back same)

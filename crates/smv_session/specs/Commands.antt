@@ -2,7 +2,9 @@
 -- every call give.
 use Rattle.std.specs.Prelude.{◌≡◌, ◌≢◌, ◌⊎◌, ◌<◌, ◌≤◌, ℕ, List, Option, Some, None, IfSome}
 use Rattle.std.specs.Prelude.{count_by}
-use Rattle.command_words.specs.Words.{Work, Decide, Recheck, Print, command_of}
+use Rattle.command_words.specs.Words.{Work, Decide, Recheck, Delay, Replay, Print, command_of}
+use Rattle.delay_answers.specs.Delayed.{AreDelays, LeavesDelays, delays_line}
+use Rattle.delay_bounds.specs.Delays as delays
 use Rattle.kripke_model.specs.Faults.{IsFaultless}
 use Rattle.kripke_model.specs.System.{System}
 use Rattle.smv_rings.specs.Rings.{ring_text}
@@ -21,9 +23,11 @@ use Rattle.smv_texts.specs.declared.status.Status.TheVariants.{Clear, Failed, Mo
 use Rattle.spec_verdicts.specs.Checked.{LeavesNoneOut, all_unknown}
 use Rattle.spec_verdicts.specs.Exports.{Exports}
 use Rattle.spec_verdicts.specs.Verdicts.{AreVerdicts, ShowStates}
+use Rattle.smv_session.specs.Jobs.{NamesLeaves}
 use Rattle.smv_session.specs.Session.{Session, Asks, IsUndisturbed, Leaves, Puts, Shows}
 use Rattle.smv_session.specs.Source.{HasModel, IsAccepted}
 use Rattle.bit_encode.specs.Enough.{enough}
+use Rattle.trace_answers.specs.Replayed.{IsTraceJudged, IsTraceRefused, Replayed}
 
 -- `gen N`: the ring's text is put.
 pub record GeneratesText (s : Session) : Type 0 where
@@ -114,3 +118,53 @@ pub record DecidesAll (s : Session) : Type 0 where
       → IsOfVerdicts s.status
       × ((findings : List Finding) × Puts s (report m findings)
       × AreFoundIn m w.limit proofs findings × (count_by is_unknown findings ≡ 0))
+
+-- what is put where both delays are found, of a model without faults
+pub record IsDelayed (s : Session) (m : System) (from to : ℕ) : Type 0 where
+  pub faultless : IsFaultless m
+  pub shortest : delays.Delay
+  pub longest : delays.Delay
+  pub are : AreDelays m from to shortest longest
+  pub status : s.status ≡ Clear
+  pub puts : Puts s (delays_line from to shortest longest)
+
+-- `delay`: the shortest and the longest delay are told, from the states of one specification to
+-- those of another. Where the limit was met before both were found, that alone is told; then the
+-- limit is below what is enough.
+pub record FindsDelays (s : Session) : Type 0 where
+  pub finds : IsUndisturbed s → (w : Work) (bytes : List ℕ) (m : System) (from to : ℕ)
+      → Asks s w bytes → w.job ≡ Delay from to → HasModel bytes m → s.status ≢ ModelRefused
+      → ((r : Reply) × LeavesDelays m w.limit from to r × Shows s r) ⊎ IsDelayed s m from to
+  pub always : IsUndisturbed s → (w : Work) (bytes : List ℕ) (m : System) (from to : ℕ)
+      → Asks s w bytes → w.job ≡ Delay from to → IsAccepted bytes m → NamesLeaves w.job m
+      → enough m ≤ w.limit → IsDelayed s m from to
+
+-- what is put and answered for a trace file of a model without faults
+pub record IsReplayed (s : Session) (m : System) (limit : ℕ) (trace : List ℕ) : Type 0 where
+  pub faultless : IsFaultless m
+  pub bytes : List ℕ
+  pub there : IfSome s.contents (λ files. bytes_under files trace ≡ Some bytes)
+  pub reply : Reply
+  pub replayed : Replayed m limit bytes reply
+  pub shows : Shows s reply
+
+-- the trace file is refused, or what is found of its trace is told
+pub record IsJudged (s : Session) (m : System) (trace : List ℕ) : Type 0 where
+  pub bytes : List ℕ
+  pub there : IfSome s.contents (λ files. bytes_under files trace ≡ Some bytes)
+  pub reply : Reply
+  pub judged : IsTraceRefused m bytes reply ⊎ IsTraceJudged m bytes reply
+  pub shows : Shows s reply
+
+-- `replay`: the trace file is refused, or the first thing that is wrong with its trace is told, or
+-- that it is accepted: the specification has the shape, and the path is fair, begins at an initial
+-- state and falsifies it. Where the limit was met before, that is told; then it is below what is
+-- enough.
+pub record ReplaysTraces (s : Session) : Type 0 where
+  pub replays : IsUndisturbed s → (w : Work) (bytes : List ℕ) (m : System) (trace : List ℕ)
+      → Asks s w bytes → w.job ≡ Replay trace → HasModel bytes m → s.status ≢ ModelRefused
+      → ((r : Reply) × LeavesUnanswered m w.limit r × Shows s r)
+      ⊎ IsReplayed s m w.limit trace
+  pub always : IsUndisturbed s → (w : Work) (bytes : List ℕ) (m : System) (trace : List ℕ)
+      → Asks s w bytes → w.job ≡ Replay trace → IsAccepted bytes m → enough m ≤ w.limit
+      → IsJudged s m trace

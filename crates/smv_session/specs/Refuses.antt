@@ -11,8 +11,9 @@ use Rattle.command_words.specs.Words.{Job}
 use Rattle.bit_encode.specs.Code.{state_bits}
 use Rattle.trans_parts.specs.FirstFault.{IsFirstFault}
 use Rattle.smv_texts.specs.Refusals.{Refusal, TooLong, BadByte, NumberTooLarge, NoProgram, TooDeep}
-use Rattle.smv_texts.specs.Refusals.{NotFlat, BreaksRule, TooManyBits, Faults}
-use Rattle.smv_session.specs.Jobs.{NamesLeaves}
+use Rattle.smv_texts.specs.Refusals.{NotFlat, BreaksRule, TooManyBits, NoLeaf, Faults}
+use Rattle.spec_leaves.specs.Named.{IsFirstOther}
+use Rattle.smv_session.specs.Jobs.{NamesLeaves, numbers_of}
 use Rattle.smv_session.specs.Source.{line_at, token_line, HasTokens, HasProgram, HasFlat, HasRuled}
 use Rattle.smv_session.specs.Source.{HasModel, most_state_bits}
 
@@ -34,5 +35,6 @@ Refuses job bytes (NotFlat r) =
 Refuses job bytes (BreaksRule r) = (m : System) × HasFlat bytes m × Breaks m r
 Refuses job bytes (TooManyBits bits) =
     (m : System) × HasRuled bytes m × (most_state_bits < state_bits m) × (bits ≡ state_bits m)
+Refuses job bytes (NoLeaf j) = (m : System) × HasModel bytes m × IsFirstOther m (numbers_of job) j
 Refuses job bytes (Faults m kind l here after) =
     HasModel bytes m × NamesLeaves job m × IsFirstFault m kind l here after

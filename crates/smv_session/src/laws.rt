@@ -2,8 +2,9 @@
 
 ghost use Rattle.smv_session.specs.OneAnswer.{OneAnswer};
 
-/// A text has one model at most, or is refused for one reason. One that has a model is refused for
-/// a fault of an item alone, and one that is accepted is not refused.
+/// A text has one model at most, or is refused for one reason. Where the job names no specification
+/// that is no set of states, one that has a model is refused for a fault of an item alone, and one
+/// that is accepted is not refused.
 pub fn one_answer()
     ensures { OneAnswer }
 {

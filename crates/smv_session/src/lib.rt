@@ -1,11 +1,15 @@
 //! The program: from its words and files to the text that it puts and its status.
 #![tactic(auto)]
 
+mod bits;
 mod decision;
+mod delaying;
 mod finishing;
 pub mod laws;
 mod rechecking;
 mod relation;
+mod replaying;
+mod seconds;
 mod session;
 mod source;
 mod trials;

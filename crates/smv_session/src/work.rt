@@ -1,40 +1,33 @@
 // Work over a model's text.
-ghost use Rattle.std.specs.Prelude.{◌≡◌, ◌<◌, ◌≤◌, ◌^◌, ℕ, IfOk, List, Option, Some};
-ghost use Rattle.bit_encode.specs.Code.{state_bits};
+ghost use Rattle.std.specs.Prelude.{◌≡◌, ℕ, IfOk, List, Option, Some};
 ghost use Rattle.command_words.specs.Asked.{work_asked};
 ghost use Rattle.command_words.specs.Words.{Do, HasLimits};
 ghost use Rattle.command_words.specs.declared.command.Job.{Job};
-ghost use Rattle.kripke_model.specs.Faults.{IsFaultless};
 ghost use Rattle.smv_outside.specs.Contents.{Contents};
 ghost use Rattle.smv_session.specs.Answers.{IsModelReply};
-ghost use Rattle.smv_session.specs.Foreseen.{Foresees, ForeseesProofs, ForeseesText, IsForeseenAs};
-ghost use Rattle.smv_session.specs.Foreseen.{RefusesLongProofs};
-ghost use Rattle.smv_session.specs.Relation.{AreOver, Stops};
-ghost use Rattle.smv_session.specs.Source.{HasRuled, most_state_bits};
+ghost use Rattle.smv_session.specs.Foreseen.{Foresees, ForeseesText, IsForeseenAs};
+ghost use Rattle.smv_session.specs.Jobs.{NamesLeaves};
+ghost use Rattle.smv_session.specs.Relation.{Stops};
+ghost use Rattle.smv_session.specs.Source.{HasRuled};
 ghost use Rattle.smv_texts.specs.Refusals as too_long;
 ghost use Rattle.smv_texts.specs.Replies.{IsReply};
 ghost use Rattle.smv_texts.specs.Told.{TellsRefusal};
 
 use crate::decision::decide;
-use crate::rechecking::recheck;
-use crate::relation::{Stop, held_of, relation};
+use crate::delaying::answer_delays;
+use crate::relation::Stop;
+use crate::seconds::{answer_rechecked, answer_replayed};
 use crate::session::Foreseen;
 use crate::source::read_model;
 use command_words::{Job, Source, Work};
 use kripke_model::models::Ruled;
-use proof_answers::{refuse_proofs, unanswered_model};
-use proof_text::refusals::TextRefusal;
 use smv_outside::{Files, LoadFault};
 use smv_rings::gen_text;
 use smv_texts::{Fault, Refusal, Reply, refuse, refuse_fault};
 use std::alloc::{AllocError, Global};
-use trans_parts::Parts;
 
 /// The greatest number of bytes of a model's text.
 const MOST_MODEL_BYTES: usize = 1 << 20;
-
-/// The greatest number of bytes of a proof file.
-const MOST_PROOF_BYTES: usize = 1 << 26;
 
 /// What is to be put for work over the text of its source.
 pub(crate) fn do_work<'a, F: Files>(
@@ -108,17 +101,22 @@ fn answer_model<'a, F: Files>(
     match work.job {
         Job::Decide { proofs } => Ok(Foreseen::Reply(answer_decided(alloc, work, model, proofs)?)),
         Job::Recheck { proofs } => answer_rechecked(alloc, work, model, proofs, files),
+        Job::Delay { from, to } => Ok(Foreseen::Reply(answer_delays(
+            alloc, work, model, from, to,
+        )?)),
+        Job::Replay { trace } => answer_replayed(alloc, work, model, trace, files),
     }
 }
 
 /// The reply to a model that is not taken.
-fn answer_stop<'a>(
+pub(crate) fn answer_stop<'a>(
     alloc: Global,
     work: Work<'_>,
     model: &Ruled,
     stop: Stop,
 ) -> Result<Reply<'a>, AllocError>
-    requires { Stops model.now stop }
+    requires names { NamesLeaves (work_asked work).job model.now }
+    requires stops { Stops model.now stop }
     ensures { (contents : Option Contents) (bytes : List ℕ) → HasRuled bytes model.now
         → IfOk result (IsReply (IsModelReply (work_asked work.entry) contents bytes)) }
 {
@@ -144,69 +142,5 @@ fn answer_decided<'a>(
     match decide(alloc, model, work.limit, proofs) {
         Ok(reply) => Ok(reply),
         Err(stop) => answer_stop(alloc, work, model, stop),
-    }
-}
-
-/// What is to be put where a proof file is to be tested.
-fn answer_rechecked<'a, F: Files>(
-    alloc: Global,
-    work: Work<'a>,
-    model: &Ruled,
-    proofs: &'a str,
-    files: &mut F,
-) -> Result<Foreseen<'a>, AllocError>
-    requires limits { HasLimits (Do (work_asked work)) }
-    requires job { work.job ≡ Job.Recheck proofs }
-    ensures contents { F.contents files.new ≡ F.contents files.old }
-    ensures unsaved { (F.faults files.new).unsaved ≡ (F.faults files.old).unsaved }
-    ensures foreseen { (bytes : List ℕ) → HasRuled bytes model.now
-        → IfOk result (ForeseesText (work_asked work.entry) (F.contents files.old) bytes
-        (F.faults files.old) (F.faults files.new)) }
-{
-    match relation(alloc, model, work.limit) {
-        Ok(parts) => answer_proofs(alloc, work.limit, model, parts, proofs, files),
-        Err(refusal) => match held_of(model, work.limit, refusal) {
-            Ok(held) => Ok(Foreseen::Reply(unanswered_model(alloc, work.limit, held)?)),
-            Err(stop) => Ok(Foreseen::Reply(answer_stop(alloc, work, model, stop)?)),
-        },
-    }
-}
-
-/// What is to be put for the proof file of a model without faults.
-fn answer_proofs<'a, F: Files>(
-    alloc: Global,
-    limit: u32,
-    model: &Ruled,
-    parts: Parts,
-    proofs: &str,
-    files: &mut F,
-) -> Result<Foreseen<'a>, AllocError>
-    requires limit { limit < 2 ^ 31 }
-    requires parts { AreOver model.now limit parts }
-    requires faultless { IsFaultless model.now }
-    requires few { state_bits model.now ≤ most_state_bits }
-    ensures contents { F.contents files.new ≡ F.contents files.old }
-    ensures unsaved { (F.faults files.new).unsaved ≡ (F.faults files.old).unsaved }
-    ensures foreseen { IfOk result (ForeseesProofs model.now limit (F.contents files.old) proofs.now
-        (F.faults files.old) (F.faults files.new)) }
-{
-    match files.load(proofs, MOST_PROOF_BYTES) {
-        Ok(bytes) => Ok(Foreseen::Reply(recheck(alloc, model, limit, parts, &bytes)?)),
-        Err(fault) => answer_proof_fault(alloc, fault),
-    }
-}
-
-/// What is to be put where the proof file was not loaded.
-fn answer_proof_fault<'a>(alloc: Global, fault: LoadFault) -> Result<Foreseen<'a>, AllocError>
-    ensures { IfOk result (IsForeseenAs RefusesLongProofs fault) }
-{
-    match fault {
-        LoadFault::Failed => Ok(Foreseen::Fault(Fault::LoadFailed)),
-        LoadFault::NotThere => Ok(Foreseen::Fault(Fault::LoadMissing)),
-        LoadFault::TooLong { .. } => Ok(Foreseen::Reply(refuse_proofs(
-            alloc,
-            TextRefusal::TooLong,
-        )?)),
-        LoadFault::Memory => Err(AllocError),
     }
 }

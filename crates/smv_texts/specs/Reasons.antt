@@ -51,6 +51,10 @@ static_reason StaticRefusal.Memory = []
 abbrev pub bits_reason : ℕ → List ℕ
 bits_reason bits = codes "E22 bits " ++ decimal bits
 
+-- the specification that is to be a formula without path operators, by its number
+abbrev pub leaf_reason : ℕ → List ℕ
+leaf_reason j = codes "E24 spec " ++ decimal j
+
 -- ---- faults
 
 abbrev pub kind_word : FaultKind → List ℕ

@@ -4,7 +4,7 @@ use Rattle.kripke_model.specs.declared.expressions.FaultKind.{FaultKind}
 use Rattle.kripke_model.specs.declared.refusals.FlatRefusal.{FlatRefusal}
 use Rattle.kripke_model.specs.declared.refusals.StaticRefusal.{StaticRefusal}
 use Rattle.kripke_model.specs.System.{System, State}
-use Rattle.smv_texts.specs.Reasons.{on_line, flat_reason, static_reason, bits_reason, fault_reason}
+use Rattle.smv_texts.specs.Reasons.{on_line, flat_reason, static_reason, bits_reason, leaf_reason, fault_reason}
 use Rattle.smv_texts.specs.Texts.{line}
 
 -- why a model's text is refused
@@ -25,6 +25,8 @@ pub data Refusal : Type 0 where
   BreaksRule : (refusal : StaticRefusal) → Refusal
   -- the states of its model have so many bits, which are too many
   TooManyBits : (bits : ℕ) → Refusal
+  -- of the specifications that the words name by numbers, this is the first that isn't there or holds a path operator
+  NoLeaf : (spec : ℕ) → Refusal
   -- an item of its model faults: the first one, at its least pair of states, of which the second is told where the item has `next`
   Faults : (m : System) → (kind : FaultKind) → (line : ℕ) → (here : State) → (after : Option State) → Refusal
 
@@ -42,6 +44,7 @@ reason (TooDeep l) = on_line (codes "E5") l
 reason (NotFlat r) = flat_reason r
 reason (BreaksRule r) = static_reason r
 reason (TooManyBits bits) = bits_reason bits
+reason (NoLeaf j) = leaf_reason j
 reason (Faults m kind l here after) = fault_reason m kind l here after
 
 abbrev pub refusal_line : Refusal → List ℕ

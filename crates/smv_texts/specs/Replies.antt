@@ -9,6 +9,8 @@ pub data Head : Type 0 where
   Spec : Head
   Total : Head
   Model : Head
+  From : Head
+  Trace : Head
   Refused : Head
   Usage : Head
   Module : Head
@@ -17,6 +19,8 @@ abbrev pub head_word : Head → List ℕ
 head_word Spec = codes "spec "
 head_word Total = codes "total "
 head_word Model = codes "model "
+head_word From = codes "from "
+head_word Trace = codes "trace "
 head_word Refused = codes "refused "
 head_word Usage = codes "usage: "
 head_word Module = codes "MODULE "

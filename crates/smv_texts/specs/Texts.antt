@@ -8,7 +8,12 @@ abbrev pub line : List ℕ → List ℕ
 line text = text ++ 10 ∷ []
 
 abbrev pub usage_text : List ℕ
-usage_text = line (codes "usage: smv_run check MODEL [--nodes N] [--proof FILE]") ++ line (codes "       smv_run recheck MODEL PROOF [--nodes N]") ++ line (codes "       smv_run gen N [--check]")
+usage_text =
+    line (codes "usage: smv_run check MODEL [--nodes N] [--proof FILE]")
+    ++ line (codes "       smv_run recheck MODEL PROOF [--nodes N]")
+    ++ line (codes "       smv_run gen N [--check]")
+    ++ line (codes "       smv_run delay MODEL FROM TO [--nodes N]")
+    ++ line (codes "       smv_run replay MODEL TRACE [--nodes N]")
 
 -- a fault of the outside is told by this line
 abbrev pub fault_line : Fault → List ℕ

@@ -5,7 +5,7 @@ use Rattle.smv_texts.specs.Refusals.{refusal_line}
 use Rattle.smv_texts.specs.declared.ending.Ending.TheVariants.{ModelRefused}
 use Rattle.smv_texts.specs.declared.reply.Reply.{Reply}
 use Rattle.smv_texts.specs.declared.refusal.Refusal.{Refusal}
-use Rattle.smv_texts.specs.declared.refusal.Refusal.TheVariants.{TooLong, BadByte, NumberTooLarge, NoProgram, TooDeep, NotFlat, BreaksRule, TooManyBits, Memory}
+use Rattle.smv_texts.specs.declared.refusal.Refusal.TheVariants.{TooLong, BadByte, NumberTooLarge, NoProgram, TooDeep, NotFlat, BreaksRule, TooManyBits, NoLeaf, Memory}
 use Rattle.kripke_model.specs.declared.refusals.FlatRefusal.{FlatRefusal}
 use Rattle.kripke_model.specs.declared.refusals.StaticRefusal.{StaticRefusal}
 
@@ -27,6 +27,7 @@ told (TooDeep l) = Some (refusals.TooDeep l)
 told (NotFlat r) = told_flat r
 told (BreaksRule r) = told_static r
 told (TooManyBits bits) = Some (refusals.TooManyBits bits)
+told (NoLeaf j) = Some (refusals.NoLeaf j)
 told Memory = None
 
 -- the reply is the line of a refusal

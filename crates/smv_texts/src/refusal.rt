@@ -25,6 +25,8 @@ pub enum Refusal {
     BreaksRule(StaticRefusal),
     /// The states of its model have so many bits, which are too many.
     TooManyBits { bits: u32 },
+    /// The words name a specification by this number, counted from 1, that isn't there or holds a path operator.
+    NoLeaf { spec: u32 },
     Memory,
 }
 
@@ -57,6 +59,10 @@ fn push_reason(text: &mut Text, refusal: &Refusal) -> Result<(), AllocError>
         Refusal::TooManyBits { bits } => {
             text.push(b"E22 bits ")?;
             text.push_number(*bits)
+        }
+        Refusal::NoLeaf { spec } => {
+            text.push(b"E24 spec ")?;
+            text.push_number(*spec)
         }
         Refusal::Memory => Err(AllocError),
     }

@@ -47,6 +47,16 @@ fn tell_work(work: &Work<'_>, answer: &mut String) -> Result<(), AllocError> {
             tell_source(&work.source, answer)?;
             write!(answer, " {proofs} {}", work.limit)?;
         }
+        Job::Delay { from, to } => {
+            answer.push_str("delay ")?;
+            tell_source(&work.source, answer)?;
+            write!(answer, " from {from} to {to} {}", work.limit)?;
+        }
+        Job::Replay { trace } => {
+            answer.push_str("replay ")?;
+            tell_source(&work.source, answer)?;
+            write!(answer, " {trace} {}", work.limit)?;
+        }
     }
     Ok(())
 }

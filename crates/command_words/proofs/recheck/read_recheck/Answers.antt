@@ -6,7 +6,7 @@ use Rattle.command_words.proofs.recheck.read_recheck.Goals as goal
 
 pub returns-in-Some-clause-command : goal.returns-in-Some-clause-command
 returns-in-Some-clause-command c =
-    recheck_found c.args.words.now _ _ c.in_ok-matches.ensures c.in_ok-recheck_words.ensures
+    recheck_found c.args.words.now _ _ c.in_ok-matches.ensures c.in_ok-files_command.ensures
     c.in-Some.matches _ c.in-Some.is c.recheck_command.ensures
 
 pub returns-in-Some-clause-limits : goal.returns-in-Some-clause-limits
@@ -16,5 +16,5 @@ returns-in-Some-clause-limits c =
 
 pub returns-in-None-clause-command : goal.returns-in-None-clause-command
 returns-in-None-clause-command c =
-    recheck_refused c.args.words.now _ _ c.in_ok-matches.ensures c.in_ok-recheck_words.ensures
+    recheck_refused c.args.words.now _ _ c.in_ok-matches.ensures c.in_ok-files_command.ensures
     c.in-None.is

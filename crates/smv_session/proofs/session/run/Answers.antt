@@ -106,6 +106,16 @@ returns-in-Ok-clause-proved g c =
     (put (session g.F.Files.contents g.F.Files.faults g.S.Sink.written g.S.Sink.faults c.args.words.now c.args.files.now c.finish.new.files c.args.out.now c.finish.new.out c.finish.result)
     c.in-Ok.foreseen (g.F.Files.contents c.foresee.new.files) (g.F.Files.faults c.foresee.new.files) c.one_answer.ensures c.in-Ok.ensures.contents c.in-Ok.ensures.foreseen c.finish.ensures).proved
 
+pub returns-in-Ok-clause-delays : goal.returns-in-Ok-clause-delays
+returns-in-Ok-clause-delays g c =
+    (put (session g.F.Files.contents g.F.Files.faults g.S.Sink.written g.S.Sink.faults c.args.words.now c.args.files.now c.finish.new.files c.args.out.now c.finish.new.out c.finish.result)
+    c.in-Ok.foreseen (g.F.Files.contents c.foresee.new.files) (g.F.Files.faults c.foresee.new.files) c.one_answer.ensures c.in-Ok.ensures.contents c.in-Ok.ensures.foreseen c.finish.ensures).delays
+
+pub returns-in-Ok-clause-replayed : goal.returns-in-Ok-clause-replayed
+returns-in-Ok-clause-replayed g c =
+    (put (session g.F.Files.contents g.F.Files.faults g.S.Sink.written g.S.Sink.faults c.args.words.now c.args.files.now c.finish.new.files c.args.out.now c.finish.new.out c.finish.result)
+    c.in-Ok.foreseen (g.F.Files.contents c.foresee.new.files) (g.F.Files.faults c.foresee.new.files) c.one_answer.ensures c.in-Ok.ensures.contents c.in-Ok.ensures.foreseen c.finish.ensures).replayed
+
 -- ---- memory ran out
 
 pub returns-in-Err-clause-answer : goal.returns-in-Err-clause-answer
@@ -207,3 +217,13 @@ pub returns-in-Err-clause-proved : goal.returns-in-Err-clause-proved
 returns-in-Err-clause-proved g c =
     (gone (session g.F.Files.contents g.F.Files.faults g.S.Sink.written g.S.Sink.faults c.args.words.now c.args.files.now c.foresee.new.files c.args.out.now c.args.out.now Memory)
     c.one_answer.ensures c.in-Err.ensures.contents c.in-Err.ensures.unsaved refl refl refl).proved
+
+pub returns-in-Err-clause-delays : goal.returns-in-Err-clause-delays
+returns-in-Err-clause-delays g c =
+    (gone (session g.F.Files.contents g.F.Files.faults g.S.Sink.written g.S.Sink.faults c.args.words.now c.args.files.now c.foresee.new.files c.args.out.now c.args.out.now Memory)
+    c.one_answer.ensures c.in-Err.ensures.contents c.in-Err.ensures.unsaved refl refl refl).delays
+
+pub returns-in-Err-clause-replayed : goal.returns-in-Err-clause-replayed
+returns-in-Err-clause-replayed g c =
+    (gone (session g.F.Files.contents g.F.Files.faults g.S.Sink.written g.S.Sink.faults c.args.words.now c.args.files.now c.foresee.new.files c.args.out.now c.args.out.now Memory)
+    c.one_answer.ensures c.in-Err.ensures.contents c.in-Err.ensures.unsaved refl refl refl).replayed

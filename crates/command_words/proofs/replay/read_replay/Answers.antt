@@ -1,0 +1,20 @@
+use Rattle.std.proofs.Common.{map, string_bytes, subst, sym}
+use Rattle.command_words.specs.Words.{HasLimits}
+use Rattle.command_words.proofs.ClapAnswers.{replay_found, replay_refused}
+use Rattle.command_words.proofs.Ranges.{replay_limits}
+use Rattle.command_words.proofs.replay.read_replay.Goals as goal
+
+pub returns-in-Some-clause-command : goal.returns-in-Some-clause-command
+returns-in-Some-clause-command c =
+    replay_found c.args.words.now _ _ c.in_ok-matches.ensures c.in_ok-files_command.ensures
+    c.in-Some.matches _ c.in-Some.is c.replay_command.ensures
+
+pub returns-in-Some-clause-limits : goal.returns-in-Some-clause-limits
+returns-in-Some-clause-limits c =
+    subst HasLimits (sym (returns-in-Some-clause-command c))
+    (replay_limits (map string_bytes c.args.words.now))
+
+pub returns-in-None-clause-command : goal.returns-in-None-clause-command
+returns-in-None-clause-command c =
+    replay_refused c.args.words.now _ _ c.in_ok-matches.ensures c.in_ok-files_command.ensures
+    c.in-None.is

@@ -1,0 +1,2 @@
+pub mod Delayed
+pub mod Seen

@@ -1,0 +1,4 @@
+//! Specifications without path operators, by their numbers.
+#![tactic(auto)]
+
+pub mod named;

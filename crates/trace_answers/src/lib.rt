@@ -1,0 +1,6 @@
+//! The reply to a trace file.
+#![tactic(auto)]
+
+mod replies;
+
+pub use replies::{refuse_trace, replayed, unanswered_trace};
