@@ -3,7 +3,7 @@ use Rattle.std.proofs.Common.{List, [], ◌∷◌, Option, None, Some}
 use Rattle.std.specs.Prelude.{IsSomeAnd, ◌↔◌}
 use Rattle.kripke_model.specs.System.{System, State}
 use Rattle.path_laws.specs.StateSet.{StateSet}
-use Rattle.delay_bounds.specs.Delays.{HoldsAt}
+use Rattle.state_reach.specs.States.{HoldsAt}
 use Rattle.strong_fair.specs.declared.certificate.Reason.{Reason}
 use Rattle.strong_fair.specs.declared.certificate.Reason.TheVariants as reasons
 use Rattle.strong_fair.specs.Form.{Row}

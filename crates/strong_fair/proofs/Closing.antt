@@ -5,7 +5,7 @@ use Rattle.kripke_model.specs.System.{System}
 use Rattle.path_laws.specs.StateSet.{StateSet, ◌∈◌}
 use Rattle.region_sets.specs.declared.pins.Pin.{Pin}
 use Rattle.region_sets.specs.Sets.{Sets, Adds, In, has_state, region}
-use Rattle.delay_bounds.specs.Closed.{IsClosed}
+use Rattle.state_reach.specs.Closed.{IsClosed}
 use Rattle.strong_fair.specs.declared.certificate.Row as declared
 use Rattle.strong_fair.specs.Form.{Row, Certificate, map_row}
 use Rattle.strong_fair.specs.Pinned.{over_rows, over_states}

@@ -9,7 +9,7 @@ use Rattle.kripke_model.proofs.Latch.{state, num, x_term, go_term, latch, is_sta
 use Rattle.path_laws.specs.StateSet.{StateSet}
 use Rattle.strong_fair.specs.declared.certificate.Reason.TheVariants as reasons
 use Rattle.fair_rules.specs.SetLists.{everything}
-use Rattle.delay_bounds.specs.Delays.{HoldsAt}
+use Rattle.state_reach.specs.States.{HoldsAt}
 use Rattle.strong_fair.specs.Strong.{Pair, HasStrongPath}
 use Rattle.strong_fair.specs.Form.{Certificate}
 use Rattle.strong_fair.specs.Shows.{IsCertificate}

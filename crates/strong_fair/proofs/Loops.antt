@@ -11,7 +11,7 @@ use Rattle.kripke_model.proofs.WalkLemmas.{fair_walk}
 use Rattle.path_laws.specs.Fairness.{IsFairOver}
 use Rattle.path_laws.proofs.HoldsLemmas.{holds_or_not}
 use Rattle.fair_rules.proofs.LassoWalk.{walk_over}
-use Rattle.delay_bounds.specs.Delays.{HoldsAt}
+use Rattle.state_reach.specs.States.{HoldsAt}
 use Rattle.strong_fair.specs.Strong.{Pair, Recurs, IsStrongPath, IsStrongWalk}
 
 module _ (m : System) (p : Lasso) (path : IsPath m p) where

@@ -7,7 +7,7 @@ use Rattle.region_sets.specs.Sets.{Sets, Adds, In, IsLive, Stands, has_state}
 use Rattle.region_sets.proofs.Changes.{stays}
 use Rattle.region_sets.proofs.Calls.{In-at}
 use Rattle.trace_loop.proofs.Legs.{HasStates}
-use Rattle.delay_bounds.proofs.StepCalls.{StepsFrom}
+use Rattle.state_reach.proofs.StepCalls.{StepsFrom}
 use Rattle.strong_fair.specs.Shows.{HasNoStep, Stays}
 
 pub no_step_answer : (s0 s1 : Sets) (from into leading : ℕ) (empty : Bool) → HasStates s0 → Stands s1 leading (StepsFrom s0 from into)

@@ -7,7 +7,7 @@ use Rattle.kripke_model.specs.Step.{Step}
 use Rattle.kripke_model.specs.Truth.{FreeSat}
 use Rattle.path_laws.specs.StateSet.{StateSet, ◌∈◌}
 use Rattle.fair_fixpoint.specs.Fairness.{IsTrueAt}
-use Rattle.delay_bounds.specs.Delays.{HoldsAt}
+use Rattle.state_reach.specs.States.{HoldsAt}
 use Rattle.strong_fair.specs.declared.certificate.Reason.{Reason}
 use Rattle.strong_fair.specs.declared.certificate.Reason.TheVariants as reasons
 use Rattle.strong_fair.specs.Strong.{Pair, Recurs, IsStrongWalk}

@@ -4,8 +4,8 @@ use Rattle.kripke_model.specs.System.{System, State, constraint_count}
 use Rattle.kripke_model.specs.Step.{IsState, Step}
 use Rattle.path_laws.specs.StateSet.{StateSet, ◌∈◌}
 use Rattle.fair_fixpoint.specs.Fairness.{IsTrueAt}
-use Rattle.delay_bounds.specs.Closed.{IsClosed}
-use Rattle.delay_bounds.specs.Delays.{HoldsAt}
+use Rattle.state_reach.specs.Closed.{IsClosed}
+use Rattle.state_reach.specs.States.{HoldsAt}
 use Rattle.strong_fair.specs.declared.certificate.Reason.{Reason}
 use Rattle.strong_fair.specs.declared.certificate.Reason.TheVariants as reasons
 use Rattle.strong_fair.specs.Strong.{Pair}

@@ -6,7 +6,7 @@ use Rattle.kripke_model.specs.Step.{Initial}
 use Rattle.kripke_model.specs.Path.{Lasso, at}
 use Rattle.kripke_model.specs.Truth.{IsFair}
 use Rattle.kripke_model.specs.Walk.{IsFairWalk}
-use Rattle.delay_bounds.specs.Delays.{HoldsAt}
+use Rattle.state_reach.specs.States.{HoldsAt}
 
 -- a pair of strong fairness, or of compassion
 pub record Pair : Type 0 where

@@ -4,12 +4,12 @@ ghost use Rattle.std.specs.Prelude.{◌≡◌, ◌↔◌, [], IfOk, IsTrue};
 ghost use Rattle.kripke_model.specs.Leaves.{IsModelLeaf};
 ghost use Rattle.kripke_model.specs.Reading.{term_of};
 ghost use Rattle.region_sets.specs.Sets.{In, IsCall, IsLive};
-ghost use Rattle.delay_bounds.specs.Delays.{HoldsAt};
+ghost use Rattle.state_reach.specs.States.{HoldsAt};
 ghost use Rattle.strong_fair.specs.Shows.{HasNone, HasNoStep, Stays};
 
-use delay_bounds::steps::before;
 use kripke_model::expressions::Expr;
 use region_sets::{Pin, SetRefusal, StateSets};
+use state_reach::steps::before;
 
 /// Whether no state of the set has a next state in the other.
 pub fn has_no_step<S: StateSets>(sets: &mut S, from: &Pin, into: &Pin) -> Result<bool, SetRefusal>

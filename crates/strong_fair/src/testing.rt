@@ -12,10 +12,10 @@ ghost use Rattle.strong_fair.specs.Strong.{HasStrongPath};
 
 use crate::certificate::{Certificate, Pair, Row};
 use crate::rows::rows_hold;
-use delay_bounds::closed::is_closed;
 use fair_fixpoint::constraints::Constraints;
 use kripke_model::models::Ruled;
 use region_sets::{Pin, SetRefusal, StateSets};
+use state_reach::closed::is_closed;
 
 /// The set that no path from an initial state leaves.
 fn inside_of(certificate: &Certificate) -> &Pin

@@ -1,24 +1,22 @@
 //! Certificates over two models: one in which x may be set where y was, and y is free; and one in which no state has a
 //! next one.
 
-ghost use Rattle.std.specs.Prelude.{IfOk, IfSome};
 ghost use Rattle.kripke_model.specs.Leaves.{IsModelLeaf};
 ghost use Rattle.kripke_model.specs.Reading.{term_of};
-ghost use Rattle.kripke_model.specs.WellFormed.{ctl_of};
-ghost use Rattle.fair_fixpoint.specs.Walks.{HasModelLeaves};
 
 use crate::certificates::{Plan, holds};
+use crate::leaves::{leaf_in, pair_of};
 use crate::rows::Which;
 use case_models::formulas::spec_formulas;
 use case_models::kinds::trees;
 use case_models::reading::model_of;
-use kripke_model::expressions::{Expr, Formula};
+use kripke_model::expressions::Expr;
 use kripke_model::models::Ruled;
 use region_sets::SetRefusal;
-use std::alloc::{AllocError, Global};
+use std::alloc::Global;
 use std::slice::from_ref;
 use std::test::Fail;
-use strong_fair::certificate::{Pair, Reason};
+use strong_fair::certificate::Reason;
 
 /// The pair of y and what never holds. y comes again and again on each fair path.
 const Y_AND_NEVER: &[u8] = b"MODULE main
@@ -59,33 +57,6 @@ VAR x : boolean;
 TRANS 0
 SPEC x
 ";
-
-/// The formula's expression, where it has no path operators.
-fn leaf_in<'a>(model: &Ruled, formula: &'a Formula) -> Option<&'a Expr>
-    requires { HasModelLeaves model.now (ctl_of formula.now) }
-    ensures { IfSome result (λ e. IsModelLeaf model.now (term_of e.now)) }
-{
-    let _ = model;
-    match formula {
-        Formula::Leaf(expr) => Some(expr),
-        _ => None,
-    }
-}
-
-/// A pair of copies.
-fn pair_of(alloc: Global, model: &Ruled, p: &Expr, q: &Expr) -> Result<Pair, AllocError>
-    requires p { IsModelLeaf model.now (term_of p.now) }
-    requires q { IsModelLeaf model.now (term_of q.now) }
-    ensures { IfOk result (λ pair. IsModelLeaf model.now pair.p × IsModelLeaf model.now pair.q) }
-{
-    let _ = model;
-    let first = p.copy(alloc)?;
-    let second = q.copy(alloc)?;
-    Ok(Pair {
-        p: first,
-        q: second,
-    })
-}
 
 /// Whether the plan's certificate holds for the pair, over trees. The leaf of its sets is p.
 fn holds_for_pair(

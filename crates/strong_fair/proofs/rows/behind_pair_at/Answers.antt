@@ -2,7 +2,7 @@ use Rattle.std.proofs.Common.{sym, subst}
 use Rattle.std.specs.Prelude.{IfOk, IsSomeAnd, Option}
 use Rattle.kripke_model.specs.Leaves.{IsModelLeaf}
 use Rattle.region_sets.specs.Sets.{In}
-use Rattle.delay_bounds.specs.Delays.{HoldsAt}
+use Rattle.state_reach.specs.States.{HoldsAt}
 use Rattle.strong_fair.specs.Shows.{HasNone, Stays}
 use Rattle.strong_fair.specs.Strong.{Pair}
 use Rattle.strong_fair.specs.Tests.{IsLeft}

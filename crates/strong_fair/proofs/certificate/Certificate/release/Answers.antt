@@ -1,6 +1,6 @@
 use Rattle.std.proofs.Common.{◌≡◌, [], ◌∷◌, ◌++◌, sym, ap}
 use Rattle.strong_fair.specs.Pinned.{certificate_slots, row_slots}
-use Rattle.delay_bounds.proofs.Releases.{all_gone, rest_live, rest_once}
+use Rattle.state_reach.proofs.Releases.{all_gone, rest_live, rest_once}
 use Rattle.strong_fair.proofs.certificate.Certificate.release.Goals as goal
 
 pub release_rows-requires-clause-live : goal.release_rows-requires-clause-live
