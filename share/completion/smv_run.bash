@@ -19,7 +19,7 @@ _smv_options() {
   local option options given=" ${*:2} "
   case $1 in
     check) options="--nodes --proof${script:+ --verbose}" ;;
-    recheck | delay | replay | explain) options="--nodes" ;;
+    recheck | delay | replay | strong | explain) options="--nodes" ;;
     trace) options="--nodes --csv --vcd --svg" ;;
     gen) options="--check" ;;
   esac
@@ -29,7 +29,7 @@ _smv_options() {
 }
 
 _smv_run() {
-  local word=${COMP_WORDS[COMP_CWORD]} commands="check recheck gen delay replay"
+  local word=${COMP_WORDS[COMP_CWORD]} commands="check recheck gen delay replay strong"
   local words=("${COMP_WORDS[@]:1:COMP_CWORD-1}") at=0 operands=0 behind="" script="" command option
   COMPREPLY=()
   if [ "${1##*/}" = smv ]; then
@@ -62,7 +62,7 @@ _smv_run() {
   done
   if [[ $word == -* && -z $behind ]]; then
     _smv_offer "$word" "$(_smv_options "$command" "${words[@]}")"
-  elif [[ $operands -eq 0 && $command == @(check|recheck|delay|replay|explain|trace) || $command == check && ${1##*/} == smv ]]; then
+  elif [[ $operands -eq 0 && $command == @(check|recheck|delay|replay|strong|explain|trace) || $command == check && ${1##*/} == smv ]]; then
     _smv_offer_files "$word" "*.smv"
   elif [[ $command == @(recheck|replay) && $operands -eq 1 ]]; then
     _smv_offer_files "$word"

@@ -15,19 +15,20 @@ use Rattle.clap.specs.declared.parser.matches.ArgMatches.{ArgMatches}
 use Rattle.clap.proofs.WalkLemmas.{both, first_value-rows, one_text-rows}
 use Rattle.command_words.specs.Given.{Values, check_app, check_with, delay_app, delay_names}
 use Rattle.command_words.specs.Given.{delay_with, file_names, files_app, gen_app, gen_with}
-use Rattle.command_words.specs.Given.{recheck_with, replay_with}
+use Rattle.command_words.specs.Given.{recheck_with, replay_with, strong_app, strong_names}
+use Rattle.command_words.specs.Given.{strong_with}
 use Rattle.command_words.specs.Parts.{Part, Form, parts_of, check_form, gen_form, limit_form}
 use Rattle.command_words.specs.Words.{Command, Usage, check_of, command_by, delay_of, gen_of}
-use Rattle.command_words.specs.Words.{recheck_of, replay_of}
+use Rattle.command_words.specs.Words.{recheck_of, replay_of, strong_of}
 use Rattle.command_words.proofs.Kept.{Kept, keep_parts, model_name, nothing}
 use Rattle.command_words.proofs.Kept.{number_name, wants}
 use Rattle.command_words.proofs.ClapAgrees.{Agrees, AllUtf8, HasNone, IsWhole}
 use Rattle.command_words.proofs.ClapEnds.{ReadsAll, ReadsGen}
 use Rattle.command_words.proofs.ClapCommands.{check_agrees, delay_agrees, files_agrees}
-use Rattle.command_words.proofs.ClapCommands.{gen_agrees}
+use Rattle.command_words.proofs.ClapCommands.{gen_agrees, strong_agrees}
 use Rattle.command_words.proofs.Commands.{IsGen, check_words, gen_words}
 use Rattle.command_words.proofs.Limited.{delay_words, no_delay, no_files, no_trace}
-use Rattle.command_words.proofs.Limited.{recheck_words, replay_words}
+use Rattle.command_words.proofs.Limited.{no_pairs, recheck_words, replay_words, strong_words}
 
 module _ (app : App) (simple : is_simple_and_free app ≡ true) (words : List Text) where
   -- what is found in the words that are taken
@@ -90,26 +91,26 @@ none_kept : (of : Values → Option Command) (names : List Text)
 none_kept of names wanted (Some kept) none = wanted kept.values none
 none_kept of names wanted None none = refl
 
-module _ (app built : App) (words : List Text) (names : List Text) (form : List ℕ → Form)
+module _ (app built : App) (words : List Text) (needed names : List Text) (form : List ℕ → Form)
     (read : List Part → Option Command) (of : Values → Option Command)
-    (agree : Agrees names ReadsAll (fault_of app words) (matches_of app words)
+    (agree : Agrees needed ReadsAll (fault_of app words) (matches_of app words)
     (keep_parts names nothing (parts_of form words)))
     (kept_is : option_and_then (λ k. of k.values) (keep_parts names nothing (parts_of form words))
     ≡ option_and_then read (parts_of form words))
-    (wanted : (values : Values) → wants names values ≡ true → of values ≡ None)
+    (wanted : (values : Values) → wants needed values ≡ true → of values ≡ None)
     (same : built ≡ app) (given : Option ArgMatches) (told : IsGiven built words given) where
   found : (m : ArgMatches) (command : Command) → given ≡ Some m
       → command ≡ unwrap_or (of (first_value (found_of m))) Usage
       → command ≡ command_by form read words
   found m command some is =
       is ∙ ap (λ c. unwrap_or c Usage)
-      (by_values of m _ (found_whole app built words names ReadsAll _ agree same given told m some)
+      (by_values of m _ (found_whole app built words needed ReadsAll _ agree same given told m some)
       ∙ kept_is)
 
   none_found : given ≡ None → Usage ≡ command_by form read words
   none_found none =
       ap (λ c. unwrap_or c Usage) (sym
-      (none_kept of names wanted _ (refused_none app built words names ReadsAll _ agree same given
+      (none_kept of needed wanted _ (refused_none app built words needed ReadsAll _ agree same given
       told none)) ∙ kept_is)
 
 no_model : (values : Values) → wants model_name values ≡ true → check_with values ≡ None
@@ -130,27 +131,27 @@ module _ {Z : Type 0} (words : List (String Z)) where
         → command ≡ unwrap_or (check_with (first_value (found_of m))) Usage
         → command ≡ command_by check_form check_of texts
     check_found same =
-        found check_app built texts model_name check_form check_of check_with
+        found check_app built texts model_name model_name check_form check_of check_with
         (check_agrees texts (all_utf8 words)) (check_words texts) no_model same given told
 
     pub check_refused : built ≡ check_app → given ≡ None
         → Usage ≡ command_by check_form check_of texts
     check_refused same =
-        none_found check_app built texts model_name check_form check_of check_with
+        none_found check_app built texts model_name model_name check_form check_of check_with
         (check_agrees texts (all_utf8 words)) (check_words texts) no_model same given told
 
     pub recheck_found : built ≡ files_app (codes "recheck") → (m : ArgMatches) (command : Command)
         → given ≡ Some m → command ≡ unwrap_or (recheck_with (first_value (found_of m))) Usage
         → command ≡ command_by limit_form recheck_of texts
     recheck_found same =
-        found (files_app (codes "recheck")) built texts file_names limit_form recheck_of recheck_with
+        found (files_app (codes "recheck")) built texts file_names file_names limit_form recheck_of recheck_with
         (files_agrees (codes "recheck") texts (all_utf8 words)) (recheck_words texts) no_files same given
         told
 
     pub recheck_refused : built ≡ files_app (codes "recheck") → given ≡ None
         → Usage ≡ command_by limit_form recheck_of texts
     recheck_refused same =
-        none_found (files_app (codes "recheck")) built texts file_names limit_form recheck_of recheck_with
+        none_found (files_app (codes "recheck")) built texts file_names file_names limit_form recheck_of recheck_with
         (files_agrees (codes "recheck") texts (all_utf8 words)) (recheck_words texts) no_files same given
         told
 
@@ -158,14 +159,14 @@ module _ {Z : Type 0} (words : List (String Z)) where
         → given ≡ Some m → command ≡ unwrap_or (replay_with (first_value (found_of m))) Usage
         → command ≡ command_by limit_form replay_of texts
     replay_found same =
-        found (files_app (codes "replay")) built texts file_names limit_form replay_of replay_with
+        found (files_app (codes "replay")) built texts file_names file_names limit_form replay_of replay_with
         (files_agrees (codes "replay") texts (all_utf8 words)) (replay_words texts) no_trace same given
         told
 
     pub replay_refused : built ≡ files_app (codes "replay") → given ≡ None
         → Usage ≡ command_by limit_form replay_of texts
     replay_refused same =
-        none_found (files_app (codes "replay")) built texts file_names limit_form replay_of replay_with
+        none_found (files_app (codes "replay")) built texts file_names file_names limit_form replay_of replay_with
         (files_agrees (codes "replay") texts (all_utf8 words)) (replay_words texts) no_trace same given
         told
 
@@ -173,14 +174,27 @@ module _ {Z : Type 0} (words : List (String Z)) where
         → command ≡ unwrap_or (delay_with (first_value (found_of m))) Usage
         → command ≡ command_by limit_form delay_of texts
     delay_found same =
-        found delay_app built texts delay_names limit_form delay_of delay_with
+        found delay_app built texts delay_names delay_names limit_form delay_of delay_with
         (delay_agrees texts (all_utf8 words)) (delay_words texts) no_delay same given told
 
     pub delay_refused : built ≡ delay_app → given ≡ None
         → Usage ≡ command_by limit_form delay_of texts
     delay_refused same =
-        none_found delay_app built texts delay_names limit_form delay_of delay_with
+        none_found delay_app built texts delay_names delay_names limit_form delay_of delay_with
         (delay_agrees texts (all_utf8 words)) (delay_words texts) no_delay same given told
+
+    pub strong_found : built ≡ strong_app → (m : ArgMatches) (command : Command) → given ≡ Some m
+        → command ≡ unwrap_or (strong_with (first_value (found_of m))) Usage
+        → command ≡ command_by limit_form strong_of texts
+    strong_found same =
+        found strong_app built texts model_name strong_names limit_form strong_of strong_with
+        (strong_agrees texts (all_utf8 words)) (strong_words texts) no_pairs same given told
+
+    pub strong_refused : built ≡ strong_app → given ≡ None
+        → Usage ≡ command_by limit_form strong_of texts
+    strong_refused same =
+        none_found strong_app built texts model_name strong_names limit_form strong_of strong_with
+        (strong_agrees texts (all_utf8 words)) (strong_words texts) no_pairs same given told
 
     -- the flag of `gen` is read as a text
     by_flag : (m : ArgMatches) (command : Command) (kept : Option Kept) (wanted : Option Command)

@@ -21,6 +21,7 @@ use Rattle.command_words.proofs.ClapTurns.{shape_with}
 use Rattle.command_words.proofs.ClapUses.{flag_built, operand_built}
 use Rattle.command_words.proofs.ClapAgrees.{Agrees, ends}
 use Rattle.command_words.proofs.ClapForms.{check_rules, delay_rules, files_rules, gen_rules}
+use Rattle.command_words.proofs.ClapForms.{strong_rules}
 
 -- ---- arguments without default values change nothing
 
@@ -152,6 +153,52 @@ pub delay_ending : (rows : List Row) (kept : Kept) → Has rows kept.values
     (fold with_default rows delay_rules) (Some kept)
 delay_ending =
     ending (codes "delay") delay_names delay_rules (refl, (refl, (refl, (refl, tt))))
+    (λ rows. refl)
+
+pub strong_ending : (rows : List Row) (kept : Kept) → Has rows kept.values
+    → Agrees model_name ReadsAll (ends (shape_with (codes "strong") strong_rules) rows)
+    (fold with_default rows strong_rules) (Some kept)
+strong_ending =
+    ending (codes "strong") model_name strong_rules (
+      refl,
+      (
+        refl,
+        (
+          refl,
+          (
+            refl,
+            (
+              refl,
+              (
+                refl,
+                (
+                  refl,
+                  (
+                    refl,
+                    (
+                      refl,
+                      (
+                        refl,
+                        (
+                          refl,
+                          (
+                            refl,
+                            (
+                              refl,
+                              (refl, (refl, (refl, (refl, (refl, tt))))),
+                            ),
+                          ),
+                        ),
+                      ),
+                    ),
+                  ),
+                ),
+              ),
+            ),
+          ),
+        ),
+      ),
+    )
     (λ rows. refl)
 
 -- ---- the flag of `gen`, which has a default

@@ -11,6 +11,8 @@ use Rattle.command_words.specs.Parts.{check_form, gen_form, option_or, limit_for
 use Rattle.command_words.proofs.ClapTurns.{Meets, MeetsNone, MeetsValued, MeetsJoined, MeetsFlag}
 use Rattle.command_words.proofs.ClapTurns.{MeetsUnneeded}
 use Rattle.command_words.proofs.ClapUses.{Takes, operand_built, option_built, flag_built}
+use Rattle.command_words.proofs.ClapUses.{optional_built}
+use Rattle.command_words.specs.Given.{pair_names}
 use Rattle.command_words.proofs.Kept.{KeepsAs}
 use Rattle.command_words.proofs.WordForms.{IsCut, cut, name_in, value_in}
 
@@ -28,6 +30,15 @@ abbrev pub delay_rules : List Rule
 delay_rules =
     operand_built 1 (codes "model") ∷ operand_built 2 (codes "from") ∷ operand_built 3 (codes "to")
     ∷ option_built (codes "nodes") ∷ []
+
+-- the places of `strong` for pairs
+abbrev pair_rules : ℕ → List Text → List Rule
+pair_rules place [] = []
+pair_rules place (name ∷ names) = optional_built place name ∷ pair_rules (place + 1) names
+
+abbrev pub strong_rules : List Rule
+strong_rules =
+    (operand_built 1 (codes "model") ∷ pair_rules 2 pair_names) ++ option_built (codes "nodes") ∷ []
 
 abbrev pub gen_rules : List Rule
 gen_rules = operand_built 1 (codes "number") ∷ flag_built (codes "check") ∷ []
@@ -167,6 +178,9 @@ files_met = limit_met files_rules refl refl (λ text e. rw e refl)
 
 pub delay_met : (text : Text) → Meets delay_rules limit_form text
 delay_met = limit_met delay_rules refl refl (λ text e. rw e refl)
+
+pub strong_met : (text : Text) → Meets strong_rules limit_form text
+strong_met = limit_met strong_rules refl refl (λ text e. rw e refl)
 
 -- no other text is the flag
 other_check : (text : Text) → bytes_eq (codes "check") (name_in text) ≡ false

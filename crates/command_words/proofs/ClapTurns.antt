@@ -20,7 +20,7 @@ use Rattle.command_words.specs.Parts.{Part, Form, Unknown, Whole, Valued}
 use Rattle.command_words.proofs.Kept.{KeepsAs}
 use Rattle.command_words.proofs.ClapFaults.{IsFault, first_fails}
 use Rattle.command_words.proofs.ClapRows.{same_name}
-use Rattle.command_words.proofs.ClapUses.{IsPlaced, Takes, flag_built, operand_built, option_built}
+use Rattle.command_words.proofs.ClapUses.{IsPlaced, Takes, flag_built, operand_at, option_built}
 use Rattle.command_words.proofs.WordForms.{more_chars, name_in, value_in}
 
 abbrev pub shape_with : (name : Text) → List Rule → Shape
@@ -264,8 +264,8 @@ module _ (name : Text) (rules : List Rule) where
           → step_fault shape position (held_at rows left) walking.value ≡ []
       operand_passes passed =
           subst (λ met. option_map_or (λ a. positional_fault rules false a (held_at rows left)) met
-          (stray_fault shape) ≡ []) (sym placed.0)
-          (never_both (is_pending (operand_built position id) left) []
+          (stray_fault shape) ≡ []) (sym placed.1)
+          (never_both (is_pending (operand_at position id placed.0) left) []
           (settle_fault rules false (held_at rows left)) ∙ passed)
 
       pub operand_walked : (word : Text) (is_trailing : Bool)
@@ -275,10 +275,10 @@ module _ (name : Text) (rules : List Rule) where
           (min (position + 1) usize_max) is_trailing
       operand_walked word is_trailing =
           ap (λ met. to_positional rules met word (walk_at rows left idle position is_trailing)
-          (held_at rows left)) placed.0
+          (held_at rows left)) placed.1
           ∙ ap (λ held. walk_at_held (pushed id word held) (min (position + 1) usize_max)
           (is_trailing || false))
-          (never_both (is_pending (operand_built position id) left) (held_at rows left)
+          (never_both (is_pending (operand_at position id placed.0) left) (held_at rows left)
           (settled rules (held_at rows left)))
           ∙ ap (λ t. walk_at (settled_rows rules left rows) (left_of id word) idle
           (min (position + 1) usize_max) t) (no_trailing is_trailing)
@@ -293,6 +293,6 @@ module _ (name : Text) (rules : List Rule) where
         → IsFault (step_fault shape position (held_at rows left) walking.value)
     operand_falls [] placed fault = operand_strays placed
     operand_falls (id ∷ free) placed fault =
-        subst StepFails (sym placed.0)
-        (subst IsFault (sym (never_both (is_pending (operand_built position id) left) []
+        subst StepFails (sym placed.1)
+        (subst IsFault (sym (never_both (is_pending (operand_at position id placed.0) left) []
         (settle_fault rules false (held_at rows left)))) fault)

@@ -17,8 +17,14 @@ valued name long place is_required =
 abbrev pub option_built : Text → Rule
 option_built name = valued name (Some name) None false
 
+abbrev pub operand_at : ℕ → Text → (is_required : Bool) → Rule
+operand_at place name is_required = valued name None (Some place) is_required
+
 abbrev pub operand_built : ℕ → Text → Rule
-operand_built place name = valued name None (Some place) true
+operand_built place name = operand_at place name true
+
+abbrev pub optional_built : ℕ → Text → Rule
+optional_built place name = operand_at place name false
 
 abbrev pub flag_built : Text → Rule
 flag_built name = filled (flag_rule name)
@@ -34,8 +40,8 @@ pub record Takes (rules : List Rule) (name : Text) : Type 0 where
 abbrev pub IsPlaced : List Rule → ℕ → List Text → Type 0
 IsPlaced rules place [] = arg_by_index rules place ≡ None
 IsPlaced rules place (name ∷ names) =
-    (arg_by_index rules place ≡ Some (operand_built place name))
-    × (arg_by_id rules name ≡ Some (operand_built place name))
+    (is_required : Bool) × (arg_by_index rules place ≡ Some (operand_at place name is_required))
+    × (arg_by_id rules name ≡ Some (operand_at place name is_required))
     × IsPlaced rules (min (place + 1) usize_max) names
 
 -- a first use passes, and no second one

@@ -34,7 +34,7 @@ use Rattle.command_words.proofs.ClapUses.{option_built, use_again, use_first, us
 use Rattle.command_words.proofs.WordForms.{Kind, End, Plain, Short, Long, kind_of_word, name_in}
 use Rattle.command_words.proofs.WordForms.{value_in}
 
-module _ (name : Text) (names : List Text) (rules : List Rule) (form : List ℕ → Form)
+module _ (name : Text) (needed names : List Text) (rules : List Rule) (form : List ℕ → Form)
     (Reads : List Row → Values → Type 0)
     (placed_first : IsPlaced rules 1 names)
     (no_short : (char : ℕ) → arg_by_short rules char ≡ None)
@@ -42,7 +42,7 @@ module _ (name : Text) (names : List Text) (rules : List Rule) (form : List ℕ 
     → form (45 ∷ byte ∷ bytes) ≡ Unknown)
     (meets : (byte : ℕ) (bytes : List ℕ) → Meets rules form (byte ∷ bytes))
     (ending : (rows : List Row) (kept : Kept) → Has rows kept.values
-    → Agrees names Reads (ends (shape_with name rules) rows) (fold with_default rows rules)
+    → Agrees needed Reads (ends (shape_with name rules) rows) (fold with_default rows rules)
     (Some kept)) where
   abbrev shape : Shape
   shape = shape_with name rules
@@ -77,7 +77,7 @@ module _ (name : Text) (names : List Text) (rules : List Rule) (form : List ℕ 
 
   abbrev Goes : Walk → List Text → Option Kept → Type 0
   Goes walk words kept =
-      Agrees names Reads (rest_fault shape walk words) (rest_rows shape walk words) kept
+      Agrees needed Reads (rest_fault shape walk words) (rest_rows shape walk words) kept
 
   at_end : (rows : List Row) (left : Use) (kept : Kept) (waiting : Waiting) (position : ℕ)
       (is_trailing : Bool) → Stands rows left kept.values
@@ -85,7 +85,7 @@ module _ (name : Text) (names : List Text) (rules : List Rule) (form : List ℕ 
   unfolding walk_fault
   at_end rows left kept waiting position is_trailing stands =
       let now = settled_rows rules left rows in
-      subst (λ fault. Agrees names Reads (or_else fault (ends shape now))
+      subst (λ fault. Agrees needed Reads (or_else fault (ends shape now))
       (fold with_default now rules) (Some kept)) (sym stands.0) (ending now kept stands.1)
 
   end_fails : (rows : List Row) (left : Use) (waiting : Waiting) (position : ℕ) (is_trailing : Bool)
@@ -99,13 +99,13 @@ module _ (name : Text) (names : List Text) (rules : List Rule) (form : List ℕ 
       → turn_fault shape [] walk word ≡ [] → walked rules [] walk word ≡ next
       → Goes next words kept → Goes walk (word ∷ words) kept
   passes walk next word words kept none same rest =
-      subst (λ fault. Agrees names Reads fault (rest_rows shape walk (word ∷ words)) kept)
+      subst (λ fault. Agrees needed Reads fault (rest_rows shape walk (word ∷ words)) kept)
       (sym (word_more shape walk word words
       ∙ ap (λ turn. or_else turn (rest_fault shape (walked rules [] walk word) words)) none))
       (subst (λ w. Goes w words kept) (sym same) rest)
 
   fails : (fault : Kinds) (rows : List Row) (kept : Option Kept) → IsFault fault
-      → HasNone names kept → Agrees names Reads fault rows kept
+      → HasNone needed kept → Agrees needed Reads fault rows kept
   fails [] rows kept is none = absurd is
   fails (kind ∷ kinds) rows kept is none = none
 
@@ -212,8 +212,8 @@ module _ (name : Text) (names : List Text) (rules : List Rule) (form : List ℕ 
       ∙ operand_walked name rules rows left position id free placed word true)
       (noted words true (λ free values. keep_all free values (map Operand words)) rest
       (λ rows left position free. trail_falls words rows left idle position free)
-      now free values (min (position + 1) usize_max) id word stands.1 placed.2
-      (record { long = None; place = Some position; is_required = true; is = placed.1 }) (values id)
+      now free values (min (position + 1) usize_max) id word stands.1 placed.3
+      (record { long = None; place = Some position; is_required = placed.0; is = placed.2 }) (values id)
       refl)
 
   trail : (words : List Text) → IsTrailed words
@@ -273,7 +273,7 @@ module _ (name : Text) (names : List Text) (rules : List Rule) (form : List ℕ 
         → Goes start (dashed ∷ words) (keep_parts free values (parts_of form (dashed ∷ words)))
     refused_word e fault =
         fails _ _ _ (turn_fails start dashed words fault)
-        (subst (HasNone names) (sym (option_kept free values byte bytes words Unknown e)) tt)
+        (subst (HasNone needed) (sym (option_kept free values byte bytes words Unknown e)) tt)
 
     valued_word : (id : Text) (part : Text → Part)
         → ((value : Text) → KeepsAs (part value) id value)
@@ -328,7 +328,7 @@ module _ (name : Text) (names : List Text) (rules : List Rule) (form : List ℕ 
           fails _ _ _ (turn_fails start dashed words
           (subst IsFault (sym (option_turn name rules rows left position byte bytes (Some built)
           attached f g)) fault))
-          (subst (HasNone names) (sym (whole_kept (Some first) old)) tt)
+          (subst (HasNone needed) (sym (whole_kept (Some first) old)) tt)
 
     -- an option whose use follows the one that is still to be noted
     both_pass : (fault : Kinds) → Stands rows left values → fault ≡ []
@@ -411,7 +411,7 @@ module _ (name : Text) (names : List Text) (rules : List Rule) (form : List ℕ 
         fails _ _ _ (turn_fails (walk_at rows left idle position false) word words
         (subst IsFault (sym (plain_turn name rules word other no_long no_bundle rows position left))
         (operand_strays name rules rows left position placed)))
-        (subst (HasNone names) (sym (plain_kept [] values)) tt)
+        (subst (HasNone needed) (sym (plain_kept [] values)) tt)
     plain_word rows left (id ∷ free) values position stands placed =
         let now = settled_rows rules left rows in
         subst (Goes (walk_at rows left idle position false) (word ∷ words))
@@ -424,8 +424,8 @@ module _ (name : Text) (names : List Text) (rules : List Rule) (form : List ℕ 
         (plain_walked name rules word other no_long no_bundle rows position left
         ∙ operand_walked name rules rows left position id free placed word false)
         (noted_before words utf8 rest now free values (min (position + 1) usize_max) id word
-        stands.1 placed.2
-        (record { long = None; place = Some position; is_required = true; is = placed.1 })))
+        stands.1 placed.3
+        (record { long = None; place = Some position; is_required = placed.0; is = placed.2 })))
 
     value_word : (rows : List Row) (free : List Text) (values : Values) (position : ℕ) (id : Text)
         (part : Text → Part)
@@ -452,9 +452,9 @@ module _ (name : Text) (names : List Text) (rules : List Rule) (form : List ℕ 
 
   short_kept : (free : List Text) (values : Values) (byte : ℕ) (bytes : List ℕ) (words : List Text)
       → (byte == 45) ≡ false
-      → HasNone names (keep_parts free values (parts_of form ((45 ∷ byte ∷ bytes) ∷ words)))
+      → HasNone needed (keep_parts free values (parts_of form ((45 ∷ byte ∷ bytes) ∷ words)))
   short_kept free values byte bytes words other =
-      subst (λ parts. HasNone names (keep_parts free values parts)) (sym none) tt
+      subst (λ parts. HasNone needed (keep_parts free values parts)) (sym none) tt
     where
       none : parts_of form ((45 ∷ byte ∷ bytes) ∷ words) ≡ None
       none = rw (other, short_form byte bytes other) refl
@@ -498,7 +498,7 @@ module _ (name : Text) (names : List Text) (rules : List Rule) (form : List ℕ 
         → Goes waiting (word ∷ words) (keep_parts free values
         (parts_valued form (word ∷ words) part))
     other_word word words dash fault =
-        fails _ _ _ fault (subst (λ parts. HasNone names (keep_parts free values parts)) (sym none)
+        fails _ _ _ fault (subst (λ parts. HasNone needed (keep_parts free values parts)) (sym none)
         tt)
       where
         none : parts_valued form (word ∷ words) part ≡ None
@@ -557,6 +557,6 @@ module _ (name : Text) (names : List Text) (rules : List Rule) (form : List ℕ 
 
   -- what clap finds in the words is what is kept of their parts
   pub agrees : (words : List Text) → AllUtf8 words
-      → Agrees names Reads (level_fault shape [] nothing_held words false [])
+      → Agrees needed Reads (level_fault shape [] nothing_held words false [])
       (rows_after rules [] words) (keep_parts names nothing (parts_of form words))
   agrees words utf8 = read words utf8 [] None names nothing 1 (refl, nothing_found) placed_first

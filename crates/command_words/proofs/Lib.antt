@@ -12,6 +12,7 @@ mod Commands
 mod Kept
 mod Limited
 mod Numbers
+mod PairWords
 mod PartKinds
 mod Ranges
 mod WordForms

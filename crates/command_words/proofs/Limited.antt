@@ -1,19 +1,23 @@
 -- Commands whose one option is `--nodes`, by what is kept of their parts.
 use Rattle.std.proofs.Common.{◌≡◌, ◌∙◌, ℕ, suc, Bool, true, false, List, [], ◌∷◌, ◌++◌, codes}
 use Rattle.std.proofs.Common.{◌<◌, length, bytes_eq, Option, Some, None, IfSome, refl, sym, ap}
-use Rattle.std.proofs.Common.{subst, arith}
+use Rattle.std.proofs.lemmas.Bool.{le-leb, lt-leb}
+use Rattle.std.proofs.Common.{◌≤◌, if◌then◌else◌, ◌&&◌, not, nat_le, subst, arith}
 use Rattle.std.specs.Option.{option_map, option_and_then}
 use Rattle.std.proofs.lemmas.List.{append-nil, append_assoc, length-append}
 use Rattle.command_words.specs.Given.{Values, list_of, limited_with, operands_with, with_words}
 use Rattle.command_words.specs.Given.{file_names, delay_names, recheck_with, replay_with}
-use Rattle.command_words.specs.Given.{delay_with}
+use Rattle.command_words.specs.Given.{delay_with, pair_names, strong_lists, strong_names, strong_with}
 use Rattle.command_words.specs.Parts.{Part, Operand, Nodes, Proof, Check, limit_form, parts_of}
 use Rattle.command_words.specs.Parts.{operands, limits}
 use Rattle.command_words.specs.Words.{Command, limited_lists, limited_of, only_limit, two_files}
 use Rattle.command_words.specs.Words.{file_and_specs, recheck_of, recheck_work, delay_of}
-use Rattle.command_words.specs.Words.{delay_work, replay_of, replay_work}
+use Rattle.command_words.specs.Words.{delay_work, file_and_pairs, replay_of, replay_work}
+use Rattle.command_words.specs.Words.{File, Strong, spec_pairs, strong_of, strong_work, work_on}
 use Rattle.command_words.proofs.PartKinds.{Every, IsOfLimited, parts_of_limited}
-use Rattle.command_words.proofs.Kept.{Kept, keep_all, keep_parts, nothing, put, wants}
+use Rattle.command_words.proofs.Kept.{keep_all, keep_parts, model_name, nothing, put}
+use Rattle.command_words.proofs.Kept.{wants}
+use Rattle.command_words.proofs.ClapRows.{same_name}
 
 -- ---- operands by their names
 
@@ -29,6 +33,43 @@ AreNames [] = Unit {0}
 AreNames (name ∷ names) =
     (bytes_eq name name ≡ true) × AreOthers (codes "nodes") (name ∷ []) × AreOthers name names
     × AreNames names
+
+abbrev are_others : List ℕ → List (List ℕ) → Bool
+are_others name [] = true
+are_others name (other ∷ names) =
+    not (bytes_eq name other) && (not (bytes_eq other name) && are_others name names)
+
+abbrev are_names : List (List ℕ) → Bool
+are_names [] = true
+are_names (name ∷ names) =
+    are_others (codes "nodes") (name ∷ []) && (are_others name names && are_names names)
+
+both : (a b : Bool) → (a && b) ≡ true → (a ≡ true) × (b ≡ true)
+both true b e = (refl, e)
+both false b e = let bad : false ≡ true = e in cc
+
+is_not : (b : Bool) → not b ≡ true → b ≡ false
+is_not true e = let bad : false ≡ true = e in cc
+is_not false e = refl
+
+others_by : (name : List ℕ) (names : List (List ℕ)) → are_others name names ≡ true
+    → AreOthers name names
+others_by name [] e = tt
+others_by name (other ∷ names) e =
+    let first = both (not (bytes_eq name other)) _ e in
+    let next = both (not (bytes_eq other name)) _ first.1 in
+    (is_not _ first.0, is_not _ next.0, others_by name names next.1)
+
+names_by : (names : List (List ℕ)) → are_names names ≡ true → AreNames names
+names_by [] e = tt
+names_by (name ∷ names) e =
+    let first = both (are_others (codes "nodes") (name ∷ [])) _ e in
+    let next = both (are_others name names) _ first.1 in (
+      same_name name,
+      others_by (codes "nodes") (name ∷ []) first.0,
+      others_by name names next.0,
+      names_by names next.1,
+    )
 
 -- no word is given for any of these operands
 abbrev AreFree : List (List ℕ) → Values → Type 0
@@ -127,10 +168,10 @@ fewer (name ∷ names) values wanted = go (fewer names values) (values name) ref
 
 -- ---- from what is kept so far and the parts to come
 
--- the command reads as many operands as there are names
+-- the command reads no more operands than there are names
 module _ {A : Type 0} (names : List (List ℕ)) (named : AreNames names)
     (read : List (List ℕ) → Option A) (make : A → ℕ → Command)
-    (counts : (words : List (List ℕ)) → (length words ≡ length names → ⊥) → read words ≡ None) where
+    (most : (words : List (List ℕ)) → length names < length words → read words ≡ None) where
   abbrev IsLimited : (words free : List (List ℕ)) → Values → List Part → Type 0
   IsLimited words free values parts =
       limited_lists read make (words ++ operands parts)
@@ -139,10 +180,10 @@ module _ {A : Type 0} (names : List (List ℕ)) (named : AreNames names)
       (keep_all free values parts)
 
   longer : (words : List (List ℕ)) (word : List ℕ) (more : List (List ℕ))
-      → length words ≡ length names → length (words ++ word ∷ more) ≡ length names → ⊥
-  longer words word more all is =
+      → length words ≡ length names → length names < length (words ++ word ∷ more)
+  longer words word more all =
       let sum = length-append words (word ∷ more) in
-      omega (sum, all, is, arith)
+      omega (sum, all, arith)
 
   two_limits : (asked : Option A) (first second : List ℕ) (limits : List (List ℕ))
       → option_and_then (λ one. option_map (make one) (only_limit (first ∷ second ∷ limits))) asked
@@ -181,7 +222,7 @@ module _ {A : Type 0} (names : List (List ℕ)) (named : AreNames names)
   limited_from words [] values done empty (Operand word ∷ parts) all =
       ap (option_and_then (λ one. option_map (make one)
       (only_limit (list_of (values (codes "nodes")) ++ limits parts))))
-      (counts (words ++ word ∷ operands parts)
+      (most (words ++ word ∷ operands parts)
       (longer words word (operands parts) (all_done names values words done)))
   limited_from words (name ∷ free) values done empty (Operand word ∷ parts) all =
       let free_named = free_names names values words (name ∷ free) named done in
@@ -197,17 +238,6 @@ module _ {A : Type 0} (names : List (List ℕ)) (named : AreNames names)
       parts all.1) (values (codes "nodes")) refl
   limited_from words free values done empty (Proof name ∷ parts) all = absurd all.0
   limited_from words free values done empty (Check ∷ parts) all = absurd all.0
-
-  -- no command wants an operand
-  none_wanted : (values : Values) → wants names values ≡ true
-      → limited_with names read make values ≡ None
-  none_wanted values wanted =
-      ap (option_and_then (λ one. option_map (make one)
-      (only_limit (list_of (values (codes "nodes"))))))
-      (counts (operands_with names values) (λ is.
-      let few = fewer names values wanted in
-      let bad : ⊥ = omega (few, is, arith) in
-      bad))
 
   none_free : (free : List (List ℕ)) → AreFree free nothing
   none_free [] = tt
@@ -227,6 +257,30 @@ module _ {A : Type 0} (names : List (List ℕ)) (named : AreNames names)
       go None all = refl
       go (Some parts) all =
           sym (limited_from [] names nothing refl (none_free names) parts all)
+
+-- the command reads as many operands as there are names
+module _ {A : Type 0} (names : List (List ℕ)) (named : AreNames names)
+    (read : List (List ℕ) → Option A) (make : A → ℕ → Command)
+    (counts : (words : List (List ℕ)) → (length words ≡ length names → ⊥) → read words ≡ None) where
+  counted_words : (words : List (List ℕ))
+      → option_and_then (λ kept. limited_with names read make kept.values)
+      (keep_parts names nothing (parts_of limit_form words))
+      ≡ option_and_then (limited_of read make) (parts_of limit_form words)
+  counted_words =
+      limited_words names named read make (λ words many. counts words (λ is.
+      let bad : ⊥ = omega (many, is, arith) in
+      bad))
+
+  -- no command wants an operand
+  none_wanted : (values : Values) → wants names values ≡ true
+      → limited_with names read make values ≡ None
+  none_wanted values wanted =
+      ap (option_and_then (λ one. option_map (make one)
+      (only_limit (list_of (values (codes "nodes"))))))
+      (counts (operands_with names values) (λ is.
+      let few = fewer names values wanted in
+      let bad : ⊥ = omega (few, is, arith) in
+      bad))
 
 -- ---- each command
 
@@ -248,21 +302,27 @@ word_count ((byte ∷ one) ∷ two ∷ three ∷ []) other = absurd (other refl)
 word_count ((byte ∷ one) ∷ two ∷ three ∷ four ∷ words) other = refl
 
 file_named : AreNames file_names
-file_named = (refl, (refl, refl, tt), (refl, refl, tt), (refl, (refl, refl, tt), tt, tt))
+file_named = names_by file_names refl
 
 delay_named : AreNames delay_names
-delay_named = (
-  refl,
-  (refl, refl, tt),
-  (refl, refl, (refl, refl, tt)),
-  (refl, (refl, refl, tt), (refl, refl, tt), (refl, (refl, refl, tt), tt, tt)),
-)
+delay_named = names_by delay_names refl
+
+strong_named : AreNames strong_names
+strong_named = names_by strong_names refl
+
+-- no more than 16 pairs
+pairs_most : (words : List (List ℕ)) → 17 < length words → file_and_pairs words ≡ None
+pairs_most [] many = absurd (omega (many, arith))
+pairs_most ([] ∷ words) many = refl
+pairs_most ((byte ∷ model) ∷ words) many =
+    let other : nat_le (length words) 16 ≡ false = lt-leb (length words) 16 (omega (many, arith)) in
+    rw other refl
 
 pub recheck_words : (words : List (List ℕ))
     → option_and_then (λ kept. recheck_with kept.values)
     (keep_parts file_names nothing (parts_of limit_form words))
     ≡ option_and_then recheck_of (parts_of limit_form words)
-recheck_words = limited_words file_names file_named two_files recheck_work file_count
+recheck_words = counted_words file_names file_named two_files recheck_work file_count
 
 pub no_files : (values : Values) → wants file_names values ≡ true → recheck_with values ≡ None
 no_files = none_wanted file_names file_named two_files recheck_work file_count
@@ -271,7 +331,7 @@ pub replay_words : (words : List (List ℕ))
     → option_and_then (λ kept. replay_with kept.values)
     (keep_parts file_names nothing (parts_of limit_form words))
     ≡ option_and_then replay_of (parts_of limit_form words)
-replay_words = limited_words file_names file_named two_files replay_work file_count
+replay_words = counted_words file_names file_named two_files replay_work file_count
 
 pub no_trace : (values : Values) → wants file_names values ≡ true → replay_with values ≡ None
 no_trace = none_wanted file_names file_named two_files replay_work file_count
@@ -280,7 +340,67 @@ pub delay_words : (words : List (List ℕ))
     → option_and_then (λ kept. delay_with kept.values)
     (keep_parts delay_names nothing (parts_of limit_form words))
     ≡ option_and_then delay_of (parts_of limit_form words)
-delay_words = limited_words delay_names delay_named file_and_specs delay_work word_count
+delay_words = counted_words delay_names delay_named file_and_specs delay_work word_count
 
 pub no_delay : (values : Values) → wants delay_names values ≡ true → delay_with values ≡ None
 no_delay = none_wanted delay_names delay_named file_and_specs delay_work word_count
+
+-- the pairs are no more than their names
+no_more : (names : List (List ℕ)) (values : Values)
+    → length (operands_with names values) ≤ length names
+no_more [] values = omega arith
+no_more (name ∷ names) values = go (values name) (no_more names values)
+  where
+    go : (value : Option (List ℕ)) → length (operands_with names values) ≤ length names
+        → length (with_words value (operands_with names values)) ≤ suc (length names)
+    go None fits = omega arith
+    go (Some word) fits = omega (fits, arith)
+
+strong_same : (values : Values)
+    → limited_with strong_names file_and_pairs strong_work values ≡ strong_with values
+strong_same values = go (values (codes "model"))
+  where
+    words : List (List ℕ)
+    words = operands_with pair_names values
+
+    limits : List (List ℕ)
+    limits = list_of (values (codes "nodes"))
+
+    few : nat_le (length words) 16 ≡ true
+    few = le-leb (length words) 16 (no_more pair_names values)
+
+    by_pairs : (model : List ℕ) (pairs : Option (List (ℕ × ℕ)))
+        → option_and_then (λ asked. option_map (strong_work asked) (only_limit limits))
+        (option_map (λ all. (model, all)) pairs)
+        ≡ option_and_then (λ all. option_map
+        (λ limit. work_on (File model) limit (Strong all)) (only_limit limits)) pairs
+    by_pairs model None = refl
+    by_pairs model (Some all) = refl
+
+    go : (model : Option (List ℕ))
+        → limited_lists file_and_pairs strong_work (with_words model words) limits
+        ≡ strong_lists (list_of model) words limits
+    go None = refl
+    go (Some []) = refl
+    go (Some (byte ∷ model)) =
+        ap (λ fits. option_and_then
+        (λ asked. option_map (strong_work asked) (only_limit limits))
+        (if fits then option_map (λ all. (byte ∷ model, all)) (spec_pairs words) else None)) few
+        ∙ by_pairs (byte ∷ model) (spec_pairs words)
+
+pub strong_words : (words : List (List ℕ))
+    → option_and_then (λ kept. strong_with kept.values)
+    (keep_parts strong_names nothing (parts_of limit_form words))
+    ≡ option_and_then strong_of (parts_of limit_form words)
+strong_words words =
+    ap (λ (of : Values → Option Command). option_and_then (λ kept. of kept.values)
+    (keep_parts strong_names nothing (parts_of limit_form words)))
+    (sym (λ i values. strong_same values i))
+    ∙ limited_words strong_names strong_named file_and_pairs strong_work pairs_most words
+
+pub no_pairs : (values : Values) → wants model_name values ≡ true → strong_with values ≡ None
+no_pairs values wanted = go (values (codes "model")) refl
+  where
+    go : (model : Option (List ℕ)) → values (codes "model") ≡ model → strong_with values ≡ None
+    go None e = rw e refl
+    go (Some model) e = let bad : false ≡ true = rw e at wanted in cc

@@ -9,7 +9,8 @@ use Rattle.command_words.specs.Words.{Command, Usage, Print, File, Ring, Decide,
 use Rattle.command_words.specs.Words.{usual_limit, only_file, only_number, only_limit, only_proofs}
 use Rattle.command_words.specs.Words.{two_files, file_and_specs, at_most_once, check_of, gen_of}
 use Rattle.command_words.specs.Words.{recheck_of, recheck_work, delay_of, delay_work, command_by}
-use Rattle.command_words.specs.Words.{HasLimits, HasRing, replay_of, replay_work}
+use Rattle.command_words.specs.Words.{HasLimits, HasRing, file_and_pairs, replay_of, replay_work}
+use Rattle.command_words.specs.Words.{strong_of, strong_work}
 use Rattle.command_words.proofs.Numbers.{number_is_decimal}
 
 abbrev InRange : ℕ → Type 0
@@ -103,6 +104,12 @@ pub delay_limits : (words : List (List ℕ)) → HasLimits (command_by limit_for
 delay_limits =
     of_parts delay_of (λ parts. of_limited delay_work (λ asked limit told. (tt, told.0, told.1))
     (file_and_specs (operands parts)) (only_limit (limits parts)) (of_limit (limits parts)))
+    limit_form
+
+pub strong_limits : (words : List (List ℕ)) → HasLimits (command_by limit_form strong_of words)
+strong_limits =
+    of_parts strong_of (λ parts. of_limited strong_work (λ asked limit told. (tt, told.0, told.1))
+    (file_and_pairs (operands parts)) (only_limit (limits parts)) (of_limit (limits parts)))
     limit_form
 
 pub gen_limits : (words : List (List ℕ)) → HasLimits (command_by gen_form gen_of words)

@@ -1,18 +1,26 @@
 -- What clap is told of each command, and what the words are by what it finds. Devices of the proof.
 use Rattle.std.specs.Prelude.{ℕ, Bool, true, List, [], ◌∷◌, Option, Some, None, codes}
-use Rattle.std.specs.Prelude.{if◌then◌else◌}
+use Rattle.std.specs.Prelude.{if◌then◌else◌, fold}
 use Rattle.std.specs.Option.{option_map, option_and_then}
 use Rattle.clap.specs.Words.{App, Rule, new_app, new_rule, with_rule}
 use Rattle.clap.specs.Simple.{on_top}
 use Rattle.clap.specs.declared.builder.action.ArgAction.TheVariants.{Set, SetTrue}
 use Rattle.command_words.specs.Words.{Command, Print, File, Ring, Decide, work_on, usual_limit}
 use Rattle.command_words.specs.Words.{only_file, two_files, file_and_specs, only_number}
+use Rattle.command_words.specs.Words.{Strong, spec_pairs}
 use Rattle.command_words.specs.Words.{only_limit, only_proofs, limited_lists, recheck_work}
 use Rattle.command_words.specs.Words.{delay_work, replay_work}
 
 -- an operand of this name
 abbrev pub operand_rule : List ℕ → Rule
 operand_rule name = record (new_rule name) { required = true; action = Some Set }
+
+-- an operand of this name, which may be missing
+abbrev pub optional_rule : List ℕ → Rule
+optional_rule name = record (new_rule name) { action = Some Set }
+
+abbrev pub with_optional : App → List ℕ → App
+with_optional app name = with_rule app (optional_rule name)
 
 -- the option of this name, which has a value
 abbrev pub option_rule : List ℕ → Rule
@@ -46,6 +54,19 @@ delay_app =
     (operand_rule (codes "model")))
     (operand_rule (codes "from")))
     (operand_rule (codes "to")))
+    (option_rule (codes "nodes"))
+
+-- the operands of `strong` that may be missing
+abbrev pub pair_names : List (List ℕ)
+pair_names =
+    codes "pair1" ∷ codes "pair2" ∷ codes "pair3" ∷ codes "pair4" ∷ codes "pair5" ∷ codes "pair6"
+    ∷ codes "pair7" ∷ codes "pair8" ∷ codes "pair9" ∷ codes "pair10" ∷ codes "pair11"
+    ∷ codes "pair12" ∷ codes "pair13" ∷ codes "pair14" ∷ codes "pair15" ∷ codes "pair16" ∷ []
+
+abbrev pub strong_app : App
+strong_app =
+    with_rule (fold with_optional
+    (with_rule (bare_app (codes "strong")) (operand_rule (codes "model"))) pair_names)
     (option_rule (codes "nodes"))
 
 abbrev pub gen_app : App
@@ -111,6 +132,23 @@ replay_with = limited_with file_names two_files replay_work
 
 abbrev pub delay_with : Values → Option Command
 delay_with = limited_with delay_names file_and_specs delay_work
+
+abbrev pub strong_names : List (List ℕ)
+strong_names = codes "model" ∷ pair_names
+
+-- the command `strong` with these operands, and values of `--nodes`
+abbrev pub strong_lists : (models words limits : List (List ℕ)) → Option Command
+strong_lists models words limits =
+    option_and_then (λ model. option_and_then (λ pairs. option_map (λ limit.
+    work_on (File model) limit (Strong pairs))
+    (only_limit limits))
+    (spec_pairs words))
+    (only_file models)
+
+abbrev pub strong_with : Values → Option Command
+strong_with values =
+    strong_lists (list_of (values (codes "model"))) (operands_with pair_names values)
+    (list_of (values (codes "nodes")))
 
 -- the command `gen` with this operand, where `--check` stands or not
 abbrev pub gen_with : Values → Bool → Option Command

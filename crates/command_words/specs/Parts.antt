@@ -37,7 +37,7 @@ abbrev pub check_form : List ℕ → Form
 check_form word =
     option_or (codes "--nodes") Nodes (option_or (codes "--proof") Proof Unknown word) word
 
--- The options of `recheck`, `delay` and `replay`: `--nodes N` and `--nodes=N`.
+-- The options of `recheck`, `delay`, `replay` and `strong`: `--nodes N` and `--nodes=N`.
 abbrev pub limit_form : List ℕ → Form
 limit_form word = option_or (codes "--nodes") Nodes Unknown word
 

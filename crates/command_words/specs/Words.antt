@@ -1,6 +1,8 @@
 -- What the words of a command line ask for.
 use Rattle.std.specs.Prelude.{ℕ, zero, suc, ◌<◌, ◌≤◌, ◌^◌, Bool, true, false, List, [], ◌∷◌}
-use Rattle.std.specs.Prelude.{Option, Some, None, if◌then◌else◌, bytes_eq, codes, unwrap_or}
+use Rattle.std.specs.Prelude.{Option, Some, None, if◌then◌else◌, ◌==◌, bytes_eq, codes, length}
+use Rattle.std.specs.Prelude.{nat_le, unwrap_or}
+use Rattle.std.specs.List.{after_first, before_first}
 use Rattle.std.specs.Option.{option_map, option_and_then}
 use Rattle.command_words.specs.Number.{number_of}
 use Rattle.command_words.specs.Parts.{Part, Form, check_form, gen_form, limit_form, parts_of}
@@ -24,6 +26,9 @@ pub data Job : Type 0 where
   Delay : (from to : ℕ) → Job
   -- judge the trace file of this name
   Replay : (trace : List ℕ) → Job
+  -- find a strong path for these pairs of specifications, which are told by their numbers, counted
+  -- from 1
+  Strong : (pairs : List (ℕ × ℕ)) → Job
 
 pub record Work : Type 0 where
   pub source : Source
@@ -56,6 +61,9 @@ abbrev pub two_files : List (List ℕ) → Option (List ℕ × List ℕ)
 two_files ((byte ∷ model) ∷ (first ∷ second) ∷ []) = Some (byte ∷ model, first ∷ second)
 two_files names = None
 
+abbrev pub is_colon : ℕ → Bool
+is_colon byte = byte == 58
+
 -- the number of a specification, as the word writes it
 abbrev pub spec_number : List ℕ → Option ℕ
 spec_number = number_of 256
@@ -74,6 +82,26 @@ file_and_specs ((byte ∷ model) ∷ from ∷ to ∷ []) =
     (spec_number to))
     (spec_number from)
 file_and_specs words = None
+
+-- the pair of the numbers that the word writes, with a colon between them
+abbrev pub spec_pair : List ℕ → Option (ℕ × ℕ)
+spec_pair word =
+    option_and_then (λ p. option_map (λ q. (p, q)) (spec_number (after_first is_colon word)))
+    (spec_number (before_first is_colon word))
+
+-- the pairs that the words write, where each of them writes one
+abbrev pub spec_pairs : List (List ℕ) → Option (List (ℕ × ℕ))
+spec_pairs [] = Some []
+spec_pairs (word ∷ words) =
+    option_and_then (λ pair. option_map (λ pairs. pair ∷ pairs) (spec_pairs words))
+    (spec_pair word)
+
+-- the operands, which name a model's file and at most 16 pairs of specifications
+abbrev pub file_and_pairs : List (List ℕ) → Option (List ℕ × List (ℕ × ℕ))
+file_and_pairs ((byte ∷ model) ∷ words) =
+    if nat_le (length words) 16 then option_map (λ pairs. (byte ∷ model, pairs)) (spec_pairs words)
+    else None
+file_and_pairs words = None
 
 -- the one operand, which is a number of processes
 abbrev pub only_number : List (List ℕ) → Option ℕ
@@ -141,6 +169,13 @@ delay_work asked limit = work_on (File asked.file) limit (Delay asked.from asked
 abbrev pub delay_of : List Part → Option Command
 delay_of = limited_of file_and_specs delay_work
 
+abbrev pub strong_work : List ℕ × List (ℕ × ℕ) → ℕ → Command
+strong_work asked limit = work_on (File asked.0) limit (Strong asked.1)
+
+-- `strong MODEL [PAIR]... [--nodes N]`
+abbrev pub strong_of : List Part → Option Command
+strong_of = limited_of file_and_pairs strong_work
+
 -- `gen N [--check]`
 abbrev pub gen_of : List Part → Option Command
 gen_of parts =
@@ -162,6 +197,7 @@ command_of (word ∷ words) =
     else if bytes_eq word (codes "recheck") then command_by limit_form recheck_of words
     else if bytes_eq word (codes "delay") then command_by limit_form delay_of words
     else if bytes_eq word (codes "replay") then command_by limit_form replay_of words
+    else if bytes_eq word (codes "strong") then command_by limit_form strong_of words
     else Usage
 
 -- there is a ring of n processes

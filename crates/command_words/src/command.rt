@@ -5,9 +5,11 @@ ghost use Rattle.command_words.specs.Asked.{asked};
 
 use crate::check::read_check;
 use crate::delay::read_delay;
+use crate::pairs::SpecPairs;
 use crate::recheck::read_recheck;
 use crate::replay::read_replay;
 use crate::ring::read_gen;
+use crate::strong::read_strong;
 use std::alloc::{AllocError, Global};
 
 /// What the words of a command line ask for.
@@ -50,6 +52,9 @@ pub enum Job<'a> {
     Delay { from: u32, to: u32 },
     /// Judge the trace file of this name.
     Replay { trace: &'a str },
+    /// Find a fair path from an initial state that meets each pair of specifications, as a promise of strong fairness:
+    /// if the first holds again and again, so does the second.
+    Strong { pairs: SpecPairs },
 }
 
 /// The command that the words after the program's name are.
@@ -59,6 +64,8 @@ pub enum Job<'a> {
 /// - `recheck MODEL PROOF [--nodes N]`, with N as for `check`
 /// - `delay MODEL FROM TO [--nodes N]`, with FROM and TO from 1 to 256, and N as for `check`
 /// - `replay MODEL TRACE [--nodes N]`, with N as for `check`
+/// - `strong MODEL [PAIR]... [--nodes N]`, with at most 16 words `I:J`, where I and J are from 1 to
+///   256, and N as for `check`
 /// - `gen N [--check]`, with N from 1 to 999
 ///
 /// Options and operands mix freely, `--nodes=N` is the same as `--nodes N`, and behind a word `--`
@@ -78,6 +85,7 @@ pub fn read_words(alloc: Global, words: &[String]) -> Result<Command<'_>, AllocE
         "recheck" => read_recheck(alloc, rest),
         "delay" => read_delay(alloc, rest),
         "replay" => read_replay(alloc, rest),
+        "strong" => read_strong(alloc, rest),
         _ => Ok(Command::Usage),
     }
 }

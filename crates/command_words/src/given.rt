@@ -6,9 +6,9 @@ ghost use Rattle.clap.specs.Words.{matches_of, rows_of, rule_of};
 ghost use Rattle.std.specs.Option.{option_and_then};
 ghost use Rattle.command_words.specs.Words.{only_file, spec_number};
 ghost use Rattle.command_words.specs.Given.{bare_app, files_app, flag_rule, limit_with, list_of};
-ghost use Rattle.command_words.specs.Given.{operand_rule, option_rule};
+ghost use Rattle.command_words.specs.Given.{operand_rule, option_rule, optional_rule};
 
-use crate::number::read_number;
+use crate::number::{MOST_SPECS, read_number};
 use clap::error::ErrorKind;
 use clap::{Arg, ArgAction, ArgMatches};
 use std::alloc::{AllocError, Global};
@@ -16,9 +16,6 @@ use std::alloc::{AllocError, Global};
 pub(crate) const USUAL_LIMIT: u32 = 1_000_000;
 
 const GREATEST_LIMIT: u32 = 2_147_483_647;
-
-// As many specifications as a model has at most.
-const MOST_SPECS: u32 = 256;
 
 // What is given to this command. None where its words are refused.
 pub(crate) fn given<'a>(
@@ -54,6 +51,14 @@ pub(crate) fn operand<'a>(alloc: Global, name: &'a str) -> Arg<'a>
     ensures local { result.global ≡ false }
 {
     Arg::new(alloc, name).required(true).action(ArgAction::Set)
+}
+
+// An operand, which may be missing.
+pub(crate) fn optional<'a>(alloc: Global, name: &'a str) -> Arg<'a>
+    ensures rule { rule_of result ≡ optional_rule name.now }
+    ensures local { result.global ≡ false }
+{
+    Arg::new(alloc, name).action(ArgAction::Set)
 }
 
 // The option of this name, which has a value.

@@ -2,6 +2,9 @@
 ghost use Rattle.std.specs.Prelude.{◌≡◌, ◌<◌, ◌≤◌, ◌↔◌, ◌^◌, IsTrue, slice_index};
 ghost use Rattle.command_words.specs.Number.{number_of};
 
+// As many specifications as a model has at most.
+pub(crate) const MOST_SPECS: u32 = 256;
+
 // From 1 to `most`, in decimal.
 pub(crate) fn read_number(word: &str, most: u32) -> Option<u32>
     ensures { result ≡ number_of most word.now }

@@ -8,7 +8,8 @@ use Rattle.kripke_model.proofs.Lassos.{all_states}
 use Rattle.path_laws.specs.Live.{IsRun}
 use Rattle.path_laws.specs.StateSet.{StateSet}
 use Rattle.delay_bounds.specs.Form.{Shortest, Longest}
-use Rattle.delay_bounds.specs.Shows.{AreSpread, Keeps, Comes, Waits, Not, ShowsShortest, ShowsLongest}
+use Rattle.state_reach.specs.Covers.{AreSpread, Keeps, Comes, Not}
+use Rattle.delay_bounds.specs.Shows.{Waits, ShowsShortest, ShowsLongest}
 
 -- the same at the states of the model
 abbrev pub AreAlike : System → (State → Type 0) → (State → Type 0) → Type 0

@@ -8,8 +8,9 @@ use Rattle.path_laws.specs.StateSet.{StateSet, ◌∈◌}
 use Rattle.path_laws.specs.Live.{IsRun}
 use Rattle.fair_rules.specs.SetLists.{set_at}
 use Rattle.path_laws.proofs.HoldsLemmas.{holds_or_not}
-use Rattle.delay_bounds.specs.Delays.{HoldsAt, Meets}
-use Rattle.delay_bounds.specs.Shows.{Has, StepsInto, AreSpread}
+use Rattle.state_reach.specs.States.{HoldsAt}
+use Rattle.delay_bounds.specs.Delays.{Meets}
+use Rattle.state_reach.specs.Covers.{Has, StepsInto, AreSpread}
 
 -- a run of n steps
 module _ (m : System) (run : List State) (is_run : IsRun m run) (n : ℕ) (count : length run ≡ n + 1) where

@@ -13,7 +13,7 @@ use Rattle.region_sets.proofs.Released.{slots-append}
 use Rattle.region_sets.proofs.Calls.{In-at}
 use Rattle.std.proofs.lemmas.List.{length-map}
 use Rattle.delay_bounds.specs.Delays as delays
-use Rattle.delay_bounds.specs.Delays.{HoldsAt}
+use Rattle.state_reach.specs.States.{HoldsAt}
 use Rattle.delay_bounds.specs.Form.{Shortest, Longest, DelayProof, longest_delay, longest_sets, shortest_delay, shortest_sets}
 use Rattle.delay_bounds.specs.Pinned.{over_longest, over_shortest, proof_slots}
 use Rattle.delay_bounds.specs.Shows.{ShowsLongest, ShowsShortest}

@@ -10,11 +10,13 @@ use Rattle.kripke_model.proofs.Latch.{state, steps, is_state_of, zero_bit, one_b
 use Rattle.path_laws.specs.StateSet.{StateSet, ◌∈◌}
 use Rattle.fair_rules.specs.SetLists.{everything, set_at}
 use Rattle.path_laws.proofs.Runs.{run_of, run_before}
-use Rattle.delay_bounds.specs.Closed.{IsClosed}
+use Rattle.state_reach.specs.Closed.{IsClosed}
 use Rattle.delay_bounds.specs.Delays as delays
-use Rattle.delay_bounds.specs.Delays.{HoldsAt, IsShortest, IsLongest}
+use Rattle.state_reach.specs.States.{HoldsAt}
+use Rattle.delay_bounds.specs.Delays.{IsShortest, IsLongest}
 use Rattle.delay_bounds.specs.Form.{Shortest, Longest, DelayProof}
-use Rattle.delay_bounds.specs.Shows.{StepsInto, AreSpread, ShowsLongest, ShowsDelays}
+use Rattle.state_reach.specs.Covers.{StepsInto, AreSpread}
+use Rattle.delay_bounds.specs.Shows.{ShowsLongest, ShowsDelays}
 use Rattle.delay_bounds.proofs.Sound.{proofs_sound}
 
 -- x is 0, and go too

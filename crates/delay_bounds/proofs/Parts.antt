@@ -10,7 +10,8 @@ use Rattle.region_sets.specs.Ranks.{regions}
 use Rattle.fair_rules.specs.SetLists.{set_at}
 use Rattle.delay_bounds.specs.Form.{Longest, Shortest}
 use Rattle.delay_bounds.specs.Pinned.{over_longest, over_shortest}
-use Rattle.delay_bounds.specs.Shows.{Always, AreSpread, Comes, Has, Keeps, Not, ShowsLongest, ShowsShortest, StepsInto, Waits}
+use Rattle.state_reach.specs.Covers.{Always, AreSpread, Comes, Has, Keeps, Not, StepsInto}
+use Rattle.delay_bounds.specs.Shows.{ShowsLongest, ShowsShortest, Waits}
 use Rattle.delay_bounds.specs.Tests.{IsMet, IsNeverLed}
 
 pub some_of : (n : ℕ) → (n == 0) ≡ false → 0 < n

@@ -6,8 +6,8 @@ use Rattle.kripke_model.specs.Step.{IsState, Step, Initial}
 use Rattle.path_laws.specs.StateSet.{StateSet, ◌∈◌}
 use Rattle.path_laws.specs.Live.{IsRun, first_state, last_state}
 use Rattle.path_laws.proofs.Walks.{segment, length-segment, get_or-segment}
-use Rattle.delay_bounds.specs.Closed.{IsClosed}
-use Rattle.delay_bounds.specs.Delays.{IsReachable}
+use Rattle.state_reach.specs.Closed.{IsClosed}
+use Rattle.state_reach.specs.States.{IsReachable}
 
 module _ (m : System) where
   -- ---- a run up to a place, and from there on

@@ -9,9 +9,11 @@ use Rattle.path_laws.specs.StateSet.{StateSet, ◌∈◌}
 use Rattle.path_laws.specs.Live.{IsRun, last_state}
 use Rattle.fair_rules.specs.SetLists.{set_at}
 use Rattle.path_laws.proofs.Walks.{segment, length-segment}
-use Rattle.delay_bounds.specs.Delays.{HoldsAt, IsReachable, IsStart, IsRunFrom, Leads, Meets, AllMeet, Starts, IsShortest, IsLongest}
+use Rattle.state_reach.specs.States.{HoldsAt, IsReachable}
+use Rattle.delay_bounds.specs.Delays.{IsStart, IsRunFrom, Leads, Meets, AllMeet, Starts, IsShortest, IsLongest}
 use Rattle.delay_bounds.specs.Form.{Shortest, Longest, DelayProof, shortest_delay, longest_delay}
-use Rattle.delay_bounds.specs.Shows.{Has, StepsInto, InSome, AreSpread, Keeps, Comes, Waits, ShowsShortest, ShowsLongest, ShowsDelays}
+use Rattle.state_reach.specs.Covers.{Has, StepsInto, InSome, AreSpread, Keeps, Comes}
+use Rattle.delay_bounds.specs.Shows.{Waits, ShowsShortest, ShowsLongest, ShowsDelays}
 use Rattle.delay_bounds.proofs.Places.{front_length, front_at, front_run, front_first, rest_run, rest_first, rest_last, rest_length, rest_at, reachable_at, reachable_inside, segment_at, segment_run, segment_first, walk_reaches}
 use Rattle.delay_bounds.proofs.Bounds.{spread_back, closed_back, meets_or_not}
 

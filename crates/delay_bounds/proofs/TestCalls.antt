@@ -12,11 +12,12 @@ use Rattle.region_sets.proofs.Calls.{In-at, regions-same}
 use Rattle.fair_rules.specs.SetLists.{set_at}
 use Rattle.delay_bounds.specs.Form.{Longest}
 use Rattle.delay_bounds.specs.Pinned.{over_longest}
-use Rattle.delay_bounds.specs.Shows.{Always, AreSpread, Has, InSome, Keeps, Not, ShowsLongest, StepsInto}
+use Rattle.state_reach.specs.Covers.{Always, AreSpread, Has, InSome, Keeps, Not, StepsInto}
+use Rattle.delay_bounds.specs.Shows.{ShowsLongest}
 use Rattle.delay_bounds.proofs.Alike.{AreAlike, alike_back, longest_alike, spread_alike}
 use Rattle.delay_bounds.proofs.Later.{over_longest_same}
 use Rattle.delay_bounds.specs.Tests.{last_pin}
-use Rattle.delay_bounds.proofs.LoopCalls.{pin_at}
+use Rattle.state_reach.proofs.LoopCalls.{same_pins}
 use Rattle.fair_fixpoint.proofs.Lists.{region_among}
 use Rattle.std.proofs.lemmas.List.{length-map}
 
@@ -101,9 +102,6 @@ longest_behind m s0 s1 from to x truth {A} p first answer =
 
 -- ---- parts of a test, one after another, where no pin came
 
-pub same_pins : (s0 s1 : Sets) → Adds s0 s1 [] → s1.pins ≡ s0.pins
-same_pins s0 s1 p = λ i k. p.kept k refl i
-
 pub with_first : {A B : Type 0} (b : Bool) → A → IsTrue b ↔ B → IsTrue b ↔ (A × B)
 with_first b first answer = (λ e. (first, answer.0 e), λ h. answer.1 h.1)
 
@@ -122,22 +120,6 @@ module _ (s0 s1 : Sets) (p : Adds s0 s1 []) (b : Bool) where
   all_before back answer =
       subst (λ (pins : ℕ → Option StateSet). IsTrue b ↔ Has s0.over (StepsInto s0.over Always (has_state (pins back.slot))) (has_state (pins back.slot))) (same_pins s0 s1 p)
       (subst (λ m. IsTrue b ↔ Has m (StepsInto m Always (region s1 back)) (region s1 back)) p.over answer)
-
-  -- the first set, and the later ones
-  pub spread_holds : (first within : Pin) (list : List Pin) → ((s : State) → In s0 first.slot s → In s0 (pin_at list 0).slot s)
-      → IsTrue b ↔ ((i : ℕ) → suc i < length list → Has s1.over (StepsInto s1.over (In s1 within.slot) (set_at (regions s1 list) i)) (set_at (regions s1 list) (suc i)))
-      → IsTrue b ↔ AreSpread s0.over (In s0 first.slot) (In s0 within.slot) (regions s0 list)
-  spread_holds first within list begins answer =
-      let here : IsTrue b ↔ ((i : ℕ) → suc i < length list → Has s0.over (StepsInto s0.over (In s0 within.slot) (set_at (regions s0 list) i)) (set_at (regions s0 list) (suc i))) =
-      subst (λ (pins : ℕ → Option StateSet). IsTrue b ↔ ((i : ℕ) → suc i < length list → Has s0.over (StepsInto s0.over (λ s. has_state (pins within.slot) s ≡ true) (set_at (map (λ (q : Pin). has_state (pins q.slot)) list) i)) (set_at (map (λ (q : Pin). has_state (pins q.slot)) list) (suc i)))) (same_pins s0 s1 p)
-      (subst (λ m. IsTrue b ↔ ((i : ℕ) → suc i < length list → Has m (StepsInto m (In s1 within.slot) (set_at (regions s1 list) i)) (set_at (regions s1 list) (suc i)))) p.over answer) in
-      let count : length (regions s0 list) ≡ length list = length-map list (λ (q : Pin). has_state (s0.pins q.slot)) in (
-        λ e. record {
-          first = λ some s is_state h. subst (λ F. s ∈ F) (sym (region_among s0 list 0 (record { slot = 0 }) (omega (arith, some, count)))) (begins s h);
-          later = λ i l. here.0 e i (omega (arith, l, count));
-        },
-        λ spread. here.1 (λ i l. spread.later i (omega (arith, l, count))),
-      )
 
 -- the last of a list of pins
 pub last_region : (a : Sets) (pins : List Pin) (p : Pin) → 0 < length pins → p ≡ last_pin pins → set_at (regions a pins) (length (regions a pins) - 1) ≡ region a p

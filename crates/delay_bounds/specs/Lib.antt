@@ -1,6 +1,3 @@
-pub mod Stay
-pub mod Longest
-pub mod Closed
 pub mod Delays
 pub mod Form
 pub mod Seen
@@ -8,8 +5,3 @@ pub mod Shows
 pub mod Pinned
 pub mod Laws
 pub mod Tests
-pub mod Reaching
-pub mod Back
-pub mod Changes
-pub mod Search
-pub mod Ends

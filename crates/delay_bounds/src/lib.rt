@@ -1,18 +1,7 @@
-//! The shortest and the longest delay between two sets of states.
+//! The shortest and the longest delay between two sets of states, and proofs of them.
 #![tactic(auto)]
 
-pub mod apart;
-pub mod back;
-pub mod closed;
-pub mod finding;
-pub mod following;
 pub mod laws;
-pub mod longest;
 pub mod proof;
-pub mod reaching;
-pub mod search;
-pub mod shortest;
-pub mod stay;
-pub mod steps;
 pub mod testing;
 pub mod ways;

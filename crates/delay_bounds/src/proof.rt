@@ -66,7 +66,10 @@ impl Model for DelayProof {
 
     ghost use Rattle.delay_bounds.specs.Seen.{seen_shortest, seen_longest};
 
-    ghost view = { λ p. record { shortest = seen_shortest p.shortest; longest = seen_longest p.longest } };
+    ghost view = { λ p. record {
+      shortest = seen_shortest p.shortest;
+      longest = seen_longest p.longest;
+    } };
 }
 
 /// Releases both pins.

@@ -5,7 +5,8 @@ ghost use Rattle.kripke_model.specs.Path.{IsPath, at};
 ghost use Rattle.kripke_model.specs.Step.{IsState, Initial, Step};
 ghost use Rattle.path_laws.specs.Live.{IsRun, last_state};
 ghost use Rattle.region_sets.specs.Sets.{In, IsLive};
-ghost use Rattle.delay_bounds.specs.Shows.{Comes, Waits};
+ghost use Rattle.state_reach.specs.Covers.{Comes};
+ghost use Rattle.delay_bounds.specs.Shows.{Waits};
 
 use kripke_model::models::Ruled;
 use kripke_model::states::{Lasso, State};

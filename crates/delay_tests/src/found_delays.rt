@@ -5,9 +5,9 @@ ghost use Rattle.kripke_model.specs.Leaves.{IsModelLeaf};
 ghost use Rattle.kripke_model.specs.Reading.{term_of};
 ghost use Rattle.region_sets.specs.Sets.{Adds};
 
-use delay_bounds::finding::delays;
 use delay_bounds::proof::{DelayProof, Longest, Shortest};
 use delay_bounds::testing::delay_holds;
+use delay_search::finding::delays;
 use kripke_model::expressions::Expr;
 use kripke_model::models::Ruled;
 use region_sets::{SetRefusal, StateSets};

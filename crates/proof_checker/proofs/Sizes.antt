@@ -117,3 +117,6 @@ pub nodes_fit : (m : System) (j : ℕ) (f : Ctl) → spec_formula m j ≡ Some f
     → node_count f + constraint_nodes m ≤ node_total m
 nodes_fit m zero f is = absurd cc
 nodes_fit m (suc j) f is = omega (arith, spec_in m.specs j f is, paths_in m.constraints, total_of m)
+
+pub constraints_fit : (m : System) → constraint_nodes m ≤ node_total m
+constraints_fit m = omega (arith, paths_in m.constraints, total_of m)

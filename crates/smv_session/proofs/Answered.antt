@@ -6,7 +6,7 @@ use Rattle.std.proofs.lemmas.Bool.{false≢true}
 use Rattle.std.proofs.lemmas.List.Elements.{All-nil, All-cons}
 use Rattle.bdd_nodes.specs.declared.refusal.Held.{Held}
 use Rattle.command_words.specs.Words as words
-use Rattle.command_words.specs.Words.{Command, Source, File, Ring, Work, Job, Decide, Recheck, Delay, Replay, Print, Do}
+use Rattle.command_words.specs.Words.{Command, Source, File, Ring, Work, Job, Decide, Recheck, Delay, Replay, Strong, Print, Do}
 use Rattle.delay_answers.specs.Delayed.{Delayed, LeavesDelays}
 use Rattle.kripke_model.specs.System.{System}
 use Rattle.smv_outside.specs.Contents.{Contents}
@@ -28,6 +28,7 @@ use Rattle.smv_texts.specs.declared.status.Status.TheVariants.{Undecided, ModelR
 use Rattle.spec_verdicts.specs.Checked.{EndsWith}
 use Rattle.proof_answers.specs.Answers.{Answer}
 use Rattle.proof_answers.specs.Rechecked.{EndsAnswers, LeavesUnanswered, Rechecked}
+use Rattle.strong_answers.specs.Strong.{LeavesStrong, StrongReply}
 use Rattle.trace_answers.specs.Replayed.{Replayed, ends_judged}
 use Rattle.trace_check.specs.declared.judged.Judged.{Judged}
 use Rattle.trace_check.specs.declared.judged.Judged.TheVariants as judgements
@@ -107,6 +108,9 @@ one_held m limit held full one is = record {
 left_end : (m : System) (limit from to : ℕ) (r : Reply) → LeavesDelays m limit from to r → IsWorkEnding m limit r.ending
 left_end m limit from to r u = subst (IsWorkEnding m limit) (sym u.ends) (one_held m limit u.held u.full u.one u.of_limit.0)
 
+left_strong_end : (m : System) (limit : ℕ) (r : Reply) → LeavesStrong m limit r → IsWorkEnding m limit r.ending
+left_strong_end m limit r u = subst (IsWorkEnding m limit) (sym u.ends) (one_held m limit u.held u.full u.one u.of_limit.0)
+
 unanswered_end : (m : System) (limit : ℕ) (r : Reply) → LeavesUnanswered m limit r → IsWorkEnding m limit r.ending
 unanswered_end m limit r u = subst (IsWorkEnding m limit) (sym u.ends) (one_held m limit u.held u.full u.one u.of_limit.0)
 
@@ -115,6 +119,7 @@ undecides_end (Decide proofs) m limit r u = subst (IsWorkEnding m limit) (sym u.
 undecides_end (Recheck proofs) m limit r u = unanswered_end m limit r u
 undecides_end (Delay from to) m limit r u = left_end m limit from to r u
 undecides_end (Replay trace) m limit r u = unanswered_end m limit r u
+undecides_end (Strong pairs) m limit r u = left_strong_end m limit r u
 
 checked_end : (m : System) (limit : ℕ) (fs : List Finding) (e : Ending) → EndsWith m limit fs e → IsWorkEnding m limit e
 checked_end m limit fs endings.Clear ends = tt
@@ -157,6 +162,11 @@ replayed_end m limit bytes r (inr (inl found)) = subst (IsWorkEnding m limit) (s
 replayed_end m limit bytes r (inr (inr left)) =
     subst (IsWorkEnding m limit) (sym left.ends) (one_held m limit left.held left.full left.one left.of_limit.0)
 
+strong_end : (m : System) (limit : ℕ) (pairs : List (ℕ × ℕ)) (r : Reply) → StrongReply m limit pairs r → IsWorkEnding m limit r.ending
+strong_end m limit pairs r (inl path) = subst (IsWorkEnding m limit) (sym path.ends) tt
+strong_end m limit pairs r (inr (inl none)) = subst (IsWorkEnding m limit) (sym none.ends) tt
+strong_end m limit pairs r (inr (inr left)) = left_strong_end m limit r left
+
 does_end : (job : Job) (m : System) (limit : ℕ) (second : Option (List ℕ)) (r : Reply) → Does job m limit second r → IsWorkEnding m limit r.ending
 does_end (Decide proofs) m limit second r does = checked_end m limit does.findings r.ending does.ends
 does_end (Recheck proofs) m limit None r does = absurd does
@@ -164,6 +174,7 @@ does_end (Recheck proofs) m limit (Some bytes) r does = rechecked_end m limit by
 does_end (Delay from to) m limit second r does = delayed_end m limit from to r does
 does_end (Replay trace) m limit None r does = absurd does
 does_end (Replay trace) m limit (Some bytes) r does = replayed_end m limit bytes r does
+does_end (Strong pairs) m limit second r does = strong_end m limit pairs r does
 
 work_end : (w : Work) (contents : Option Contents) (m : System) (r : Reply) → Takes w contents m r → IsWorkEnding m w.limit r.ending
 work_end w contents m r (inl undecided) = undecides_end w.job m w.limit r undecided

@@ -4,7 +4,7 @@ use Rattle.std.proofs.Common.{Option, Some, None, refl, sym, ap, subst, arith, �
 use Rattle.std.specs.Prelude.{All, IfSome, count_by}
 use Rattle.std.proofs.lemmas.List.Elements.{All-head}
 use Rattle.bdd_nodes.specs.declared.refusal.Held.{Held}
-use Rattle.command_words.specs.Words.{Job, Work, Decide, Recheck, Delay, Replay}
+use Rattle.command_words.specs.Words.{Job, Work, Decide, Recheck, Delay, Replay, Strong}
 use Rattle.delay_answers.specs.Delayed.{Delayed, LeavesDelays}
 use Rattle.kripke_model.specs.Faults.{IsFaultless}
 use Rattle.kripke_model.specs.System.{System, Condition}
@@ -22,7 +22,9 @@ use Rattle.smv_session.specs.Commands.{AreFoundIn, DecidesAll, ExportsProofs, Is
 use Rattle.smv_session.specs.Commands.{IsRechecked, RechecksProofs, ReportsVerdicts, ShowsStates}
 use Rattle.smv_session.specs.Commands.{AcceptsProved, FindsDelays, IsDelayed, IsJudged}
 use Rattle.smv_session.specs.Commands.{IsReplayed, ReplaysTraces, TellsOfProofs}
+use Rattle.smv_session.specs.Commands.{FindsStrongPaths, IsStrongFound}
 use Rattle.smv_session.specs.Jobs.{Does, IsLoaded, IsSecond, Undecides}
+use Rattle.strong_answers.specs.Strong.{LeavesStrong, StrongReply}
 use Rattle.trace_answers.specs.Replayed.{Replayed}
 use Rattle.smv_session.specs.Session.{Leaves, Puts, RefusesModels, Session, Shows, TakesModels}
 use Rattle.smv_session.proofs.Tried.{names_none}
@@ -315,5 +317,54 @@ replays s refuses takes = record {
       elim (traces_of s w m trace taken.0 is taken.1 taken.2) [
         | inl left ↦ (let below = left.1.of_limit.1 in absurd (omega (arith, le, below)))
         | inr told ↦ judged_of s m w.limit trace le told
+      ];
+}
+
+-- ---- strong
+
+strong_of : (s : Session) (m : System) (limit : ℕ) (pairs : List (ℕ × ℕ)) (r : Reply)
+    → IsFaultless m → Shows s r → StrongReply m limit pairs r
+    → ((r : Reply) × LeavesStrong m limit r × Shows s r) ⊎ IsStrongFound s m pairs
+strong_of s m limit pairs r faultless shows (inl tells) = inr (record {
+  faultless = faultless;
+  found = inl (record {
+    path = tells.path;
+    is = tells.is;
+    status = shows.status ∙ ap status_of tells.ends;
+    puts = subst (Puts s) tells.text shows.text;
+  });
+})
+strong_of s m limit pairs r faultless shows (inr (inl tells)) = inr (record {
+  faultless = faultless;
+  found = inr (record {
+    nodes = tells.nodes;
+    certificate = tells.certificate;
+    is = tells.is;
+    status = shows.status ∙ ap status_of tells.ends;
+    puts = subst (Puts s) tells.text shows.text;
+  });
+})
+strong_of s m limit pairs r faultless shows (inr (inr left)) = inl (r, left, shows)
+
+paths_of : (s : Session) (w : Work) (m : System) (pairs : List (ℕ × ℕ)) (r : Reply)
+    → w.job ≡ Strong pairs → Takes w s.contents m r → Shows s r
+    → ((r : Reply) × LeavesStrong m w.limit r × Shows s r) ⊎ IsStrongFound s m pairs
+paths_of s w m pairs r is (inl u) shows =
+    inl (r, subst (λ (job : Job). Undecides job m w.limit r) is u, shows)
+paths_of s w m pairs r is (inr done) shows =
+    strong_of s m w.limit pairs r done.faultless shows
+    (subst (λ (job : Job). Does job m w.limit done.second r) is done.does)
+
+pub finds_strong : (s : Session) → RefusesModels s → TakesModels s → FindsStrongPaths s
+finds_strong s refuses takes = record {
+  finds = λ quiet w bytes m pairs asks is has other.
+      let taken = takes.takes quiet w bytes m asks has other in
+      paths_of s w m pairs taken.0 is taken.1 taken.2;
+  always = λ quiet w bytes m pairs asks is accepted names le.
+      let other = refuses.never quiet w bytes m asks accepted names in
+      let taken = takes.takes quiet w bytes m asks accepted.has other in
+      elim (paths_of s w m pairs taken.0 is taken.1 taken.2) [
+        | inl left ↦ (let below = left.1.of_limit.1 in absurd (omega (arith, le, below)))
+        | inr told ↦ told
       ];
 }

@@ -1,3 +1,4 @@
+mod NamedPairs
 mod Numbers
 pub mod Answered
 pub mod BitCounts
@@ -16,5 +17,6 @@ pub mod PutText
 pub mod Ready
 pub mod RefusedLemmas
 pub mod SavedReplies
+pub mod Searched
 pub mod SourceLemmas
 pub mod Tried

@@ -1,7 +1,7 @@
 -- All promises of a call.
 use Rattle.std.proofs.Common.{◌≡◌, Option}
 use Rattle.command_words.specs.Words.{command_of}
-use Rattle.smv_session.specs.Commands.{AcceptsProved, DecidesAll, ExportsProofs, FindsDelays, GeneratesText, RechecksProofs, ReplaysTraces, ReportsVerdicts, ShowsStates}
+use Rattle.smv_session.specs.Commands.{AcceptsProved, DecidesAll, ExportsProofs, FindsDelays, FindsStrongPaths, GeneratesText, RechecksProofs, ReplaysTraces, ReportsVerdicts, ShowsStates}
 use Rattle.smv_session.specs.Foreseen.{Finishes, Foresees}
 use Rattle.smv_session.specs.OneAnswer.{OneAnswer}
 use Rattle.smv_session.specs.Session.{Session, PutsAnswer, AnswersUsage, RefusesModels, TakesModels, HasEvidence, HasStatusOfReply, KeepsContents, FaultHasCause, AnswersFaults, PutsFaultLine, FaultLinesHaveCause, CutsOffAnswer, MemoryChangesNothing}
@@ -36,6 +36,7 @@ pub record Promises (s : Session) : Type 0 where
   pub proved : AcceptsProved s
   pub delays : FindsDelays s
   pub replayed : ReplaysTraces s
+  pub strong : FindsStrongPaths s
 
 promises : (s : Session) → OneAnswer → Ends s → Promises s
 promises s one e = record {
@@ -61,6 +62,7 @@ promises s one e = record {
   proved = decided.accepts_proved s (ended.refused s one e) (ended.takes s one e);
   delays = decided.finds_delays s (ended.refused s one e) (ended.takes s one e);
   replayed = decided.replays s (ended.refused s one e) (ended.takes s one e);
+  strong = decided.finds_strong s (ended.refused s one e) (ended.takes s one e);
 }
 
 -- what was foreseen was saved and put, or not

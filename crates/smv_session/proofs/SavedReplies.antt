@@ -1,7 +1,7 @@
 -- What the reply to a command saves.
 use Rattle.std.proofs.Common.{◌≡◌, ◌⊎◌, inl, inr, ℕ, List, Option, Some, None, refl, sym, subst}
 use Rattle.command_words.specs.Words as words
-use Rattle.command_words.specs.Words.{Command, Work, Job, Decide, Recheck, Delay, Replay, Print, Do}
+use Rattle.command_words.specs.Words.{Command, Work, Job, Decide, Recheck, Delay, Replay, Strong, Print, Do}
 use Rattle.delay_answers.specs.Delayed.{Delayed}
 use Rattle.kripke_model.specs.System.{System}
 use Rattle.proof_answers.specs.Rechecked.{Rechecked}
@@ -16,6 +16,7 @@ use Rattle.smv_texts.specs.Report.{Finding}
 use Rattle.smv_texts.specs.declared.ending.Ending.{Ending}
 use Rattle.smv_texts.specs.declared.ending.Ending.TheVariants as endings
 use Rattle.spec_verdicts.specs.Checked.{EndsWith, SavesProofs}
+use Rattle.strong_answers.specs.Strong.{StrongReply}
 use Rattle.trace_answers.specs.Replayed.{Replayed}
 
 -- ---- by the job
@@ -27,6 +28,7 @@ JobSaves (Decide (Some name)) saves = (saves ≡ None) ⊎ ((bytes : List ℕ) �
 JobSaves (Recheck proofs) saves = saves ≡ None
 JobSaves (Delay from to) saves = saves ≡ None
 JobSaves (Replay trace) saves = saves ≡ None
+JobSaves (Strong pairs) saves = saves ≡ None
 
 nothing : (job : Job) (saves : Option (List ℕ × List ℕ)) → saves ≡ None → JobSaves job saves
 nothing (Decide None) saves is = is
@@ -34,6 +36,7 @@ nothing (Decide (Some name)) saves is = inl is
 nothing (Recheck proofs) saves is = is
 nothing (Delay from to) saves is = is
 nothing (Replay trace) saves is = is
+nothing (Strong pairs) saves is = is
 
 of_proofs : (m : System) (proofs : Option (List ℕ)) (fs : List Finding) (saves : Option (List ℕ × List ℕ)) → SavesProofs m proofs fs saves → JobSaves (Decide proofs) saves
 of_proofs m None fs saves is = is.0
@@ -44,6 +47,7 @@ undecided_saves (Decide proofs) m limit r u = of_proofs m proofs _ r.saves u.sav
 undecided_saves (Recheck proofs) m limit r u = u.saves
 undecided_saves (Delay from to) m limit r u = u.saves
 undecided_saves (Replay trace) m limit r u = u.saves
+undecided_saves (Strong pairs) m limit r u = u.saves
 
 rechecked_saves : (m : System) (limit : ℕ) (bytes : List ℕ) (r : Reply) → Rechecked m limit bytes r → r.saves ≡ None
 rechecked_saves m limit bytes r (inl refused) = refused.saves
@@ -58,6 +62,11 @@ replayed_saves m limit bytes r (inl refused) = refused.saves
 replayed_saves m limit bytes r (inr (inl found)) = found.saves
 replayed_saves m limit bytes r (inr (inr left)) = left.saves
 
+strong_saves : (m : System) (limit : ℕ) (pairs : List (ℕ × ℕ)) (r : Reply) → StrongReply m limit pairs r → r.saves ≡ None
+strong_saves m limit pairs r (inl path) = path.saves
+strong_saves m limit pairs r (inr (inl none)) = none.saves
+strong_saves m limit pairs r (inr (inr left)) = left.saves
+
 done_saves : (job : Job) (m : System) (limit : ℕ) (second : Option (List ℕ)) (r : Reply) → Does job m limit second r → JobSaves job r.saves
 done_saves (Decide proofs) m limit second r does = of_proofs m proofs does.findings r.saves does.saves
 done_saves (Recheck proofs) m limit None r does = absurd does
@@ -65,6 +74,7 @@ done_saves (Recheck proofs) m limit (Some bytes) r does = rechecked_saves m limi
 done_saves (Delay from to) m limit second r does = delayed_saves m limit from to r does
 done_saves (Replay trace) m limit None r does = absurd does
 done_saves (Replay trace) m limit (Some bytes) r does = replayed_saves m limit bytes r does
+done_saves (Strong pairs) m limit second r does = strong_saves m limit pairs r does
 
 takes_saves : (w : Work) (contents : Option Contents) (m : System) (r : Reply) → Takes w contents m r → JobSaves w.job r.saves
 takes_saves w contents m r (inl undecided) = undecided_saves w.job m w.limit r undecided
@@ -91,6 +101,7 @@ same_kept (Decide (Some name)) before after same = same_others name before after
 same_kept (Recheck proofs) before after same = same
 same_kept (Delay from to) before after same = same
 same_kept (Replay trace) before after same = same
+same_kept (Strong pairs) before after same = same
 
 leaves_none : (saves : Option (List ℕ × List ℕ)) (before after : Option Contents) → saves ≡ None → Leaves saves before after → after ≡ before
 leaves_none saves before after is leaves = subst (λ s. Leaves s before after) is leaves
@@ -102,6 +113,7 @@ job_keeps (Decide (Some name)) saves before after (inr is) leaves = others_kept 
 job_keeps (Recheck proofs) saves before after is leaves = leaves_none saves before after is leaves
 job_keeps (Delay from to) saves before after is leaves = leaves_none saves before after is leaves
 job_keeps (Replay trace) saves before after is leaves = leaves_none saves before after is leaves
+job_keeps (Strong pairs) saves before after is leaves = leaves_none saves before after is leaves
 
 -- nothing is known of the name where the save failed
 job_fails : (job : Job) (saves : Option (List ℕ × List ℕ)) (before after : Option Contents) → JobSaves job saves → FailsToSave saves before after → Keeps job before after × ((name : List ℕ) × (job ≡ Decide (Some name)))
@@ -111,6 +123,7 @@ job_fails (Decide (Some name)) saves before after (inr is) fails = (subst (λ s.
 job_fails (Recheck proofs) saves before after is fails = absurd (subst (λ s. FailsToSave s before after) is fails)
 job_fails (Delay from to) saves before after is fails = absurd (subst (λ s. FailsToSave s before after) is fails)
 job_fails (Replay trace) saves before after is fails = absurd (subst (λ s. FailsToSave s before after) is fails)
+job_fails (Strong pairs) saves before after is fails = absurd (subst (λ s. FailsToSave s before after) is fails)
 
 -- ---- by the command
 
@@ -171,6 +184,7 @@ undecided_quiet (Decide proofs) m limit r u quiet = absurd (subst IsQuiet u.ends
 undecided_quiet (Recheck proofs) m limit r u quiet = u.saves
 undecided_quiet (Delay from to) m limit r u quiet = u.saves
 undecided_quiet (Replay trace) m limit r u quiet = u.saves
+undecided_quiet (Strong pairs) m limit r u quiet = u.saves
 
 done_quiet : (job : Job) (m : System) (limit : ℕ) (second : Option (List ℕ)) (r : Reply) → Does job m limit second r → IsQuiet r.ending → r.saves ≡ None
 done_quiet (Decide proofs) m limit second r does quiet = absurd (loud m limit does.findings r.ending does.ends quiet)
@@ -179,6 +193,7 @@ done_quiet (Recheck proofs) m limit (Some bytes) r does quiet = rechecked_saves 
 done_quiet (Delay from to) m limit second r does quiet = delayed_saves m limit from to r does
 done_quiet (Replay trace) m limit None r does quiet = absurd does
 done_quiet (Replay trace) m limit (Some bytes) r does quiet = replayed_saves m limit bytes r does
+done_quiet (Strong pairs) m limit second r does quiet = strong_saves m limit pairs r does
 
 takes_quiet : (w : Work) (contents : Option Contents) (m : System) (r : Reply) → Takes w contents m r → IsQuiet r.ending → r.saves ≡ None
 takes_quiet w contents m r (inl undecided) quiet = undecided_quiet w.job m w.limit r undecided quiet

@@ -3,7 +3,7 @@ use Rattle.std.proofs.lemmas.List.Elements.{All-nil}
 use Rattle.std.proofs.Common.{All, ap, [], ◌∙◌, ◌≡◌, ◌≤◌, inl, inr, ℕ, List, Option, Some, None, Result, Ok, Err, IfOk, IfSome, refl, sym, subst}
 use Rattle.std.specs.declared.alloc.AllocError.{AllocError}
 use Rattle.bit_encode.specs.Code.{state_bits}
-use Rattle.command_words.specs.Words.{Job, Work, Decide, Recheck, Delay, Replay}
+use Rattle.command_words.specs.Words.{Job, Work, Decide, Recheck, Delay, Replay, Strong}
 use Rattle.delay_answers.specs.Delayed.{Delayed, LeavesDelays}
 use Rattle.kripke_model.specs.Faults.{IsFaultless}
 use Rattle.kripke_model.specs.System.{System}
@@ -22,6 +22,7 @@ use Rattle.smv_texts.specs.Replies as replies
 use Rattle.smv_texts.specs.Replies.{IsReply}
 use Rattle.smv_texts.specs.declared.reply.Reply.{Reply}
 use Rattle.spec_verdicts.specs.Checked.{IsChecked, LeavesUnknown}
+use Rattle.strong_answers.specs.Strong.{LeavesStrong, StrongReply}
 use Rattle.trace_answers.specs.Replayed.{Replayed}
 
 pub checked_decides : (m : System) (limit : ℕ) (proofs : Option (List ℕ)) (reply : Reply) → IsFaultless m → IsReply (IsChecked m limit proofs) reply → IsReply (Decides m limit proofs) reply
@@ -104,6 +105,33 @@ module _ (w : Work) (contents : Option Contents) (bytes : List ℕ) (m : System)
       does = subst (λ job. Does job m w.limit None r) (sym is) done;
     }),
   )
+
+  -- the limit was met before a strong path was looked for
+  pub left_strong_reply : (pairs : List (ℕ × ℕ)) → w.job ≡ Strong pairs → NamesLeaves w.job m
+      → IsReply (LeavesStrong m w.limit) reply → IsReply (IsModelReply w contents bytes) reply
+  left_strong_reply pairs is names (r, gives, left) =
+      taken_reply names (r, gives, inl (subst (λ job. Undecides job m w.limit r) (sym is) left))
+
+  -- a strong path was looked for
+  pub strong_reply : (pairs : List (ℕ × ℕ)) → w.job ≡ Strong pairs → NamesLeaves w.job m
+      → IsFaultless m → IsReply (StrongReply m w.limit pairs) reply
+      → IsReply (IsModelReply w contents bytes) reply
+  strong_reply pairs is names faultless (r, gives, done) = taken_reply names (
+    r,
+    gives,
+    inr (record {
+      faultless = faultless;
+      second = None;
+      loaded = subst (λ job. IsSecond job contents None) (sym is) refl;
+      does = subst (λ job. Does job m w.limit None r) (sym is) done;
+    }),
+  )
+
+-- a search that is left is a reply to what is asked of strong paths
+pub left_strong : (m : System) (limit : ℕ) (pairs : List (ℕ × ℕ)) (r : Result Reply AllocError)
+    → IfOk r (IsReply (LeavesStrong m limit)) → IfOk r (IsReply (StrongReply m limit pairs))
+left_strong m limit pairs (Ok reply) is = (is.0, is.1, inr (inr is.2))
+left_strong m limit pairs (Err e) is = tt
 
 -- delays that are left are a reply to what is asked of them
 pub left_delays : (m : System) (limit from to : ℕ) (r : Result Reply AllocError)

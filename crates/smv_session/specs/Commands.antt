@@ -2,10 +2,13 @@
 -- every call give.
 use Rattle.std.specs.Prelude.{◌≡◌, ◌≢◌, ◌⊎◌, ◌<◌, ◌≤◌, ℕ, List, Option, Some, None, IfSome}
 use Rattle.std.specs.Prelude.{count_by}
-use Rattle.command_words.specs.Words.{Work, Decide, Recheck, Delay, Replay, Print, command_of}
+use Rattle.bdd_nodes.specs.declared.triple.Triple.{Triple}
+use Rattle.command_words.specs.Words.{Work, Decide, Recheck, Delay, Replay, Strong, Print}
+use Rattle.command_words.specs.Words.{command_of}
 use Rattle.delay_answers.specs.Delayed.{AreDelays, LeavesDelays, delays_line}
 use Rattle.delay_bounds.specs.Delays as delays
 use Rattle.kripke_model.specs.Faults.{IsFaultless}
+use Rattle.kripke_model.specs.Path.{Lasso}
 use Rattle.kripke_model.specs.System.{System}
 use Rattle.smv_rings.specs.Rings.{ring_text}
 use Rattle.proof_answers.specs.Answers.{Answer, AreAccepted}
@@ -23,6 +26,8 @@ use Rattle.smv_texts.specs.declared.status.Status.TheVariants.{Clear, Failed, Mo
 use Rattle.spec_verdicts.specs.Checked.{LeavesNoneOut, all_unknown}
 use Rattle.spec_verdicts.specs.Exports.{Exports}
 use Rattle.spec_verdicts.specs.Verdicts.{AreVerdicts, ShowStates}
+use Rattle.strong_answers.specs.Strong.{IsNoneFor, IsPathFor, LeavesStrong, no_text, yes_text}
+use Rattle.strong_fair.specs.Form.{Certificate}
 use Rattle.smv_session.specs.Jobs.{NamesLeaves}
 use Rattle.smv_session.specs.Session.{Session, Asks, IsUndisturbed, Leaves, Puts, Shows}
 use Rattle.smv_session.specs.Source.{HasModel, IsAccepted}
@@ -168,3 +173,36 @@ pub record ReplaysTraces (s : Session) : Type 0 where
   pub always : IsUndisturbed s → (w : Work) (bytes : List ℕ) (m : System) (trace : List ℕ)
       → Asks s w bytes → w.job ≡ Replay trace → IsAccepted bytes m → enough m ≤ w.limit
       → IsJudged s m trace
+
+-- a strong path is put, for the pairs that these numbers of specifications name
+pub record PutsPath (s : Session) (m : System) (pairs : List (ℕ × ℕ)) : Type 0 where
+  pub path : Lasso
+  pub is : IsPathFor m pairs path
+  pub status : s.status ≡ Clear
+  pub puts : Puts s (yes_text m path)
+
+-- a certificate is put that holds for the pairs, and there is no strong path
+pub record PutsNone (s : Session) (m : System) (pairs : List (ℕ × ℕ)) : Type 0 where
+  pub nodes : List Triple
+  pub certificate : Certificate ℕ
+  pub is : IsNoneFor m pairs nodes certificate
+  pub status : s.status ≡ Failed
+  pub puts : Puts s (no_text nodes certificate)
+
+-- what is put where either is found, of a model without faults
+pub record IsStrongFound (s : Session) (m : System) (pairs : List (ℕ × ℕ)) : Type 0 where
+  pub faultless : IsFaultless m
+  pub found : PutsPath s m pairs ⊎ PutsNone s m pairs
+
+-- `strong`: a fair path from an initial state is told that is strongly fair to the pairs, or a
+-- certificate that there is none. Where the limit was met before either was found, that alone is
+-- told; then the limit is below what is enough.
+pub record FindsStrongPaths (s : Session) : Type 0 where
+  pub finds : IsUndisturbed s
+      → (w : Work) (bytes : List ℕ) (m : System) (pairs : List (ℕ × ℕ)) → Asks s w bytes
+      → w.job ≡ Strong pairs → HasModel bytes m → s.status ≢ ModelRefused
+      → ((r : Reply) × LeavesStrong m w.limit r × Shows s r) ⊎ IsStrongFound s m pairs
+  pub always : IsUndisturbed s
+      → (w : Work) (bytes : List ℕ) (m : System) (pairs : List (ℕ × ℕ)) → Asks s w bytes
+      → w.job ≡ Strong pairs → IsAccepted bytes m → NamesLeaves w.job m → enough m ≤ w.limit
+      → IsStrongFound s m pairs

@@ -8,3 +8,4 @@ pub mod Answers
 pub mod Foreseen
 pub mod Session
 pub mod Commands
+pub mod Compassion

@@ -21,7 +21,7 @@ use crate::work::answer_stop;
 use bit_encode::MAX_STATE_BITS;
 use command_words::Work;
 use delay_answers::{Delay, delayed, unknown_delays};
-use delay_bounds::finding::delays;
+use delay_search::finding::delays;
 use diagram_sets::DiagramSets;
 use diagram_sets::laws::state_count_law;
 use kripke_model::models::Ruled;

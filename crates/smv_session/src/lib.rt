@@ -2,6 +2,7 @@
 #![tactic(auto)]
 
 mod bits;
+mod compassion;
 mod decision;
 mod delaying;
 mod finishing;

@@ -3,7 +3,7 @@ ghost use Rattle.std.specs.Prelude.{◌≡◌, IfOk, map, string_bytes};
 ghost use Rattle.command_words.specs.Words.{command_of};
 ghost use Rattle.smv_session.specs.Commands.{AcceptsProved};
 ghost use Rattle.smv_session.specs.Commands.{DecidesAll, ExportsProofs, FindsDelays};
-ghost use Rattle.smv_session.specs.Commands.{GeneratesText};
+ghost use Rattle.smv_session.specs.Commands.{FindsStrongPaths, GeneratesText};
 ghost use Rattle.smv_session.specs.Commands.{RechecksProofs, ReplaysTraces};
 ghost use Rattle.smv_session.specs.Commands.{ReportsVerdicts, ShowsStates};
 ghost use Rattle.smv_session.specs.Foreseen.{Foresees};
@@ -74,6 +74,8 @@ pub fn run<F: Files, S: Sink>(alloc: Global, words: &[String], files: &mut F, ou
     ensures delays { FindsDelays (session F.contents F.faults
         S.written S.faults words.now files.old files.new out.old out.new result) }
     ensures replayed { ReplaysTraces (session F.contents F.faults
+        S.written S.faults words.now files.old files.new out.old out.new result) }
+    ensures strong { FindsStrongPaths (session F.contents F.faults
         S.written S.faults words.now files.old files.new out.old out.new result) }
 {
     one_answer();

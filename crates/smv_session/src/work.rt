@@ -13,6 +13,7 @@ ghost use Rattle.smv_texts.specs.Refusals as too_long;
 ghost use Rattle.smv_texts.specs.Replies.{IsReply};
 ghost use Rattle.smv_texts.specs.Told.{TellsRefusal};
 
+use crate::compassion::answer_strong;
 use crate::decision::decide;
 use crate::delaying::answer_delays;
 use crate::relation::Stop;
@@ -105,6 +106,7 @@ fn answer_model<'a, F: Files>(
             alloc, work, model, from, to,
         )?)),
         Job::Replay { trace } => answer_replayed(alloc, work, model, trace, files),
+        Job::Strong { pairs } => Ok(Foreseen::Reply(answer_strong(alloc, work, model, &pairs)?)),
     }
 }
 

@@ -2,7 +2,7 @@
 use Rattle.std.proofs.Common.{◌≡◌, ◌≢◌, ℕ, zero, suc, List, [], ◌∷◌, ◌++◌, codes, take, drop, refl, arith}
 use Rattle.kripke_model.specs.System.{System}
 use Rattle.smv_texts.specs.Refusals.{Refusal, reason, refusal_line}
-use Rattle.smv_texts.specs.Replies.{Head, Spec, Total, Model, From, Trace, Refused, Usage, Module, head_word}
+use Rattle.smv_texts.specs.Replies.{Head, Spec, Total, Model, From, Trace, Strong, Refused, Usage, Module, head_word}
 use Rattle.smv_texts.specs.Report.{Finding, report}
 use Rattle.smv_texts.specs.Texts.{fault_line, usage_text}
 use Rattle.smv_texts.specs.declared.fault.Fault.{Fault}
@@ -55,6 +55,7 @@ no_fault_line Total rest n fault = begins n 116 _ fault (λ is. absurd (omega ar
 no_fault_line Model rest n fault = begins n 109 _ fault (λ is. absurd (omega arith))
 no_fault_line From rest n fault = begins_from n rest fault
 no_fault_line Trace rest n fault = begins n 116 _ fault (λ is. absurd (omega arith))
+no_fault_line Strong rest n fault = begins n 115 _ fault (λ is. absurd (omega arith))
 no_fault_line Refused rest n fault = begins n 114 _ fault (λ is. absurd (omega arith))
 no_fault_line Usage rest n fault = begins n 117 _ fault (λ is. absurd (omega arith))
 no_fault_line Module rest n fault = begins n 77 _ fault (λ is. absurd (omega arith))

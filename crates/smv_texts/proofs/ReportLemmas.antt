@@ -47,3 +47,10 @@ further text [] cycle t t1 t2 some p q = absurd (omega (arith, some))
 further text (x ∷ xs) cycle t t1 t2 some p q =
     q ∙ ap (λ (front : List ℕ). front ++ numbered text (length (x ∷ xs)) cycle) p ∙ append_assoc t (numbered text 1 xs) (numbered text (length (x ∷ xs)) cycle)
     ∙ ap (λ (rest : List ℕ). t ++ rest) (ap (λ (n : ℕ). numbered text 1 xs ++ numbered text n cycle) (omega arith) ∙ sym (numbered-append text 1 xs cycle))
+
+-- those of the stem, and then those of the cycle
+pub from_first : {A : Type 0} (text : ℕ → A → List ℕ) (stem cycle : List A) (t t1 t2 : List ℕ) → t1 ≡ t ++ numbered text 0 stem → t2 ≡ t1 ++ numbered text (length stem) cycle
+    → t2 ≡ t ++ numbered text 0 (stem ++ cycle)
+from_first text stem cycle t t1 t2 p q =
+    q ∙ ap (λ (front : List ℕ). front ++ numbered text (length stem) cycle) p ∙ append_assoc t (numbered text 0 stem) (numbered text (length stem) cycle)
+    ∙ ap (λ (rest : List ℕ). t ++ rest) (ap (λ (n : ℕ). numbered text 0 stem ++ numbered text n cycle) (omega arith) ∙ sym (numbered-append text 0 stem cycle))

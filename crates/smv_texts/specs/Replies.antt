@@ -11,6 +11,7 @@ pub data Head : Type 0 where
   Model : Head
   From : Head
   Trace : Head
+  Strong : Head
   Refused : Head
   Usage : Head
   Module : Head
@@ -21,6 +22,7 @@ head_word Total = codes "total "
 head_word Model = codes "model "
 head_word From = codes "from "
 head_word Trace = codes "trace "
+head_word Strong = codes "strong "
 head_word Refused = codes "refused "
 head_word Usage = codes "usage: "
 head_word Module = codes "MODULE "

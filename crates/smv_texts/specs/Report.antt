@@ -33,10 +33,18 @@ variable_line m s x v = line (codes "  " ++ v.name ++ codes " = " ++ value_text 
 abbrev pub state_lines : System → ℕ → State → List ℕ
 state_lines m k s = line (codes "state " ++ decimal k) ++ numbered (variable_line m s) 0 m.vars
 
+-- the state at which a path goes on after the last
+abbrev pub loop_line : Lasso → List ℕ
+loop_line p = line (codes "loop " ++ decimal (length p.stem))
+
+-- all states of a path, from state 0 on
+abbrev pub lasso_lines : System → Lasso → List ℕ
+lasso_lines m p = numbered (state_lines m) 0 (p.stem ++ p.cycle) ++ loop_line p
+
 -- the further states of a path, and the one at which it goes on after the last
 abbrev pub path_lines : System → Option Lasso → List ℕ
 path_lines m None = []
-path_lines m (Some p) = numbered (state_lines m) 1 (drop 1 (p.stem ++ p.cycle)) ++ line (codes "loop " ++ decimal (length p.stem))
+path_lines m (Some p) = numbered (state_lines m) 1 (drop 1 (p.stem ++ p.cycle)) ++ loop_line p
 
 -- ---- specifications
 

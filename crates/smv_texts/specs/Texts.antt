@@ -14,6 +14,7 @@ usage_text =
     ++ line (codes "       smv_run gen N [--check]")
     ++ line (codes "       smv_run delay MODEL FROM TO [--nodes N]")
     ++ line (codes "       smv_run replay MODEL TRACE [--nodes N]")
+    ++ line (codes "       smv_run strong MODEL [PAIR]... [--nodes N]")
 
 -- a fault of the outside is told by this line
 abbrev pub fault_line : Fault → List ℕ

@@ -18,6 +18,6 @@ pub use item_fault::{ItemFault, refuse_fault};
 pub use outcome::{Finding, Outcome, false_count};
 pub use refusal::{Refusal, refuse};
 pub use reply::{Reply, Saving};
-pub use report::report_text;
+pub use report::{push_lasso, report_text};
 pub use status::Status;
 pub use usage::usage_text;

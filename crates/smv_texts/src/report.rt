@@ -136,9 +136,33 @@ fn push_path(text: &mut Text, model: &Ruled, path: &Lasso) -> Result<(), AllocEr
     ensures { OnOk result (text.new ≡ text.old ++ lines.path_lines model.now (Some path.now)) }
 {
     push_further(text, model, path)?;
+    push_loop(text, path)
+}
+
+// The state at which a path goes on after the last.
+fn push_loop(text: &mut Text, path: &Lasso) -> Result<(), AllocError>
+    ensures { OnOk result (text.new ≡ text.old ++ lines.loop_line path.now) }
+{
     text.push(b"loop ")?;
     text.push_number(path.stem.len())?;
     text.push(b"\n")
+}
+
+// The states of a path, from state 0 on.
+fn push_all(text: &mut Text, model: &Ruled, path: &Lasso) -> Result<(), AllocError>
+    ensures { OnOk result (text.new ≡ text.old ++ lines.numbered (lines.state_lines model.now) 0
+        (path.now.stem ++ path.now.cycle)) }
+{
+    push_states(text, model, 0, &path.stem)?;
+    push_states(text, model, path.stem.len(), &path.cycle)
+}
+
+/// Adds the lines of a whole path: its states with their numbers, and the one at which it goes on after the last.
+pub fn push_lasso(text: &mut Text, model: &Ruled, path: &Lasso) -> Result<(), AllocError>
+    ensures { OnOk result (text.new ≡ text.old ++ lines.lasso_lines model.now path.now) }
+{
+    push_all(text, model, path)?;
+    push_loop(text, path)
 }
 
 // The states of a path from the second on. The first is in the stem, or in the cycle where the stem has none.

@@ -1,7 +1,7 @@
 //! The command that the words of a command line are.
 
 use case_text::fault::Fault;
-use command_words::{Command, Job, Source, Work, read_words};
+use command_words::{Command, Job, Source, SpecPairs, Work, read_words};
 use std::alloc::{AllocError, Global};
 
 /// The words of a text: its lines, or on one line what stands between spaces. `""` is the empty word.
@@ -26,6 +26,15 @@ fn tell_source(source: &Source<'_>, answer: &mut String) -> Result<(), AllocErro
     match source {
         Source::File(name) => answer.push_str(name)?,
         Source::Ring(n) => write!(answer, "ring of {n}")?,
+    }
+    Ok(())
+}
+
+/// Adds the pairs of specifications, a word for each.
+fn tell_pairs(pairs: &SpecPairs, answer: &mut String) -> Result<(), AllocError> {
+    for place in 0..pairs.len() {
+        let (p, q) = pairs.get(place);
+        write!(answer, " {p}:{q}")?;
     }
     Ok(())
 }
@@ -56,6 +65,12 @@ fn tell_work(work: &Work<'_>, answer: &mut String) -> Result<(), AllocError> {
             answer.push_str("replay ")?;
             tell_source(&work.source, answer)?;
             write!(answer, " {trace} {}", work.limit)?;
+        }
+        Job::Strong { pairs } => {
+            answer.push_str("strong ")?;
+            tell_source(&work.source, answer)?;
+            tell_pairs(&pairs, answer)?;
+            write!(answer, " {}", work.limit)?;
         }
     }
     Ok(())

@@ -1,6 +1,6 @@
 use Rattle.std.proofs.Common.{[], ◌∷◌, refl}
 use Rattle.region_sets.specs.Ranks.{slots}
-use Rattle.delay_bounds.proofs.Releases.{all_gone, rest_live}
+use Rattle.state_reach.proofs.Releases.{all_gone, rest_live}
 use Rattle.delay_bounds.proofs.proof.release_with.Goals as goal
 
 pub release_all-requires-clause-live : goal.release_all-requires-clause-live

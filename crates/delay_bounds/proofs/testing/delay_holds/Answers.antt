@@ -3,7 +3,8 @@ use Rattle.std.proofs.lemmas.Result.{IfOk-weaker}
 use Rattle.kripke_model.specs.Reading.{term_of}
 use Rattle.region_sets.specs.Sets.{In}
 use Rattle.region_sets.proofs.Changes.{stays}
-use Rattle.delay_bounds.specs.Delays.{HoldsAt, IsLongest, IsShortest}
+use Rattle.state_reach.specs.States.{HoldsAt}
+use Rattle.delay_bounds.specs.Delays.{IsLongest, IsShortest}
 use Rattle.delay_bounds.specs.Pinned.{over_states}
 use Rattle.delay_bounds.proofs.HoldCalls.{claims_longest, claims_shortest, leaf_alike, shown_answer}
 use Rattle.delay_bounds.proofs.Sound.{proofs_sound}

@@ -2,7 +2,7 @@ use Rattle.std.proofs.lemmas.Result.{IfOk-weaker}
 use Rattle.kripke_model.specs.Reading.{term_of}
 use Rattle.region_sets.specs.Sets.{In}
 use Rattle.region_sets.proofs.Changes.{stays}
-use Rattle.delay_bounds.specs.Delays.{HoldsAt}
+use Rattle.state_reach.specs.States.{HoldsAt}
 use Rattle.delay_bounds.proofs.HoldCalls.{leaf_alike, pin_alike, shown_answer}
 use Rattle.delay_bounds.proofs.testing.holds_from.Goals as goal
 

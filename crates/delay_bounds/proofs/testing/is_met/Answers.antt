@@ -3,7 +3,7 @@ use Rattle.std.proofs.lemmas.Result.{IfOk-weaker}
 use Rattle.path_laws.specs.StateSet.{StateSet, ◌∈◌}
 use Rattle.region_sets.specs.declared.pins.Pin.{Pin}
 use Rattle.region_sets.specs.Sets.{In, IsLive, region}
-use Rattle.delay_bounds.specs.Shows.{Keeps}
+use Rattle.state_reach.specs.Covers.{Keeps}
 use Rattle.delay_bounds.proofs.TestCalls.{last_region, spread_apart, with_first}
 use Rattle.fair_fixpoint.proofs.Lists.{slot_among}
 use Rattle.delay_bounds.proofs.testing.is_met.Goals as goal

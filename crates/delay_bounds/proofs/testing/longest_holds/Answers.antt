@@ -5,7 +5,8 @@ use Rattle.region_sets.specs.Sets.{In, region}
 use Rattle.delay_bounds.specs.declared.proof.Longest.{Longest}
 use Rattle.delay_bounds.specs.Pinned.{over_longest}
 use Rattle.delay_bounds.specs.Seen.{seen_longest}
-use Rattle.delay_bounds.specs.Shows.{Always, Keeps, ShowsLongest}
+use Rattle.state_reach.specs.Covers.{Always, Keeps}
+use Rattle.delay_bounds.specs.Shows.{ShowsLongest}
 use Rattle.delay_bounds.proofs.Parts.{longer_shown, some_of}
 use Rattle.delay_bounds.proofs.testing.longest_holds.Goals as goal
 

@@ -5,7 +5,8 @@ use Rattle.region_sets.specs.Sets.{In, region}
 use Rattle.delay_bounds.specs.declared.proof.Shortest.{Shortest}
 use Rattle.delay_bounds.specs.Pinned.{over_shortest}
 use Rattle.delay_bounds.specs.Seen.{seen_shortest}
-use Rattle.delay_bounds.specs.Shows.{Always, Keeps, ShowsShortest}
+use Rattle.state_reach.specs.Covers.{Always, Keeps}
+use Rattle.delay_bounds.specs.Shows.{ShowsShortest}
 use Rattle.delay_bounds.proofs.Parts.{never_shown}
 use Rattle.delay_bounds.proofs.testing.shortest_holds.Goals as goal
 

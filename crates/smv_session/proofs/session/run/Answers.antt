@@ -116,6 +116,11 @@ returns-in-Ok-clause-replayed g c =
     (put (session g.F.Files.contents g.F.Files.faults g.S.Sink.written g.S.Sink.faults c.args.words.now c.args.files.now c.finish.new.files c.args.out.now c.finish.new.out c.finish.result)
     c.in-Ok.foreseen (g.F.Files.contents c.foresee.new.files) (g.F.Files.faults c.foresee.new.files) c.one_answer.ensures c.in-Ok.ensures.contents c.in-Ok.ensures.foreseen c.finish.ensures).replayed
 
+pub returns-in-Ok-clause-strong : goal.returns-in-Ok-clause-strong
+returns-in-Ok-clause-strong g c =
+    (put (session g.F.Files.contents g.F.Files.faults g.S.Sink.written g.S.Sink.faults c.args.words.now c.args.files.now c.finish.new.files c.args.out.now c.finish.new.out c.finish.result)
+    c.in-Ok.foreseen (g.F.Files.contents c.foresee.new.files) (g.F.Files.faults c.foresee.new.files) c.one_answer.ensures c.in-Ok.ensures.contents c.in-Ok.ensures.foreseen c.finish.ensures).strong
+
 -- ---- memory ran out
 
 pub returns-in-Err-clause-answer : goal.returns-in-Err-clause-answer
@@ -227,3 +232,8 @@ pub returns-in-Err-clause-replayed : goal.returns-in-Err-clause-replayed
 returns-in-Err-clause-replayed g c =
     (gone (session g.F.Files.contents g.F.Files.faults g.S.Sink.written g.S.Sink.faults c.args.words.now c.args.files.now c.foresee.new.files c.args.out.now c.args.out.now Memory)
     c.one_answer.ensures c.in-Err.ensures.contents c.in-Err.ensures.unsaved refl refl refl).replayed
+
+pub returns-in-Err-clause-strong : goal.returns-in-Err-clause-strong
+returns-in-Err-clause-strong g c =
+    (gone (session g.F.Files.contents g.F.Files.faults g.S.Sink.written g.S.Sink.faults c.args.words.now c.args.files.now c.foresee.new.files c.args.out.now c.args.out.now Memory)
+    c.one_answer.ensures c.in-Err.ensures.contents c.in-Err.ensures.unsaved refl refl refl).strong

@@ -6,7 +6,7 @@ use Rattle.region_sets.proofs.Slots.{AreDistinct-left, is_one_of-left}
 use Rattle.delay_bounds.specs.Form.{longest_sets, shortest_sets}
 use Rattle.delay_bounds.specs.Pinned.{proof_slots}
 use Rattle.delay_bounds.specs.Seen.{seen_longest, seen_shortest}
-use Rattle.delay_bounds.proofs.Releases.{all_gone, rest_live, rest_once}
+use Rattle.state_reach.proofs.Releases.{all_gone, rest_live, rest_once}
 use Rattle.delay_bounds.proofs.proof.DelayProof.release.Goals as goal
 
 pub release-requires-clause-live : goal.release-requires-clause-live

@@ -1,0 +1,2 @@
+pub mod CertificateLines
+mod ReplyLemmas
