@@ -1,7 +1,7 @@
 #!/bin/sh
-# Builds the program bdd_bench and the same work over BuDDy with full optimisation, runs them side by
-# side, and prints the ratio of time and of instructions, and where our instructions go. Wants rt, gcc,
-# libbdd-dev and valgrind (with callgrind_annotate).
+# Builds the program work_bench, and the work of its diagrams over BuDDy, with full optimisation, runs
+# them side by side, and prints the ratio of time and of instructions, and where our instructions go.
+# Wants rt, gcc, libbdd-dev and valgrind (with callgrind_annotate).
 # Usage: bench/run.sh [queens|carry|counter] [N] [NODES]
 # NODES is the room of BuDDy's node table: enough that nothing is collected, so that it makes as many
 # nodes as bdd_ops, which collects nothing.
@@ -14,13 +14,13 @@ work=$(mktemp -d)
 trap 'rm -rf "$work"' EXIT
 
 # rt builds a proved program with clang at -O3
-(cd crates/bdd_bench && rt run -- "$kind" 4 >/dev/null)
-ours=crates/bdd_bench/out/bdd_bench
+(cd crates/work_bench && rt run -- diagrams "$kind" 4 >/dev/null)
+ours=crates/work_bench/out/work_bench
 gcc -O3 -o "$work/buddy" bench/buddy.c -lbdd
 
 grep -m 1 'model name' /proc/cpuinfo
 echo "processors: $(nproc)"
-"$ours" "$kind" "$n" | sed -n 1p
+"$ours" diagrams "$kind" "$n" | sed -n 1p
 "$work/buddy" "$kind" "$n" "$nodes" | sed -n 1p
 
 ratio() { echo "$1 $2" | awk '{ printf "%.2f", $1 / $2 }'; }
@@ -28,7 +28,7 @@ time_of() { "$@" | awk '/microseconds/ { print $1 }'; }
 # the least of nine runs of each, in turn: other work on the machine makes a run only longer
 least_a= least_b=
 for run in 1 2 3 4 5 6 7 8 9; do
-    a=$(time_of "$ours" "$kind" "$n")
+    a=$(time_of "$ours" diagrams "$kind" "$n")
     b=$(time_of "$work/buddy" "$kind" "$n" "$nodes")
     [ -n "$least_a" ] && [ "$least_a" -le "$a" ] || least_a=$a
     [ -n "$least_b" ] && [ "$least_b" -le "$b" ] || least_b=$b
@@ -44,7 +44,7 @@ profile() {
 }
 # The instructions of the first line that has these words: with all that was called, or its own.
 of() { grep -m 1 -e "$2" "$1" | awk '{ gsub(",", "", $1); print $1 }'; }
-profile "$work/a" "$ours" "$kind" "$n"
+profile "$work/a" "$ours" diagrams "$kind" "$n"
 profile "$work/b" "$work/buddy" "$kind" "$n" "$nodes"
 a=$(of "$work/a.inclusive" 'PROGRAM TOTALS')
 b=$(of "$work/b.inclusive" 'PROGRAM TOTALS')
@@ -54,7 +54,7 @@ echo "instructions, whole programs: $a and $b, ratio $(ratio "$a" "$b")"
 b=$(of "$work/b.inclusive" ":$kind[ .]")
 if [ "$kind" = counter ]; then
     products=$(of "$work/a.inclusive" 'quantification::product::<#[0-9a-f]*> ')
-    sets=$(of "$work/a.inclusive" 'bdd_bench::carried::<#[0-9a-f]*> ')
+    sets=$(of "$work/a.inclusive" 'diagrams::carried::<#[0-9a-f]*> ')
     a=$((products + sets))
 else
     a=$(of "$work/a.inclusive" 'Engine::apply::<#[0-9a-f]*> ')

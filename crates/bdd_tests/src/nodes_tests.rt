@@ -75,16 +75,21 @@ fn check_values(rt: &impl Abort, store: &Store, a: Ref, b: Ref) {
     }
 }
 
+/// Two triples, one on the other, in an empty store that has no more room.
+fn check_two(rt: &impl Abort, store: &mut Store) -> Result<(), Fail> {
+    let a = made(store, 1, Ref::FALSE, Ref::TRUE).ok_or("level 1")??;
+    check_made_again(rt, store, a)?;
+    let b = made(store, 0, Ref::FALSE, a).ok_or("level 0")??;
+    assert!(rt; a.number() == 2 && b.number() == 3 && store.count() == 2);
+    check_full(rt, store, a)?;
+    check_triples(rt, store, a, b);
+    check_values(rt, store, a, b);
+    Ok(())
+}
+
 #[test]
 fn two_levels_and_room_for_two_triples(rt: HostRuntime) -> Result<(), Fail> {
     let mut store = Store::new(rt.alloc(), 2, 2)?;
-    assert!(rt; (store.levels(), store.limit(), store.count()) == (2, 2, 0));
-    let a = made(&mut store, 1, Ref::FALSE, Ref::TRUE).ok_or("level 1")??;
-    check_made_again(&rt, &mut store, a)?;
-    let b = made(&mut store, 0, Ref::FALSE, a).ok_or("level 0")??;
-    assert!(rt; (a.number(), b.number(), store.count()) == (2, 3, 2));
-    check_full(&rt, &mut store, a)?;
-    check_triples(&rt, &store, a, b);
-    check_values(&rt, &store, a, b);
-    Ok(())
+    assert!(rt; store.levels() == 2 && store.limit() == 2 && store.count() == 0);
+    check_two(&rt, &mut store)
 }

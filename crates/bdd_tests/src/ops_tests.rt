@@ -130,6 +130,39 @@ fn check_memory(rt: &impl Abort, engine: &mut Engine, a: Ref, b: Ref, and: Ref) 
     assert!(rt; engine.refused() == 0);
 }
 
+/// The conjunction by itself and by another operation, and a negation that is taken back.
+fn check_and<L: Ledger>(
+    rt: &impl Abort,
+    engine: &mut Engine,
+    a: Ref,
+    b: Ref,
+    and: Ref,
+    steps: &mut Steps<L>,
+) -> Result<(), Fail> {
+    check_same(rt, engine, Key::And(a, b), and, steps)?;
+    check_same(rt, engine, Key::Ite(a, b, Ref::FALSE), and, steps)?;
+    let not = applied(engine, Key::Not(a), steps)?;
+    check_same(rt, engine, Key::Not(not), a, steps)?;
+    check_values(rt, engine, and, [false, false, false, true]);
+    Ok(())
+}
+
+/// The disjunction and the equivalence, and the conjunction once more.
+fn check_or_and_iff<L: Ledger>(
+    rt: &impl Abort,
+    engine: &mut Engine,
+    a: Ref,
+    b: Ref,
+    and: Ref,
+    steps: &mut Steps<L>,
+) -> Result<(), Fail> {
+    let or = applied(engine, Key::Or(a, b), steps)?;
+    check_values(rt, engine, or, [false, true, true, true]);
+    let iff = applied(engine, Key::Iff(a, b), steps)?;
+    check_values(rt, engine, iff, [true, false, false, true]);
+    check_same(rt, engine, Key::And(a, b), and, steps)
+}
+
 fn literals<L: Ledger>(rt: &impl Abort, alloc: Global, cache: u32, blank: Blank) -> Result<(), Fail>
     requires cache { 0 < cache }
     requires name { blank.name ≡ L.name }
@@ -143,16 +176,8 @@ fn literals<L: Ledger>(rt: &impl Abort, alloc: Global, cache: u32, blank: Blank)
         g: b,
         and,
     } = literal_conjunction(alloc, cache, &mut steps)?;
-    check_same(rt, &mut engine, Key::And(a, b), and, &mut steps)?;
-    check_same(rt, &mut engine, Key::Ite(a, b, Ref::FALSE), and, &mut steps)?;
-    let not = applied(&mut engine, Key::Not(a), &mut steps)?;
-    check_same(rt, &mut engine, Key::Not(not), a, &mut steps)?;
-    check_values(rt, &engine, and, [false, false, false, true]);
-    let or = applied(&mut engine, Key::Or(a, b), &mut steps)?;
-    check_values(rt, &engine, or, [false, true, true, true]);
-    let iff = applied(&mut engine, Key::Iff(a, b), &mut steps)?;
-    check_values(rt, &engine, iff, [true, false, false, true]);
-    check_same(rt, &mut engine, Key::And(a, b), and, &mut steps)?;
+    check_and(rt, &mut engine, a, b, and, &mut steps)?;
+    check_or_and_iff(rt, &mut engine, a, b, and, &mut steps)?;
     check_memory(rt, &mut engine, a, b, and);
     Ok(())
 }

@@ -98,6 +98,34 @@ fn check_product<L: Ledger>(
     Ok(())
 }
 
+/// The second literal quantified in the conjunction, by itself, and in products.
+fn check_all<L: Ledger>(
+    rt: &impl Abort,
+    engine: &mut Engine,
+    a: Ref,
+    b: Ref,
+    and: Ref,
+    steps: &mut Steps<L>,
+) -> Result<(), Fail> {
+    check_without(rt, engine, and, a, steps)?;
+    check_without(rt, engine, b, Ref::TRUE, steps)?;
+    check_product(rt, engine, a, b, a, steps)?;
+    check_product(rt, engine, b, b, Ref::TRUE, steps)?;
+    check_without(rt, engine, and, a, steps)
+}
+
+/// The same of the literals of two levels.
+fn check_literals<L: Ledger>(
+    rt: &impl Abort,
+    engine: &mut Engine,
+    steps: &mut Steps<L>,
+) -> Result<(), Fail> {
+    let a = made(engine, 0, Ref::FALSE, Ref::TRUE)?;
+    let b = made(engine, 1, Ref::FALSE, Ref::TRUE)?;
+    let and = made(engine, 0, Ref::FALSE, b)?;
+    check_all(rt, engine, a, b, and, steps)
+}
+
 fn literals<L: Ledger>(rt: &impl Abort, alloc: Global, cache: u32, blank: Blank) -> Result<(), Fail>
     requires cache { 0 < cache }
     requires name { blank.name ≡ L.name }
@@ -106,14 +134,7 @@ fn literals<L: Ledger>(rt: &impl Abort, alloc: Global, cache: u32, blank: Blank)
 {
     let mut steps = Steps::<L>::new(blank);
     let mut engine = Engine::new(alloc, Store::new(alloc, 2, 100)?, cache)?;
-    let a = made(&mut engine, 0, Ref::FALSE, Ref::TRUE)?;
-    let b = made(&mut engine, 1, Ref::FALSE, Ref::TRUE)?;
-    let and = made(&mut engine, 0, Ref::FALSE, b)?;
-    check_without(rt, &mut engine, and, a, &mut steps)?;
-    check_without(rt, &mut engine, b, Ref::TRUE, &mut steps)?;
-    check_product(rt, &mut engine, a, b, a, &mut steps)?;
-    check_product(rt, &mut engine, b, b, Ref::TRUE, &mut steps)?;
-    check_without(rt, &mut engine, and, a, &mut steps)?;
+    check_literals(rt, &mut engine, &mut steps)?;
     assert!(rt; engine.refused() == 0);
     Ok(())
 }

@@ -76,18 +76,23 @@ fn check_first(
     Ok(())
 }
 
+/// The constants, the literals of two levels and their conjunction, in an empty store.
+fn check_literals(rt: &impl Abort, alloc: Global, engine: &mut Engine) -> Result<(), Fail> {
+    let (zero, one) = (Ref::FALSE, Ref::TRUE);
+    let a = made(engine, 0, zero, one)?;
+    let b = made(engine, 1, zero, one)?;
+    let both = made(engine, 0, zero, b)?;
+    assert!(rt; engine.store().count() == 3);
+    for (f, size_of_f) in [(zero, 0), (one, 0), (a, 1), (b, 1), (both, 2)] {
+        check_size(rt, alloc, engine, f, size_of_f)?;
+    }
+    assert!(rt; engine.store().count() == 3);
+    check_first(rt, alloc, engine.store(), b, both)
+}
+
 #[test]
 fn conjunction_of_two_literals(rt: HostRuntime) -> Result<(), Fail> {
     let alloc = rt.alloc();
-    let (zero, one) = (Ref::FALSE, Ref::TRUE);
     let mut engine = Engine::new(alloc, Store::new(alloc, 2, 100)?, 16)?;
-    let a = made(&mut engine, 0, zero, one)?;
-    let b = made(&mut engine, 1, zero, one)?;
-    let both = made(&mut engine, 0, zero, b)?;
-    assert!(rt; engine.store().count() == 3);
-    for (f, size_of_f) in [(zero, 0), (one, 0), (a, 1), (b, 1), (both, 2)] {
-        check_size(&rt, alloc, &mut engine, f, size_of_f)?;
-    }
-    assert!(rt; engine.store().count() == 3);
-    check_first(&rt, alloc, engine.store(), b, both)
+    check_literals(&rt, alloc, &mut engine)
 }

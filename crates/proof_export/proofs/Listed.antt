@@ -1,11 +1,9 @@
 -- The list of a proof's sets, and the text of the block over it.
 use Rattle.std.proofs.Common.{◌≡◌, ℕ, zero, suc, ◌<◌, List, [], ◌∷◌, length, append-nil}
 use Rattle.std.proofs.Common.{refl, sym, ◌∙◌, ap, subst, arith}
-use Rattle.std.specs.Prelude.{◌↔◌, ◌==◌, All, Err, IfOk, Ok, Result, slice_index}
+use Rattle.std.specs.Prelude.{◌↔◌, Err, IfOk, Ok, Result, slice_index}
 use Rattle.std.specs.Global.{Vec}
-use Rattle.std.proofs.lemmas.Bool.{or_right}
 use Rattle.std.proofs.lemmas.List.{length-map}
-use Rattle.std.proofs.lemmas.List.Elements.{All-nil, All-cons}
 use Rattle.std.proofs.lemmas.Slice.Zip.{AllZip-long}
 use Rattle.bdd_walk.specs.declared.list.NodeList.{NodeList}
 use Rattle.bdd_walk.specs.List.{nodes_of, roots_of, IsGoodList}
@@ -15,12 +13,11 @@ use Rattle.bit_encode.specs.Code.{Coding, bit_count, state_bits, types_of}
 use Rattle.kripke_model.specs.Step.{IsState}
 use Rattle.kripke_model.specs.System.{System, State}
 use Rattle.region_sets.specs.declared.pins.Pin.{Pin}
-use Rattle.region_sets.specs.Sets.{Sets, Adds, Gauge, In, IsCall, IsLive, is_one_of}
-use Rattle.region_sets.specs.Ranks.{AreLive, slots}
+use Rattle.region_sets.specs.Sets.{Sets, Adds, Gauge, In, IsCall}
+use Rattle.region_sets.specs.Ranks.{slots}
 use Rattle.region_sets.specs.declared.pins.SetRefusal.{SetRefusal}
 use Rattle.region_sets.proofs.Calls.{let_go}
-use Rattle.region_sets.proofs.Slots.{is_one_of-first}
-use Rattle.diagram_sets.specs.Exports.{HaveStates}
+use Rattle.diagram_sets.specs.Exports.{HaveStates, coding_by}
 use Rattle.proof_form.specs.Form.{Proof, sets_of}
 use Rattle.proof_form.specs.Meaning.{ProvesSpec}
 use Rattle.proof_form.specs.Pinned.{AreCopies, IsFilled, over_states, proof_slots}
@@ -28,19 +25,11 @@ use Rattle.proof_form.proofs.Copied.{to_ok}
 use Rattle.proof_text.specs.Lines.{block_lines, text_of}
 use Rattle.proof_text.specs.Written.{own_order}
 use Rattle.proof_export.specs.Exported.{IsBlockText}
-use Rattle.proof_export.specs.Listed.{HasSets, IsTextOver, block_with, coding_by}
+use Rattle.proof_export.specs.Listed.{HasSets, IsTextOver, block_with}
 use Rattle.proof_export.proofs.Filled.{at_filled, claim_filled, each_filled}
 use Rattle.proof_export.proofs.Proved.{RootsHave, roots_in_shape, roots_prove}
 
 -- ---- copies
-
-pub each_live : (sets : Sets) (pins : List Pin) → AreLive sets (slots pins)
-    → All (λ (pin : Pin). IsLive sets pin.slot) pins
-each_live sets [] live = All-nil (λ (pin : Pin). IsLive sets pin.slot)
-each_live sets (p ∷ pins) live =
-    All-cons (λ (pin : Pin). IsLive sets pin.slot) p pins
-    (live p.slot (is_one_of-first p.slot (slots pins)))
-    (each_live sets pins (λ k e. live k (or_right (k == p.slot) (is_one_of k (slots pins)) e)))
 
 module _ (a b : Sets) where
   copy_at : (pins copies : List Pin) (k : ℕ) (s : State) → AreCopies a b pins copies

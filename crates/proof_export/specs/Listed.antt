@@ -2,19 +2,15 @@
 use Rattle.std.specs.Prelude.{◌≡◌, ℕ, List, length}
 use Rattle.bdd_walk.specs.declared.list.NodeList.{NodeList}
 use Rattle.bdd_walk.specs.List.{nodes_of, roots_of, IsGoodList}
-use Rattle.bit_encode.specs.Code.{Coding, state_bits, types_of}
+use Rattle.bit_encode.specs.Code.{state_bits}
 use Rattle.kripke_model.specs.System.{System}
 use Rattle.region_sets.specs.declared.pins.Pin.{Pin}
 use Rattle.region_sets.specs.Sets.{Sets}
-use Rattle.diagram_sets.specs.Exports.{HaveStates}
+use Rattle.diagram_sets.specs.Exports.{HaveStates, coding_by}
 use Rattle.proof_form.specs.Form.{Proof, sets_of}
 use Rattle.proof_form.specs.Pinned.{IsFilled, proof_slots}
 use Rattle.proof_text.specs.File.{Block}
 use Rattle.proof_text.specs.Lines.{block_lines, text_of}
-
--- how states are bits, by the types of the model's variables and by the gauge's order
-abbrev pub coding_by : Sets → Coding
-coding_by sets = record { types = types_of sets.over; order = sets.gauge.order }
 
 -- the list has a root for each set of the proof, in the order of the lines, which has value 1 at
 -- the codes of the set's states

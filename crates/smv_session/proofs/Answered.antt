@@ -7,7 +7,7 @@ use Rattle.std.proofs.lemmas.List.Elements.{All-nil, All-cons}
 use Rattle.bdd_nodes.specs.declared.refusal.Held.{Held}
 use Rattle.command_words.specs.Words as words
 use Rattle.command_words.specs.Words.{Command, Source, File, Ring, Work, Job, Decide, Recheck, Delay, Replay, Strong, Print, Do}
-use Rattle.delay_answers.specs.Delayed.{Delayed, LeavesDelays}
+use Rattle.command_replies.specs.Delayed.{Delayed, LeavesDelays}
 use Rattle.kripke_model.specs.System.{System}
 use Rattle.smv_outside.specs.Contents.{Contents}
 use Rattle.smv_rings.specs.Rings.{ring_text}
@@ -26,10 +26,10 @@ use Rattle.smv_texts.specs.declared.ending.Ending.{Ending}
 use Rattle.smv_texts.specs.declared.ending.Ending.TheVariants as endings
 use Rattle.smv_texts.specs.declared.status.Status.TheVariants.{Undecided, ModelRefused, OutsideFault, Usage, Memory, ProofRefused}
 use Rattle.spec_verdicts.specs.Checked.{EndsWith}
-use Rattle.proof_answers.specs.Answers.{Answer}
-use Rattle.proof_answers.specs.Rechecked.{EndsAnswers, LeavesUnanswered, Rechecked}
-use Rattle.strong_answers.specs.Strong.{LeavesStrong, StrongReply}
-use Rattle.trace_answers.specs.Replayed.{Replayed, ends_judged}
+use Rattle.command_replies.specs.Answers.{Answer}
+use Rattle.command_replies.specs.Rechecked.{EndsAnswers, LeavesUnanswered, Rechecked}
+use Rattle.command_replies.specs.Strong.{LeavesStrong, StrongReply}
+use Rattle.command_replies.specs.Replayed.{Replayed, ends_judged}
 use Rattle.trace_check.specs.declared.judged.Judged.{Judged}
 use Rattle.trace_check.specs.declared.judged.Judged.TheVariants as judgements
 

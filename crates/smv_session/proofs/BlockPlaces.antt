@@ -2,8 +2,8 @@
 use Rattle.std.proofs.Common.{◌≡◌, ℕ, suc, ◌+◌, ◌<◌, List, [], ◌∷◌, ◌++◌, length, take, get_or, ◌∙◌, sym, ap, subst, arith}
 use Rattle.std.proofs.Math.Seq.{take-suc}
 use Rattle.kripke_model.specs.System.{System}
-use Rattle.proof_answers.specs.Answered.{AreAnswered}
-use Rattle.proof_answers.specs.declared.answers.Answers.{Answers}
+use Rattle.command_replies.specs.Answered.{AreAnswered}
+use Rattle.command_replies.specs.declared.answers.Answers.{Answers}
 use Rattle.proof_checker.specs.Answers.{IsAnswerTo}
 use Rattle.proof_checker.specs.declared.checking.Answer.{Answer}
 use Rattle.proof_text.specs.File.{Block}

@@ -12,7 +12,7 @@ use Rattle.proof_checker.proofs.Sizes.{constraints_fit, nodes_fit}
 use Rattle.proof_form.specs.Shape.{spec_formula}
 use Rattle.path_laws.specs.StateCount.{state_count}
 use Rattle.trans_parts.specs.Budget.{room}
-use Rattle.smv_session.specs.Compassion.{strong_pins}
+use Rattle.strong_export.specs.Finding.{strong_pins}
 use Rattle.smv_session.specs.Relation.{trial_pins}
 
 fits : (s n k states p : ℕ) → n ≤ s → states ≤ p

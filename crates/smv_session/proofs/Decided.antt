@@ -5,13 +5,13 @@ use Rattle.std.specs.Prelude.{All, IfSome, count_by}
 use Rattle.std.proofs.lemmas.List.Elements.{All-head}
 use Rattle.bdd_nodes.specs.declared.refusal.Held.{Held}
 use Rattle.command_words.specs.Words.{Job, Work, Decide, Recheck, Delay, Replay, Strong}
-use Rattle.delay_answers.specs.Delayed.{Delayed, LeavesDelays}
+use Rattle.command_replies.specs.Delayed.{Delayed, LeavesDelays}
 use Rattle.kripke_model.specs.Faults.{IsFaultless}
 use Rattle.kripke_model.specs.System.{System, Condition}
-use Rattle.proof_answers.proofs.Accepting.{all_accepted}
-use Rattle.proof_answers.specs.Answers.{Answer, AreAccepted}
-use Rattle.proof_answers.specs.Rechecked.{LeavesUnanswered}
-use Rattle.proof_answers.specs.Report.{answers_report}
+use Rattle.command_replies.proofs.Accepting.{all_accepted}
+use Rattle.command_replies.specs.Answers.{Answer, AreAccepted}
+use Rattle.command_replies.specs.Rechecked.{LeavesUnanswered}
+use Rattle.command_replies.specs.ProofReport.{answers_report}
 use Rattle.proof_text.specs.File.{File}
 use Rattle.proof_text.specs.Refuses.{Refuses as RefusesText}
 use Rattle.proof_text.specs.Spells.{Spells}
@@ -24,8 +24,8 @@ use Rattle.smv_session.specs.Commands.{AcceptsProved, FindsDelays, IsDelayed, Is
 use Rattle.smv_session.specs.Commands.{IsReplayed, ReplaysTraces, TellsOfProofs}
 use Rattle.smv_session.specs.Commands.{FindsStrongPaths, IsStrongFound}
 use Rattle.smv_session.specs.Jobs.{Does, IsLoaded, IsSecond, Undecides}
-use Rattle.strong_answers.specs.Strong.{LeavesStrong, StrongReply}
-use Rattle.trace_answers.specs.Replayed.{Replayed}
+use Rattle.command_replies.specs.Strong.{LeavesStrong, StrongReply}
+use Rattle.command_replies.specs.Replayed.{Replayed}
 use Rattle.smv_session.specs.Session.{Leaves, Puts, RefusesModels, Session, Shows, TakesModels}
 use Rattle.smv_session.proofs.Tried.{names_none}
 use Rattle.smv_texts.specs.Replies.{Reply, text_of}

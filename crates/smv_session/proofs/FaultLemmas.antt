@@ -15,7 +15,7 @@ use Rattle.kripke_model.specs.Order.{place_in, IsEarlier, IsBefore}
 use Rattle.kripke_model.specs.Evaluation.{same}
 use Rattle.kripke_model.specs.Faults.{items, item_fault, IsFaultless}
 use Rattle.kripke_model.proofs.ValueLemmas.{same-true, same_self}
-use Rattle.trans_parts.specs.FirstFault.{line_of, term_in, IsLeastFault, IsFirstFault}
+use Rattle.item_faults.specs.FirstFault.{line_of, term_in, IsLeastFault, IsFirstFault}
 
 -- ---- states are ordered
 

@@ -17,6 +17,5 @@ pub mod PutText
 pub mod Ready
 pub mod RefusedLemmas
 pub mod SavedReplies
-pub mod Searched
 pub mod SourceLemmas
 pub mod Tried

@@ -5,7 +5,7 @@ use Rattle.std.proofs.lemmas.List.Elements.{All-nil, All-cons, All-head, All-tai
 use Rattle.kripke_model.specs.System.{System}
 use Rattle.smv_session.specs.Jobs.{both_of}
 use Rattle.spec_leaves.specs.Named.{IsFirstOther, NamesLeaf, spec_leaf}
-use Rattle.strong_answers.specs.Strong.{ArePairs}
+use Rattle.command_replies.specs.Strong.{ArePairs}
 use Rattle.strong_fair.specs.Strong.{Pair}
 
 module _ (m : System) where

@@ -15,7 +15,7 @@ use Rattle.kripke_model.specs.declared.refusals.FlatRefusal.{FlatRefusal}
 use Rattle.bit_encode.specs.Code.{state_bits}
 use Rattle.smv_instantiate.specs.Flattens.{Flattens}
 use Rattle.smv_instantiate.specs.Refuses as flattening
-use Rattle.trans_parts.specs.FirstFault.{IsFirstFault}
+use Rattle.item_faults.specs.FirstFault.{IsFirstFault}
 use Rattle.smv_session.specs.Source.{line_at, token_line, HasTokens, HasProgram, HasFlat, HasRuled, HasModel, IsAccepted}
 use Rattle.command_words.specs.Words.{Job}
 use Rattle.smv_session.specs.Jobs.{NamesLeaves, numbers_of}

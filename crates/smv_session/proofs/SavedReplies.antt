@@ -2,9 +2,9 @@
 use Rattle.std.proofs.Common.{◌≡◌, ◌⊎◌, inl, inr, ℕ, List, Option, Some, None, refl, sym, subst}
 use Rattle.command_words.specs.Words as words
 use Rattle.command_words.specs.Words.{Command, Work, Job, Decide, Recheck, Delay, Replay, Strong, Print, Do}
-use Rattle.delay_answers.specs.Delayed.{Delayed}
+use Rattle.command_replies.specs.Delayed.{Delayed}
 use Rattle.kripke_model.specs.System.{System}
-use Rattle.proof_answers.specs.Rechecked.{Rechecked}
+use Rattle.command_replies.specs.Rechecked.{Rechecked}
 use Rattle.smv_outside.specs.Contents.{AreTold, Contents, IsSaved}
 use Rattle.smv_session.specs.Answers.{Answers, IsModelReply, Reads, Takes}
 use Rattle.smv_session.specs.Foreseen.{FailsToSave}
@@ -16,8 +16,8 @@ use Rattle.smv_texts.specs.Report.{Finding}
 use Rattle.smv_texts.specs.declared.ending.Ending.{Ending}
 use Rattle.smv_texts.specs.declared.ending.Ending.TheVariants as endings
 use Rattle.spec_verdicts.specs.Checked.{EndsWith, SavesProofs}
-use Rattle.strong_answers.specs.Strong.{StrongReply}
-use Rattle.trace_answers.specs.Replayed.{Replayed}
+use Rattle.command_replies.specs.Strong.{StrongReply}
+use Rattle.command_replies.specs.Replayed.{Replayed}
 
 -- ---- by the job
 

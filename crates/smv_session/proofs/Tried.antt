@@ -4,10 +4,10 @@ use Rattle.std.proofs.Common.{All, ap, [], ◌∙◌, ◌≡◌, ◌≤◌, inl,
 use Rattle.std.specs.declared.alloc.AllocError.{AllocError}
 use Rattle.bit_encode.specs.Code.{state_bits}
 use Rattle.command_words.specs.Words.{Job, Work, Decide, Recheck, Delay, Replay, Strong}
-use Rattle.delay_answers.specs.Delayed.{Delayed, LeavesDelays}
+use Rattle.command_replies.specs.Delayed.{Delayed, LeavesDelays}
 use Rattle.kripke_model.specs.Faults.{IsFaultless}
 use Rattle.kripke_model.specs.System.{System}
-use Rattle.proof_answers.specs.Rechecked.{LeavesUnanswered, Rechecked}
+use Rattle.command_replies.specs.Rechecked.{LeavesUnanswered, Rechecked}
 use Rattle.smv_outside.specs.Contents.{Contents, bytes_under}
 use Rattle.smv_outside.specs.declared.faults.FileFaults.{FileFaults}
 use Rattle.smv_session.specs.Answers.{IsModelReply, Takes}
@@ -22,8 +22,8 @@ use Rattle.smv_texts.specs.Replies as replies
 use Rattle.smv_texts.specs.Replies.{IsReply}
 use Rattle.smv_texts.specs.declared.reply.Reply.{Reply}
 use Rattle.spec_verdicts.specs.Checked.{IsChecked, LeavesUnknown}
-use Rattle.strong_answers.specs.Strong.{LeavesStrong, StrongReply}
-use Rattle.trace_answers.specs.Replayed.{Replayed}
+use Rattle.command_replies.specs.Strong.{LeavesStrong, StrongReply}
+use Rattle.command_replies.specs.Replayed.{Replayed}
 
 pub checked_decides : (m : System) (limit : ℕ) (proofs : Option (List ℕ)) (reply : Reply) → IsFaultless m → IsReply (IsChecked m limit proofs) reply → IsReply (Decides m limit proofs) reply
 checked_decides m limit proofs reply faultless is = (is.0, is.1, inr (faultless, is.2))

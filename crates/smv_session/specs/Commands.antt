@@ -5,15 +5,15 @@ use Rattle.std.specs.Prelude.{count_by}
 use Rattle.bdd_nodes.specs.declared.triple.Triple.{Triple}
 use Rattle.command_words.specs.Words.{Work, Decide, Recheck, Delay, Replay, Strong, Print}
 use Rattle.command_words.specs.Words.{command_of}
-use Rattle.delay_answers.specs.Delayed.{AreDelays, LeavesDelays, delays_line}
+use Rattle.command_replies.specs.Delayed.{AreDelays, LeavesDelays, delays_line}
 use Rattle.delay_bounds.specs.Delays as delays
 use Rattle.kripke_model.specs.Faults.{IsFaultless}
 use Rattle.kripke_model.specs.Path.{Lasso}
 use Rattle.kripke_model.specs.System.{System}
 use Rattle.smv_rings.specs.Rings.{ring_text}
-use Rattle.proof_answers.specs.Answers.{Answer, AreAccepted}
-use Rattle.proof_answers.specs.Rechecked.{Rechecked, LeavesUnanswered}
-use Rattle.proof_answers.specs.Report.{answers_report}
+use Rattle.command_replies.specs.Answers.{Answer, AreAccepted}
+use Rattle.command_replies.specs.Rechecked.{Rechecked, LeavesUnanswered}
+use Rattle.command_replies.specs.ProofReport.{answers_report}
 use Rattle.proof_text.specs.File.{File}
 use Rattle.proof_text.specs.Refuses.{Refuses as RefusesText}
 use Rattle.proof_text.specs.Spells.{Spells}
@@ -26,13 +26,13 @@ use Rattle.smv_texts.specs.declared.status.Status.TheVariants.{Clear, Failed, Mo
 use Rattle.spec_verdicts.specs.Checked.{LeavesNoneOut, all_unknown}
 use Rattle.spec_verdicts.specs.Exports.{Exports}
 use Rattle.spec_verdicts.specs.Verdicts.{AreVerdicts, ShowStates}
-use Rattle.strong_answers.specs.Strong.{IsNoneFor, IsPathFor, LeavesStrong, no_text, yes_text}
+use Rattle.command_replies.specs.Strong.{IsNoneFor, IsPathFor, LeavesStrong, no_text, yes_text}
 use Rattle.strong_fair.specs.Form.{Certificate}
 use Rattle.smv_session.specs.Jobs.{NamesLeaves}
 use Rattle.smv_session.specs.Session.{Session, Asks, IsUndisturbed, Leaves, Puts, Shows}
 use Rattle.smv_session.specs.Source.{HasModel, IsAccepted}
 use Rattle.bit_encode.specs.Enough.{enough}
-use Rattle.trace_answers.specs.Replayed.{IsTraceJudged, IsTraceRefused, Replayed}
+use Rattle.command_replies.specs.Replayed.{IsTraceJudged, IsTraceRefused, Replayed}
 
 -- `gen N`: the ring's text is put.
 pub record GeneratesText (s : Session) : Type 0 where

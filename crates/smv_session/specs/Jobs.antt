@@ -1,15 +1,15 @@
 -- What each job asks, by cases: a new job is a line in each of these.
 use Rattle.std.specs.Prelude.{◌≡◌, ℕ, List, [], ◌∷◌, All, Option, Some, None, IfSome, flat_map}
 use Rattle.command_words.specs.Words.{Job, Decide, Recheck, Delay, Replay, Strong}
-use Rattle.delay_answers.specs.Delayed.{Delayed, LeavesDelays}
+use Rattle.command_replies.specs.Delayed.{Delayed, LeavesDelays}
 use Rattle.kripke_model.specs.System.{System}
-use Rattle.proof_answers.specs.Rechecked.{Rechecked, LeavesUnanswered}
+use Rattle.command_replies.specs.Rechecked.{Rechecked, LeavesUnanswered}
 use Rattle.smv_outside.specs.Contents.{AreTold, Contents, LeavesOthers, bytes_under}
 use Rattle.smv_texts.specs.Replies.{Reply}
 use Rattle.spec_leaves.specs.Named.{NamesLeaf}
 use Rattle.spec_verdicts.specs.Checked.{IsChecked, LeavesUnknown}
-use Rattle.strong_answers.specs.Strong.{LeavesStrong, StrongReply}
-use Rattle.trace_answers.specs.Replayed.{Replayed}
+use Rattle.command_replies.specs.Strong.{LeavesStrong, StrongReply}
+use Rattle.command_replies.specs.Replayed.{Replayed}
 
 -- the two numbers of a pair
 abbrev pub both_of : ℕ × ℕ → List ℕ

@@ -8,4 +8,3 @@ pub mod Answers
 pub mod Foreseen
 pub mod Session
 pub mod Commands
-pub mod Compassion

@@ -9,7 +9,7 @@ use Rattle.kripke_model.specs.Static.{Breaks}
 use Rattle.kripke_model.specs.System.{System}
 use Rattle.command_words.specs.Words.{Job}
 use Rattle.bit_encode.specs.Code.{state_bits}
-use Rattle.trans_parts.specs.FirstFault.{IsFirstFault}
+use Rattle.item_faults.specs.FirstFault.{IsFirstFault}
 use Rattle.smv_texts.specs.Refusals.{Refusal, TooLong, BadByte, NumberTooLarge, NoProgram, TooDeep}
 use Rattle.smv_texts.specs.Refusals.{NotFlat, BreaksRule, TooManyBits, NoLeaf, Faults}
 use Rattle.spec_leaves.specs.Named.{IsFirstOther}

@@ -16,7 +16,7 @@ use Rattle.region_sets.specs.Sets.{Sets}
 use Rattle.path_laws.specs.StateCount.{state_count}
 use Rattle.bit_encode.specs.Enough.{enough}
 use Rattle.trans_parts.specs.Budget.{room}
-use Rattle.trans_parts.specs.FirstFault.{IsFirstFault}
+use Rattle.item_faults.specs.FirstFault.{IsFirstFault}
 use Rattle.trans_parts.specs.Parts.{coding_of, model_of, store_of}
 use Rattle.trans_parts.specs.declared.building.BuildRefusal.{BuildRefusal}
 use Rattle.trans_parts.specs.declared.building.BuildRefusal.TheVariants as refusals

@@ -1,57 +1,38 @@
-// The search for a strong path of a model within a node limit.
+// The reply where a strong path of a model is to be found within a node limit.
 ghost use Rattle.std.specs.Prelude.{◌≡◌, ◌≤◌, [], ℕ, All, IfOk, List, MatchOption, Option, Some};
 ghost use Rattle.std.specs.Prelude.{flat_map, length};
 ghost use Rattle.command_words.specs.Asked.{work_asked};
 ghost use Rattle.command_words.specs.Listed.{pairs_in};
 ghost use Rattle.command_words.specs.Words.{Do, HasLimits};
 ghost use Rattle.command_words.specs.declared.command.Job.{Job};
-ghost use Rattle.fair_fixpoint.specs.Fairness.{AreConstraints};
 ghost use Rattle.kripke_model.specs.Leaves.{IsModelLeaf};
 ghost use Rattle.kripke_model.specs.Reading.{term_of};
-ghost use Rattle.proof_text.specs.Written.{own_order};
-ghost use Rattle.region_sets.specs.Ranks.{AreLive, regions, slots};
-ghost use Rattle.region_sets.specs.Sets.{IsCall};
 ghost use Rattle.smv_outside.specs.Contents.{Contents};
 ghost use Rattle.smv_session.specs.Answers.{IsModelReply};
-ghost use Rattle.smv_session.specs.Compassion.{IsFound, search_pins, strong_pins};
 ghost use Rattle.smv_session.specs.Jobs.{NamesLeaves, both_of};
-ghost use Rattle.smv_session.specs.Relation.{AreOver};
+ghost use Rattle.smv_session.specs.Relation.{AreOver, IsBuiltFor};
 ghost use Rattle.smv_session.specs.Source.{HasRuled};
 ghost use Rattle.smv_texts.specs.Replies.{IsReply};
 ghost use Rattle.spec_leaves.specs.Named.{IsFirstOther, NamesLeaf, spec_leaf as leaf_of_spec};
-ghost use Rattle.strong_answers.specs.Strong.{ArePairs, StrongReply};
-ghost use Rattle.strong_fair.specs.Strong.{Pair as Conditions};
+ghost use Rattle.command_replies.specs.Strong.{ArePairs, StrongReply};
 
 use crate::bits::state_bits;
 use crate::relation::{held_of, relation};
 use crate::work::answer_stop;
 use bit_encode::MAX_STATE_BITS;
+use command_replies::unknown_strong;
 use command_words::{SpecPairs, Work};
 use diagram_sets::DiagramSets;
 use diagram_sets::laws::state_count_law;
-use fair_fixpoint::constraints::{Constraints, constraint_sets};
 use kripke_model::expressions::Expr;
 use kripke_model::models::Ruled;
-use kripke_model::states::Lasso;
 use region_sets::{SetRefusal, StateSets};
 use smv_texts::{Refusal, Reply, refuse};
 use spec_leaves::named::{first_other, spec_leaf};
 use std::alloc::{AllocError, Global};
-use strong_answers::{NodeCertificate, tell_none, tell_path, unknown_strong};
-use strong_export::writing::export_certificate;
+use strong_export::finding::{find_strong, tell};
 use strong_fair::certificate::Pair;
-use strong_search::answer::StrongAnswer;
-use strong_search::finding::strong;
 use trans_parts::Parts;
-
-/// What the search gave.
-#[derive(Drop)]
-pub(crate) enum Found {
-    /// A strong path.
-    Path(Lasso),
-    /// There is none, as this shows.
-    None(NodeCertificate),
-}
 
 // ---- the pairs
 
@@ -111,86 +92,18 @@ fn pairs_of(alloc: Global, model: &Ruled, numbers: &SpecPairs) -> Result<Vec<Pai
     Ok(pairs)
 }
 
-// ---- the search
-
-/// A strong path, or a certificate that there is none, over the sets. No set is live after the call that was not before.
-fn search(
-    alloc: Global,
-    sets: &mut DiagramSets,
-    model: &Ruled,
-    constraints: &Constraints,
-    pairs: &[Pair],
-) -> Result<Found, SetRefusal>
-    requires over { (⟦<DiagramSets as StateSets>⟧.seen sets.old).over ≡ model.now }
-    requires order { (⟦<DiagramSets as StateSets>⟧.seen sets.old).gauge.order
-        ≡ own_order model.now }
-    requires few { length pairs.now ≤ 16 }
-    requires leaves { All (λ pair. IsModelLeaf model.now pair.p
-        × IsModelLeaf model.now pair.q) pairs.now }
-    requires live { AreLive (⟦<DiagramSets as StateSets>⟧.seen sets.old)
-        (slots constraints.now.visits.items) }
-    requires made { AreConstraints model.now
-        (regions (⟦<DiagramSets as StateSets>⟧.seen sets.old) constraints.now.visits.items) }
-    ensures call { IsCall (search_pins model.now) (⟦<DiagramSets as StateSets>⟧.seen sets.old)
-        (⟦<DiagramSets as StateSets>⟧.seen sets.new) [] result }
-    ensures found { IfOk result (IsFound model.now pairs.now) }
-{
-    match strong(alloc, sets, model, constraints, pairs)? {
-        StrongAnswer::Loop(path) => Ok(Found::Path(path)),
-        StrongAnswer::Closed(certificate) => {
-            let over = export_certificate(alloc, sets, certificate)?;
-            Ok(Found::None(over))
-        }
-    }
-}
-
-/// The same, with the sets of the constraints, which are released.
-fn find_strong(
-    alloc: Global,
-    sets: &mut DiagramSets,
-    model: &Ruled,
-    pairs: &[Pair],
-) -> Result<Found, SetRefusal>
-    requires over { (⟦<DiagramSets as StateSets>⟧.seen sets.old).over ≡ model.now }
-    requires order { (⟦<DiagramSets as StateSets>⟧.seen sets.old).gauge.order
-        ≡ own_order model.now }
-    requires few { length pairs.now ≤ 16 }
-    requires leaves { All (λ pair. IsModelLeaf model.now pair.p
-        × IsModelLeaf model.now pair.q) pairs.now }
-    ensures call { IsCall (strong_pins model.now) (⟦<DiagramSets as StateSets>⟧.seen sets.old)
-        (⟦<DiagramSets as StateSets>⟧.seen sets.new) [] result }
-    ensures found { IfOk result (IsFound model.now pairs.now) }
-{
-    let constraints = constraint_sets(alloc, sets, model)?;
-    let found = search(alloc, sets, model, &constraints, pairs);
-    constraints.release(sets);
-    found
-}
-
 // ---- the replies
 
-/// The reply that tells what was found.
-fn tell<'a>(alloc: Global, model: &Ruled, found: &Found) -> Result<Reply<'a>, AllocError>
-    ensures { (limit : ℕ) (numbers : List (ℕ × ℕ)) (pairs : List Conditions)
-        → ArePairs model.now numbers pairs → IsFound model.now pairs found.now
-        → IfOk result (IsReply (StrongReply model.now limit numbers)) }
-{
-    match found {
-        Found::Path(path) => tell_path(alloc, model, path),
-        Found::None(certificate) => tell_none(alloc, certificate),
-    }
-}
-
-/// The reply for pairs of leaves of a model without faults whose relation these parts are, with the variables in declared
-/// order, in a store of this limit.
-fn find_for<'a>(
+/// The reply for pairs of leaves, over the sets of a model without faults, which were only just built in a store of this
+/// limit.
+fn find_over<'a>(
     alloc: Global,
     model: &Ruled,
     limit: u32,
-    parts: Parts,
+    sets: &mut DiagramSets,
     pairs: &[Pair],
 ) -> Result<Reply<'a>, AllocError>
-    requires parts { AreOver model.now limit parts }
+    requires ready { IsBuiltFor model.now limit (⟦<DiagramSets as StateSets>⟧.seen sets.old) }
     requires few { length pairs.now ≤ 16 }
     requires leaves { All (λ pair. IsModelLeaf model.now pair.p
         × IsModelLeaf model.now pair.q) pairs.now }
@@ -198,8 +111,7 @@ fn find_for<'a>(
         → IfOk result (IsReply (StrongReply model.now limit numbers)) }
 {
     state_count_law(model);
-    let mut sets = DiagramSets::new(alloc, parts);
-    match find_strong(alloc, &mut sets, model, pairs) {
+    match find_strong(alloc, sets, model, pairs) {
         Ok(found) => tell(alloc, model, &found),
         Err(SetRefusal::Full { held }) => unknown_strong(alloc, limit, held),
         Err(SetRefusal::Memory) => Err(AllocError),
@@ -211,6 +123,23 @@ fn find_named<'a>(
     alloc: Global,
     model: &Ruled,
     limit: u32,
+    sets: &mut DiagramSets,
+    numbers: &SpecPairs,
+) -> Result<Reply<'a>, AllocError>
+    requires ready { IsBuiltFor model.now limit (⟦<DiagramSets as StateSets>⟧.seen sets.old) }
+    requires names { All (NamesLeaf model.now) (flat_map both_of (pairs_in numbers.now)) }
+    ensures { IfOk result (IsReply (StrongReply model.now limit (pairs_in numbers.now))) }
+{
+    let pairs = pairs_of(alloc, model, numbers)?;
+    find_over(alloc, model, limit, sets, &pairs)
+}
+
+/// The same for a model without faults whose relation these parts are, with the variables in declared order, in a store of
+/// this limit.
+fn find_for<'a>(
+    alloc: Global,
+    model: &Ruled,
+    limit: u32,
     parts: Parts,
     numbers: &SpecPairs,
 ) -> Result<Reply<'a>, AllocError>
@@ -218,8 +147,8 @@ fn find_named<'a>(
     requires names { All (NamesLeaf model.now) (flat_map both_of (pairs_in numbers.now)) }
     ensures { IfOk result (IsReply (StrongReply model.now limit (pairs_in numbers.now))) }
 {
-    let pairs = pairs_of(alloc, model, numbers)?;
-    find_for(alloc, model, limit, parts, &pairs)
+    let mut sets = DiagramSets::new(alloc, parts);
+    find_named(alloc, model, limit, &mut sets, numbers)
 }
 
 /// The reply where a strong path of the model is to be found, for the pairs of these specifications, which are counted
@@ -259,7 +188,7 @@ fn answer_named<'a>(
         → IfOk result (IsReply (IsModelReply (work_asked work.entry) contents bytes)) }
 {
     match relation(alloc, model, work.limit) {
-        Ok(parts) => find_named(alloc, model, work.limit, parts, pairs),
+        Ok(parts) => find_for(alloc, model, work.limit, parts, pairs),
         Err(refusal) => match held_of(model, work.limit, refusal) {
             Ok(held) => unknown_strong(alloc, work.limit, held),
             Err(stop) => answer_stop(alloc, work, model, stop),

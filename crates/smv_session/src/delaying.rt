@@ -3,14 +3,14 @@ ghost use Rattle.std.specs.Prelude.{◌≡◌, ◌*◌, ◌+◌, [], ℕ, IfOk, 
 ghost use Rattle.command_words.specs.Asked.{work_asked};
 ghost use Rattle.command_words.specs.Words.{Do, HasLimits};
 ghost use Rattle.command_words.specs.declared.command.Job.{Job};
-ghost use Rattle.delay_answers.specs.Delayed.{AreDelays, Delayed};
-ghost use Rattle.delay_answers.specs.Seen.{delay_of};
+ghost use Rattle.command_replies.specs.Delayed.{AreDelays, Delayed};
+ghost use Rattle.command_replies.specs.SeenDelays.{delay_of};
 ghost use Rattle.path_laws.specs.StateCount.{state_count};
 ghost use Rattle.region_sets.specs.Sets.{IsCall};
 ghost use Rattle.smv_outside.specs.Contents.{Contents};
 ghost use Rattle.smv_session.specs.Answers.{IsModelReply};
 ghost use Rattle.smv_session.specs.Jobs.{NamesLeaves};
-ghost use Rattle.smv_session.specs.Relation.{AreOver};
+ghost use Rattle.smv_session.specs.Relation.{AreOver, IsBuiltFor};
 ghost use Rattle.smv_session.specs.Source.{HasRuled};
 ghost use Rattle.smv_texts.specs.Replies.{IsReply};
 ghost use Rattle.spec_leaves.specs.Named.{NamesLeaf};
@@ -19,8 +19,8 @@ use crate::bits::state_bits;
 use crate::relation::{held_of, relation};
 use crate::work::answer_stop;
 use bit_encode::MAX_STATE_BITS;
+use command_replies::{Delay, delayed, unknown_delays};
 use command_words::Work;
-use delay_answers::{Delay, delayed, unknown_delays};
 use delay_search::finding::delays;
 use diagram_sets::DiagramSets;
 use diagram_sets::laws::state_count_law;
@@ -67,6 +67,29 @@ fn find_delays(
     Ok(found)
 }
 
+/// The reply over the sets of a model without faults, which were only just built in a store of this limit. Both
+/// specifications, counted from 1, hold no path operator.
+fn delay_over<'a>(
+    alloc: Global,
+    model: &Ruled,
+    limit: u32,
+    sets: &mut DiagramSets,
+    from: u32,
+    to: u32,
+) -> Result<Reply<'a>, AllocError>
+    requires ready { IsBuiltFor model.now limit (⟦<DiagramSets as StateSets>⟧.seen sets.old) }
+    requires from { NamesLeaf model.now from }
+    requires to { NamesLeaf model.now to }
+    ensures { IfOk result (IsReply (Delayed model.now limit from to)) }
+{
+    state_count_law(model);
+    match find_delays(alloc, sets, model, from, to) {
+        Ok(found) => delayed(alloc, from, to, found.shortest, found.longest),
+        Err(SetRefusal::Full { held }) => unknown_delays(alloc, from, to, limit, held),
+        Err(SetRefusal::Memory) => Err(AllocError),
+    }
+}
+
 /// The reply for a model without faults whose relation these parts are, with the variables in declared order,
 /// in a store of this limit. Both specifications, counted from 1, hold no path operator.
 fn delay<'a>(
@@ -82,13 +105,8 @@ fn delay<'a>(
     requires to { NamesLeaf model.now to }
     ensures { IfOk result (IsReply (Delayed model.now limit from to)) }
 {
-    state_count_law(model);
     let mut sets = DiagramSets::new(alloc, parts);
-    match find_delays(alloc, &mut sets, model, from, to) {
-        Ok(found) => delayed(alloc, from, to, found.shortest, found.longest),
-        Err(SetRefusal::Full { held }) => unknown_delays(alloc, from, to, limit, held),
-        Err(SetRefusal::Memory) => Err(AllocError),
-    }
+    delay_over(alloc, model, limit, &mut sets, from, to)
 }
 
 /// The reply where the model's delays are to be found, from the states of specification `from` to those of specification

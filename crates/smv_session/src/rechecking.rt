@@ -3,8 +3,8 @@ ghost use Rattle.std.specs.Prelude.{◌≡◌, ◌≤◌, ◌<◌, ◌++◌, ◌
 ghost use Rattle.bit_encode.specs.Code.{state_bits};
 ghost use Rattle.kripke_model.specs.Faults.{IsFaultless};
 ghost use Rattle.kripke_model.specs.System.{System};
-ghost use Rattle.proof_answers.specs.Answered.{AreAnswered};
-ghost use Rattle.proof_answers.specs.Rechecked.{Rechecked};
+ghost use Rattle.command_replies.specs.Answered.{AreAnswered};
+ghost use Rattle.command_replies.specs.Rechecked.{Rechecked};
 ghost use Rattle.proof_checker.specs.Answers.{IsAnswerTo};
 ghost use Rattle.proof_checker.specs.Reads.{IsRead};
 ghost use Rattle.proof_checker.specs.Ready.{IsKept};
@@ -15,8 +15,8 @@ ghost use Rattle.smv_session.specs.Source.{most_state_bits};
 ghost use Rattle.smv_texts.specs.Replies.{IsReply};
 
 use bdd_nodes::Steps;
+use command_replies::{Answers, rechecked, refuse_proofs};
 use kripke_model::models::Ruled;
-use proof_answers::{Answers, rechecked, refuse_proofs};
 use proof_checker::checking::{Answer, check_next};
 use proof_checker::kept::KeptSets;
 use proof_text::file::{Block, ProofFile};
@@ -85,6 +85,31 @@ fn add(answers: &mut Answers, limit: u32, answer: Answer) -> Result<(), AllocErr
     }
 }
 
+/// Adds what is found of each block of the file.
+fn test_each(
+    alloc: Global,
+    model: &Ruled,
+    limit: u32,
+    file: &ProofFile,
+    kept: &mut KeptSets,
+    answers: &mut Answers,
+) -> Result<(), AllocError>
+    requires limit { limit < 2 ^ 31 }
+    requires faultless { IsFaultless model.now }
+    requires few { state_bits model.now ≤ most_state_bits }
+    requires spelled { (bytes : List ℕ) × Spells model.now file.now bytes }
+    requires kept { IsKept model.now file.now.order limit kept.old }
+    requires begun { AreAnswered model.now limit file.now.order [] answers.old }
+    ensures { OnOk result
+        (AreAnswered model.now limit file.now.order file.now.blocks answers.new) }
+{
+    for block in file.blocks.iter() {
+        let answer = test(alloc, model, limit, &file.order, block, kept)?;
+        add(answers, limit, answer)?;
+    }
+    Ok(())
+}
+
 /// What is found of each block of the file.
 fn test_all(
     alloc: Global,
@@ -102,10 +127,7 @@ fn test_all(
 {
     let mut answers = Answers::new(alloc);
     let mut kept = KeptSets::over(alloc, model, parts, &file.order);
-    for block in file.blocks.iter() {
-        let answer = test(alloc, model, limit, &file.order, block, &mut kept)?;
-        add(&mut answers, limit, answer)?;
-    }
+    test_each(alloc, model, limit, file, &mut kept, &mut answers)?;
     Ok(answers)
 }
 

@@ -4,12 +4,13 @@ ghost use Rattle.fair_fixpoint.specs.SatSets.{pin_bound};
 ghost use Rattle.fair_rules.specs.FreePart.{constraint_nodes};
 ghost use Rattle.path_laws.specs.StateCount.{state_count};
 ghost use Rattle.region_sets.specs.Sets.{IsCall};
-ghost use Rattle.smv_session.specs.Relation.{AreOver};
+ghost use Rattle.smv_session.specs.Relation.{AreOver, IsBuiltFor};
 ghost use Rattle.smv_texts.specs.Replies.{IsReply};
-ghost use Rattle.trace_answers.specs.Replayed.{Replayed};
+ghost use Rattle.command_replies.specs.Replayed.{Replayed};
 ghost use Rattle.trace_check.specs.Judged.{JudgedAs};
 ghost use Rattle.trace_files.specs.Spells.{IsTrace, Spells};
 
+use command_replies::{refuse_trace, replayed, unanswered_trace};
 use diagram_sets::DiagramSets;
 use diagram_sets::laws::state_count_law;
 use fair_fixpoint::constraints::constraint_sets;
@@ -17,7 +18,6 @@ use kripke_model::models::Ruled;
 use region_sets::{SetRefusal, StateSets};
 use smv_texts::Reply;
 use std::alloc::{AllocError, Global};
-use trace_answers::{refuse_trace, replayed, unanswered_trace};
 use trace_check::judged::Judged;
 use trace_check::judging::judge;
 use trace_files::reading::read_trace;
@@ -44,6 +44,27 @@ fn judge_over(
     Ok(judged)
 }
 
+/// The reply to a trace, over the sets of a model without faults, which were only just built in a store of this limit.
+fn answer_over<'a>(
+    alloc: Global,
+    model: &Ruled,
+    limit: u32,
+    sets: &mut DiagramSets,
+    file: &TraceFile,
+) -> Result<Reply<'a>, AllocError>
+    requires ready { IsBuiltFor model.now limit (⟦<DiagramSets as StateSets>⟧.seen sets.old) }
+    requires trace { IsTrace model.now file.now }
+    ensures { (bytes : List ℕ) → Spells model.now file.now bytes
+        → IfOk result (IsReply (Replayed model.now limit bytes)) }
+{
+    state_count_law(model);
+    match judge_over(alloc, sets, model, file) {
+        Ok(judged) => replayed(alloc, file, judged),
+        Err(SetRefusal::Full { held }) => unanswered_trace(alloc, file, limit, held),
+        Err(SetRefusal::Memory) => Err(AllocError),
+    }
+}
+
 /// The reply to a trace of a model without faults whose relation these parts are, with the variables in declared order,
 /// in a store of this limit.
 fn judge_file<'a>(
@@ -58,13 +79,8 @@ fn judge_file<'a>(
     ensures { (bytes : List ℕ) → Spells model.now file.now bytes
         → IfOk result (IsReply (Replayed model.now limit bytes)) }
 {
-    state_count_law(model);
     let mut sets = DiagramSets::new(alloc, parts);
-    match judge_over(alloc, &mut sets, model, file) {
-        Ok(judged) => replayed(alloc, file, judged),
-        Err(SetRefusal::Full { held }) => unanswered_trace(alloc, file, limit, held),
-        Err(SetRefusal::Memory) => Err(AllocError),
-    }
+    answer_over(alloc, model, limit, &mut sets, file)
 }
 
 /// The reply to the bytes of a trace file, of a model without faults whose relation these parts are.

@@ -1,3 +1,4 @@
 mod Listed
 pub mod SameStates
 mod Seen
+pub mod Searched

@@ -8,20 +8,19 @@ use Rattle.bdd_nodes.specs.Table.{Has}
 use Rattle.bdd_walk.specs.declared.list.NodeList.{NodeList}
 use Rattle.bdd_walk.specs.List.{IsGoodList, nodes_of, roots_of}
 use Rattle.bit_encode.specs.Code.{Coding, bit_count, state_bits}
-use Rattle.diagram_sets.specs.Exports.{HaveStates}
+use Rattle.diagram_sets.specs.Exports.{HaveStates, coding_by}
 use Rattle.kripke_model.specs.Step.{IsState}
 use Rattle.kripke_model.specs.System.{System, State}
 use Rattle.path_laws.specs.StateSet.{StateSet}
-use Rattle.proof_export.specs.Listed.{coding_by}
 use Rattle.proof_form.specs.Agrees.{SameOn}
 use Rattle.proof_text.specs.Meaning.{node_set}
 use Rattle.proof_text.specs.Written.{own_order}
 use Rattle.region_sets.specs.Ranks.{slots}
 use Rattle.region_sets.specs.Sets.{In, Sets, region}
 use Rattle.region_sets.specs.declared.pins.Pin.{Pin}
-use Rattle.strong_answers.specs.Seen.{certificate_of}
-use Rattle.strong_answers.specs.Strong.{IsShownBy, over_nodes}
-use Rattle.strong_answers.specs.declared.certificate.NodeCertificate.{NodeCertificate}
+use Rattle.command_replies.specs.SeenRows.{certificate_of}
+use Rattle.command_replies.specs.Strong.{IsShownBy, over_nodes}
+use Rattle.command_replies.specs.declared.certificate.NodeCertificate.{NodeCertificate}
 use Rattle.strong_export.specs.Numbered.{HasSets, IsNumbered, rows_with}
 use Rattle.strong_export.specs.Parted.{reasons_in}
 use Rattle.strong_export.proofs.SameStates.{AreSameRows, certificate_same}

@@ -3,13 +3,12 @@ use Rattle.std.specs.Prelude.{◌≡◌, List, [], ◌∷◌, drop, length, map,
 use Rattle.bdd_walk.specs.declared.list.NodeList.{NodeList}
 use Rattle.bdd_walk.specs.List.{IsGoodList, nodes_of, roots_of}
 use Rattle.bit_encode.specs.Code.{state_bits}
-use Rattle.diagram_sets.specs.Exports.{HaveStates}
-use Rattle.proof_export.specs.Listed.{coding_by}
+use Rattle.diagram_sets.specs.Exports.{HaveStates, coding_by}
 use Rattle.region_sets.specs.declared.pins.Pin.{Pin}
 use Rattle.region_sets.specs.Ranks.{slots}
 use Rattle.region_sets.specs.Sets.{Sets}
-use Rattle.strong_answers.specs.Seen.{seen_row}
-use Rattle.strong_answers.specs.declared.certificate.NodeCertificate.{NodeCertificate}
+use Rattle.command_replies.specs.SeenRows.{seen_row}
+use Rattle.command_replies.specs.declared.certificate.NodeCertificate.{NodeCertificate}
 use Rattle.strong_fair.specs.Form.{Row}
 use Rattle.strong_fair.specs.declared.certificate.Reason.{Reason}
 

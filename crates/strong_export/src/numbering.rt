@@ -2,12 +2,12 @@
 
 ghost use Rattle.std.specs.Prelude.{◌≡◌, ◌+◌, IfOk, drop, length, map, slice_index};
 ghost use Rattle.bdd_walk.specs.List.{nodes_of, roots_of};
-ghost use Rattle.strong_answers.specs.Seen.{seen_row};
+ghost use Rattle.command_replies.specs.SeenRows.{seen_row};
 ghost use Rattle.strong_export.specs.Numbered.{IsNumbered, rows_with};
 
 use bdd_walk::NodeList;
+use command_replies::{NodeCertificate, NodeRow};
 use std::alloc::{AllocError, Global};
-use strong_answers::{NodeCertificate, NodeRow};
 use strong_fair::certificate::Reason;
 
 /// Rows with these reasons, whose sets are the roots behind the first.

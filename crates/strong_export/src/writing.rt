@@ -5,8 +5,8 @@ ghost use Rattle.kripke_model.specs.System.{System};
 ghost use Rattle.proof_text.specs.Written.{own_order};
 ghost use Rattle.region_sets.specs.Sets.{Adds, AreDistinct};
 ghost use Rattle.region_sets.specs.Ranks.{AreLive, slots};
-ghost use Rattle.strong_answers.specs.Seen.{certificate_of};
-ghost use Rattle.strong_answers.specs.Strong.{IsShownBy};
+ghost use Rattle.command_replies.specs.SeenRows.{certificate_of};
+ghost use Rattle.command_replies.specs.Strong.{IsShownBy};
 ghost use Rattle.strong_export.specs.Numbered.{HasSets};
 ghost use Rattle.strong_fair.specs.Pinned.{certificate_slots, over_states};
 ghost use Rattle.strong_fair.specs.Shows.{IsCertificate};
@@ -15,10 +15,10 @@ ghost use Rattle.strong_fair.specs.Strong.{Pair};
 use crate::numbering::numbered;
 use crate::parting::{Room, move_sets, room_for};
 use bdd_walk::NodeList;
+use command_replies::NodeCertificate;
 use diagram_sets::DiagramSets;
 use region_sets::{Pin, StateSets, release_all};
 use std::alloc::{AllocError, Global};
-use strong_answers::NodeCertificate;
 use strong_fair::certificate::Certificate;
 
 /// The diagrams of the sets in one list, with a root for each set in order. The pins are released.

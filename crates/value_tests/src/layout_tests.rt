@@ -78,6 +78,19 @@ fn is_bad_order(alloc: Global, model: &Ruled, order: &[u32]) -> bool {
     }
 }
 
+/// Whether the third value and the second one of x have their codes, and the last code is of none.
+fn has_two_bits(alloc: Global, model: &Ruled, layout: &Layout) -> Result<bool, AllocError>
+    requires { layout.now.types ≡ types_of model.now }
+{
+    let third = [Value::Symbol(2), Value::Symbol(3)];
+    let second = [Value::Symbol(1), Value::Symbol(3)];
+    Ok(
+        round_trip(alloc, model, layout, &third, &[true, false])?
+            && round_trip(alloc, model, layout, &second, &[false, true])?
+            && is_unused(alloc, layout, &[true, true])?,
+    )
+}
+
 #[test]
 fn an_unused_code_and_no_bits(rt: HostRuntime) -> Result<(), Fail> {
     let alloc = rt.alloc();
@@ -87,12 +100,32 @@ fn an_unused_code_and_no_bits(rt: HostRuntime) -> Result<(), Fail> {
     let layout = Layout::new(alloc, &model, &[0, 1])?;
     assert!(rt; layout.bits() == 2);
     assert!(rt; has_level(&model, &layout, 0, 1, 2));
-    let third = [Value::Symbol(2), Value::Symbol(3)];
-    let second = [Value::Symbol(1), Value::Symbol(3)];
-    assert!(rt; round_trip(alloc, &model, &layout, &third, &[true, false])?);
-    assert!(rt; round_trip(alloc, &model, &layout, &second, &[false, true])?);
-    assert!(rt; is_unused(alloc, &layout, &[true, true])?);
+    assert!(rt; has_two_bits(alloc, &model, &layout)?);
     Ok(())
+}
+
+/// Whether the first values and some between have their codes.
+fn has_early_codes(alloc: Global, model: &Ruled, layout: &Layout) -> Result<bool, AllocError>
+    requires { layout.now.types ≡ types_of model.now }
+{
+    let first = [Value::Number(0), Value::Number(3), Value::Symbol(0)];
+    let middle = [Value::Number(1), Value::Number(5), Value::Symbol(0)];
+    Ok(
+        round_trip(alloc, model, layout, &first, &[false; 4])?
+            && round_trip(alloc, model, layout, &middle, &[false, true, false, true])?,
+    )
+}
+
+/// Whether the last value of the range has its code and no other, and a code behind it is of none.
+fn has_last_code(alloc: Global, model: &Ruled, layout: &Layout) -> Result<bool, AllocError>
+    requires { layout.now.types ≡ types_of model.now }
+{
+    let last = [Value::Number(0), Value::Number(7), Value::Symbol(0)];
+    Ok(
+        round_trip(alloc, model, layout, &last, &[true, false, false, false])?
+            && !round_trip(alloc, model, layout, &last, &[true, false, false, true])?
+            && is_unused(alloc, layout, &[true, false, true, false])?,
+    )
 }
 
 #[test]
@@ -101,21 +134,7 @@ fn a_reversed_order(rt: HostRuntime) -> Result<(), Fail> {
     let model = with_range(alloc)?;
     let layout = Layout::new(alloc, &model, &[2, 1, 0])?;
     assert!(rt; layout.bits() == 4);
-    let first = [Value::Number(0), Value::Number(3), Value::Symbol(0)];
-    let middle = [Value::Number(1), Value::Number(5), Value::Symbol(0)];
-    let last = [Value::Number(0), Value::Number(7), Value::Symbol(0)];
-    assert!(rt;
-        round_trip(
-            alloc,
-            &model,
-            &layout,
-            &first,
-            &[false, false, false, false]
-        )?
-    );
-    assert!(rt; round_trip(alloc, &model, &layout, &middle, &[false, true, false, true])?);
-    assert!(rt; round_trip(alloc, &model, &layout, &last, &[true, false, false, false])?);
-    assert!(rt; !round_trip(alloc, &model, &layout, &last, &[true, false, false, true])?);
-    assert!(rt; is_unused(alloc, &layout, &[true, false, true, false])?);
+    assert!(rt; has_early_codes(alloc, &model, &layout)?);
+    assert!(rt; has_last_code(alloc, &model, &layout)?);
     Ok(())
 }

@@ -5,7 +5,8 @@ use Rattle.region_sets.specs.Sets.{IsLive, Sets}
 use Rattle.region_sets.specs.Ranks.{slots}
 use Rattle.diagram_sets.specs.Exports.{HaveStates, coding_in}
 use Rattle.diagram_sets.specs.Kept.{diagram_sets}
-use Rattle.proof_export.proofs.Listed.{copies_gone, copies_listed, each_live}
+use Rattle.diagram_sets.proofs.LiveLemmas.{each_live}
+use Rattle.proof_export.proofs.Listed.{copies_gone, copies_listed}
 use Rattle.proof_export.proofs.listing.list_sets.Goals as goal
 
 pub export_pins-list-requires : goal.export_pins-list-requires

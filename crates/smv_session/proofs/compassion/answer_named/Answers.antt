@@ -6,17 +6,17 @@ use Rattle.smv_session.proofs.Numbers.{names_given}
 use Rattle.smv_session.proofs.Tried.{left_strong_reply, strong_reply}
 use Rattle.smv_session.proofs.compassion.answer_named.Goals as goal
 
-pub find_named-requires-clause-names : goal.find_named-requires-clause-names
-find_named-requires-clause-names c =
+pub find_for-requires-clause-names : goal.find_for-requires-clause-names
+find_for-requires-clause-names c =
     names_given (work_asked c.args.work).job c.args.model.now (pairs_in c.args.pairs.now)
     (ap job_asked c.requires.job) c.requires.names
 
 pub returns-in-Ok : goal.returns-in-Ok
 returns-in-Ok c = λ contents bytes ruled.
-    IfOk-weaker c.find_named.result _ _
+    IfOk-weaker c.find_for.result _ _
     (λ reply done. strong_reply (work_asked c.args.work) contents bytes c.args.model.now reply ruled
     c.in-Ok.ensures.few (pairs_in c.args.pairs.now) (ap job_asked c.requires.job) c.requires.names
-    c.in-Ok.ensures.faultless done) c.find_named.ensures
+    c.in-Ok.ensures.faultless done) c.find_for.ensures
 
 pub returns-in-Ok-held_of : goal.returns-in-Ok-held_of
 returns-in-Ok-held_of c = λ contents bytes ruled.

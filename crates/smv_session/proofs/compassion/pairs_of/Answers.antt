@@ -5,7 +5,7 @@ use Rattle.std.proofs.lemmas.List.{length-take-le}
 use Rattle.std.proofs.lemmas.List.Elements.{All-append, All-cons, All-nil}
 use Rattle.std.proofs.lemmas.Slice.Zip.{AllZip-long}
 use Rattle.kripke_model.specs.Leaves.{IsModelLeaf}
-use Rattle.strong_answers.specs.Strong.{ArePairs}
+use Rattle.command_replies.specs.Strong.{ArePairs}
 use Rattle.strong_fair.specs.Strong.{Pair}
 use Rattle.smv_session.proofs.NamedPairs.{names_at, pairs_more}
 use Rattle.smv_session.proofs.compassion.pairs_of.Goals as goal

@@ -2,7 +2,7 @@ use Rattle.command_words.specs.Listed.{pairs_in}
 use Rattle.std.proofs.Common.{take}
 use Rattle.std.specs.Prelude.{All}
 use Rattle.kripke_model.specs.Leaves.{IsModelLeaf}
-use Rattle.strong_answers.specs.Strong.{ArePairs}
+use Rattle.command_replies.specs.Strong.{ArePairs}
 use Rattle.strong_fair.specs.Strong.{Pair}
 use Rattle.smv_session.proofs.compassion.pairs_of.Given as goal
 

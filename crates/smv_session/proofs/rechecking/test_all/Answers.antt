@@ -1,33 +1,16 @@
-use Rattle.std.proofs.Common.{◌∙◌, take, ap, length, subst, sym}
+use Rattle.std.proofs.Common.{◌∙◌, ap, length, subst, sym}
 use Rattle.proof_text.proofs.DeclaredOrder.{declared_is}
 use Rattle.proof_checker.specs.Ready.{IsKept}
 use Rattle.proof_text.specs.File.{File}
-use Rattle.smv_session.proofs.BlockPlaces.{answered_more, answer_in}
 use Rattle.smv_session.proofs.rechecking.test_all.Goals as goal
-
-pub loop-block-init : goal.loop-block-init
-loop-block-init c = (
-  c.new-answers.ensures c.args.model.now c.args.limit c.args.file.now.order,
-  subst (λ order. IsKept c.args.model.now order c.args.limit c.over-kept.result) (c.deref.ensures.value ∙ ap (λ (f : File). f.order) c.file.view_is)
-      (c.over-kept.ensures c.args.limit c.requires.parts.limit_is),
-)
-
-pub test-requires-clause-kept : goal.test-requires-clause-kept
-test-requires-clause-kept c =
-    subst (λ order. IsKept c.args.model.now order c.args.limit c.loop-block.kept) (sym (c.deref-in-loop-block.ensures.value ∙ ap (λ (f : File). f.order) c.file.view_is)) c.loop-block.invariant.1
-
-pub loop-block-preserved : goal.loop-block-preserved
-loop-block-preserved c =
-    let m = c.args.model.now in
-    let order = c.args.file.now.order in
-    let blocks = c.args.file.now.blocks in
-    let i = c.loop-block.block-index in
-    let b = c.block-item.result in (
-      answered_more m c.args.limit order blocks c.deref-block-items.result.now (c.deref-block-items.ensures.value ∙ ap (λ (f : File). f.blocks) c.file.view_is) i b c.block-item.is c.loop-block-test.true c.add.new.answers
-          (c.in_ok-add.ensures m order (take i blocks) b c.loop-block.invariant.0
-          (answer_in m c.args.limit order c.deref-in-loop-block.result.now b c.in_ok-answer.answer (c.deref-in-loop-block.ensures.value ∙ ap (λ (f : File). f.order) c.file.view_is) c.in_ok-answer.ensures.answer)),
-      subst (λ o. IsKept m o c.args.limit c.test.new.kept) (c.deref-in-loop-block.ensures.value ∙ ap (λ (f : File). f.order) c.file.view_is) c.test.ensures.kept,
-    )
 
 pub over-kept-requires-clause-declared : goal.over-kept-requires-clause-declared
 over-kept-requires-clause-declared c = c.requires.parts.order_is ∙ sym (declared_is (length c.args.model.now.vars))
+
+pub test_each-requires-clause-kept : goal.test_each-requires-clause-kept
+test_each-requires-clause-kept c =
+    subst (λ order. IsKept c.args.model.now order c.args.limit c.over-kept.result) (c.deref.ensures.value ∙ ap (λ (f : File). f.order) c.file.view_is)
+    (c.over-kept.ensures c.args.limit c.requires.parts.limit_is)
+
+pub test_each-requires-clause-begun : goal.test_each-requires-clause-begun
+test_each-requires-clause-begun c = c.new-answers.ensures c.args.model.now c.args.limit c.args.file.now.order

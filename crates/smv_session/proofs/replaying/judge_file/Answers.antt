@@ -1,28 +1,10 @@
 use Rattle.diagram_sets.specs.Kept.{diagram_sets}
-use Rattle.fair_fixpoint.specs.SatSets.{pin_bound}
-use Rattle.fair_rules.specs.FreePart.{constraint_nodes}
-use Rattle.kripke_model.specs.Ctl.{Ctl}
-use Rattle.kripke_model.specs.Term.{Term}
-use Rattle.path_laws.specs.StateCount.{state_count}
-use Rattle.smv_session.proofs.Budget.{judging_fits}
-use Rattle.smv_session.proofs.Ready.{met_by, ready_new}
-use Rattle.trace_check.proofs.Members.{spec_is}
+use Rattle.smv_session.proofs.Ready.{ready_new}
 use Rattle.smv_session.proofs.replaying.judge_file.Goals as goal
 
-pub returns-in-Ok : goal.returns-in-Ok
-returns-in-Ok c = λ bytes spelled.
-    c.replayed.ensures c.args.model.now c.args.limit bytes spelled c.in-Ok.ensures.judged
-
-pub returns-in-Err-Full : goal.returns-in-Err-Full
-returns-in-Err-Full c = λ bytes spelled.
-    let m = c.args.model.now in
+pub answer_over-requires-clause-ready : goal.answer_over-requires-clause-ready
+answer_over-requires-clause-ready c =
     let x = c.new-sets.result in
-    let ready = ready_new m c.args.limit c.args.parts (diagram_sets x.parts x.pins x.fulls)
+    ready_new c.args.model.now c.args.limit c.args.parts (diagram_sets x.parts x.pins x.fulls)
     c.requires.parts c.new-sets.ensures.over c.new-sets.ensures.gauge c.new-sets.ensures.live
-    c.new-sets.ensures.room c.new-sets.ensures.fulls in
-    let call = rw c.in-Err-Full.field-0-is at c.in-Err-Full.ensures.call in
-    let j = c.args.file.now.spec in
-    let fits = judging_fits m j _ (spec_is m j (Ctl.Leaf (Term.Var 0)) c.requires.trace.spec)
-    c.state_count_law.ensures in
-    c.unanswered_trace.ensures m bytes spelled
-    (met_by m c.args.limit (pin_bound m (constraint_nodes m) (state_count m)) fits _ _ ready _ call)
+    c.new-sets.ensures.room c.new-sets.ensures.fulls

@@ -1,5 +1,5 @@
 use Rattle.std.proofs.Common.{Err, ap, subst}
-use Rattle.proof_answers.specs.Rechecked.{Rechecked}
+use Rattle.command_replies.specs.Rechecked.{Rechecked}
 use Rattle.smv_texts.specs.Replies.{IsReply}
 use Rattle.std.proofs.lemmas.Result.{IfOk-weaker}
 use Rattle.smv_session.proofs.Heard.{told_second}

@@ -1,7 +1,7 @@
 use Rattle.std.proofs.Common.{ap, refl, subst, sym}
 use Rattle.command_words.specs.Asked.{job_asked, work_asked}
 use Rattle.command_words.specs.Words.{Job, Recheck}
-use Rattle.proof_answers.specs.Rechecked.{Rechecked}
+use Rattle.command_replies.specs.Rechecked.{Rechecked}
 use Rattle.smv_session.specs.Jobs.{Undecides}
 use Rattle.smv_session.proofs.Tried.{names_none, of_recheck, second_result}
 use Rattle.smv_session.proofs.seconds.answer_rechecked.Goals as goal

@@ -1,7 +1,7 @@
 use Rattle.std.proofs.Common.{ap, refl, subst, sym}
 use Rattle.command_words.specs.Asked.{job_asked, work_asked}
 use Rattle.command_words.specs.Words.{Job, Replay}
-use Rattle.trace_answers.specs.Replayed.{Replayed}
+use Rattle.command_replies.specs.Replayed.{Replayed}
 use Rattle.smv_session.specs.Jobs.{Undecides}
 use Rattle.smv_session.proofs.Tried.{names_none, of_replay, second_result}
 use Rattle.smv_session.proofs.seconds.answer_replayed.Goals as goal

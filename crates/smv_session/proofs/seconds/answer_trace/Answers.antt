@@ -1,5 +1,5 @@
 use Rattle.std.proofs.Common.{Err, ap, subst}
-use Rattle.trace_answers.specs.Replayed.{Replayed}
+use Rattle.command_replies.specs.Replayed.{Replayed}
 use Rattle.smv_texts.specs.Replies.{IsReply}
 use Rattle.std.proofs.lemmas.Result.{IfOk-weaker}
 use Rattle.smv_session.proofs.Heard.{told_second}

@@ -1,5 +1,5 @@
 use Rattle.std.proofs.Common.{◌≡◌, ◌+◌, ◌++◌, drop, map}
-use Rattle.strong_answers.specs.Seen.{seen_row}
+use Rattle.command_replies.specs.SeenRows.{seen_row}
 use Rattle.strong_export.specs.Numbered.{rows_with}
 use Rattle.strong_export.proofs.numbering.rows_over.Given as goal
 

@@ -2,7 +2,7 @@ use Rattle.std.proofs.Common.{sym, subst}
 use Rattle.std.specs.Prelude.{All}
 use Rattle.diagram_sets.specs.Exports.{coding_in}
 use Rattle.diagram_sets.specs.Kept.{diagram_sets}
-use Rattle.proof_export.proofs.Listed.{each_live}
+use Rattle.diagram_sets.proofs.LiveLemmas.{each_live}
 use Rattle.region_sets.specs.Sets.{IsLive, Sets}
 use Rattle.region_sets.specs.declared.pins.Pin.{Pin}
 use Rattle.strong_export.proofs.Listed.{sets_listed}

@@ -1,0 +1,11 @@
+use Rattle.std.proofs.Common.{None, refl}
+use Rattle.smv_texts.specs.declared.ending.Ending.TheVariants.{Undecided}
+use Rattle.command_replies.proofs.ProofReplies.{model_reply}
+use Rattle.command_replies.proofs.proof_replies.unanswered_model.Goals as goal
+
+pub returns : goal.returns
+returns c = λ m of_limit.
+    let held = c.in_ok-vec.field-0 in
+    model_reply m c.args.limit held c.args.held
+    (record { text = c.in_ok-model_text.field-0; ending = Undecided held; saves = None })
+    of_limit c.in_ok-vec.ensures.items c.in_ok-model_text.ensures refl refl

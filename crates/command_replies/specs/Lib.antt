@@ -1,0 +1,9 @@
+pub mod Answers
+pub mod ProofReport
+pub mod Rechecked
+pub mod Answered
+pub mod Replayed
+pub mod Delayed
+pub mod SeenDelays
+pub mod SeenRows
+pub mod Strong

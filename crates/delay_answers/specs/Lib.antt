@@ -1,2 +1,0 @@
-pub mod Delayed
-pub mod Seen

@@ -1,9 +1,0 @@
-use Rattle.std.proofs.Common.{◌∙◌, sym, subst}
-use Rattle.kripke_model.specs.Reading.{term_of}
-use Rattle.kripke_model.specs.System.{System}
-use Rattle.trans_parts.specs.Leaves.{IsLeafOrConstant}
-use Rattle.parts_bench.proofs.counted.Goals as goal
-
-pub preimage-requires : goal.preimage-requires
-preimage-requires g c =
-    subst (λ (m : System). IsLeafOrConstant m (term_of c.args.leaf.now)) (sym (c.in-Ok.ensures.built.model ∙ c.in_ok-copy.ensures)) c.requires.leaf

@@ -1,4 +1,0 @@
-pub mod AnsweredLemmas
-pub mod Accepting
-pub mod ReportLemmas
-pub mod ReplyLemmas

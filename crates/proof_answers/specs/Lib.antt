@@ -1,4 +1,0 @@
-pub mod Answers
-pub mod Report
-pub mod Rechecked
-pub mod Answered

@@ -1,2 +1,0 @@
-pub mod CertificateLines
-mod ReplyLemmas

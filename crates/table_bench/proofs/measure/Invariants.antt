@@ -1,4 +1,0 @@
-use Rattle.table_bench.proofs.measure.Given as goal
-
-abbrev pub ghosts-built : goal.ghosts-built
-ghosts-built a = record { name = a.blank.name; parts = a.blank.parts }

@@ -1,0 +1,4 @@
+pub mod RangeLemmas
+mod Shown
+mod SpecLeaves
+mod Specs
