@@ -110,6 +110,26 @@ fn test_each(
     Ok(())
 }
 
+/// What is found of each block of the file, over the sets that are kept for it.
+fn test_over(
+    alloc: Global,
+    model: &Ruled,
+    limit: u32,
+    file: &ProofFile,
+    kept: &mut KeptSets,
+) -> Result<Answers, AllocError>
+    requires limit { limit < 2 ^ 31 }
+    requires faultless { IsFaultless model.now }
+    requires few { state_bits model.now ≤ most_state_bits }
+    requires spelled { (bytes : List ℕ) × Spells model.now file.now bytes }
+    requires kept { IsKept model.now file.now.order limit kept.old }
+    ensures { IfOk result (AreAnswered model.now limit file.now.order file.now.blocks) }
+{
+    let mut answers = Answers::new(alloc);
+    test_each(alloc, model, limit, file, kept, &mut answers)?;
+    Ok(answers)
+}
+
 /// What is found of each block of the file.
 fn test_all(
     alloc: Global,
@@ -125,10 +145,8 @@ fn test_all(
     requires spelled { (bytes : List ℕ) × Spells model.now file.now bytes }
     ensures { IfOk result (AreAnswered model.now limit file.now.order file.now.blocks) }
 {
-    let mut answers = Answers::new(alloc);
     let mut kept = KeptSets::over(alloc, model, parts, &file.order);
-    test_each(alloc, model, limit, file, &mut kept, &mut answers)?;
-    Ok(answers)
+    test_over(alloc, model, limit, file, &mut kept)
 }
 
 /// The reply to a proof file.

@@ -7,10 +7,7 @@ use Rattle.smv_session.proofs.rechecking.test_all.Goals as goal
 pub over-kept-requires-clause-declared : goal.over-kept-requires-clause-declared
 over-kept-requires-clause-declared c = c.requires.parts.order_is ∙ sym (declared_is (length c.args.model.now.vars))
 
-pub test_each-requires-clause-kept : goal.test_each-requires-clause-kept
-test_each-requires-clause-kept c =
+pub test_over-requires-clause-kept : goal.test_over-requires-clause-kept
+test_over-requires-clause-kept c =
     subst (λ order. IsKept c.args.model.now order c.args.limit c.over-kept.result) (c.deref.ensures.value ∙ ap (λ (f : File). f.order) c.file.view_is)
     (c.over-kept.ensures c.args.limit c.requires.parts.limit_is)
-
-pub test_each-requires-clause-begun : goal.test_each-requires-clause-begun
-test_each-requires-clause-begun c = c.new-answers.ensures c.args.model.now c.args.limit c.args.file.now.order
