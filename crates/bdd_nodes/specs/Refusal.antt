@@ -21,5 +21,7 @@ IsFull (Err Memory) = ⊥
 
 -- a refusal of this store: a full one is shown by its levels and its limit, and it holds as many triples as the limit says
 abbrev pub IsRefusalOf : Store → StoreRefusal → Type 0
-IsRefusalOf s (Full held) = (levels_shown held ≡ levels_of s) × (number_shown held ≡ limit_of s) × (length (triples s) ≡ limit_of s)
+IsRefusalOf s (Full held)
+    = (levels_shown held ≡ levels_of s) × (number_shown held ≡ limit_of s)
+    × (length (triples s) ≡ limit_of s)
 IsRefusalOf s Memory = Unit {0}

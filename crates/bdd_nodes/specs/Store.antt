@@ -62,7 +62,8 @@ pub record IsNodeOf (s : Store) (level low high r : ℕ) : Type 0 where
 
 -- two numbers have the same value at each list of the levels' bits
 abbrev pub HaveSameValues : Store → ℕ → ℕ → Type 0
-HaveSameValues s q r = (bits : List Bool) → length bits ≡ levels_of s → value_of s q bits ≡ value_of s r bits
+HaveSameValues s q r
+    = (bits : List Bool) → length bits ≡ levels_of s → value_of s q bits ≡ value_of s r bits
 
 -- the store has no room for the triple: its children differ, no number has it, and there are as many triples as the limit says
 pub record IsFullFor (s : Store) (level low high : ℕ) : Type 0 where

@@ -24,11 +24,13 @@ pub fn constants(store: &Store)
 /// Shannon's expansion: a diagram with a triple has the value of the child that its level's bit
 /// chooses.
 pub fn expansion(store: &Store, r: Ref)
-    ensures { (t : Triples) → node_of store.now r ≡ Some t → (bits : List Bool) → value_of store.now r bits ≡ value_of store.now (child_of bits t) bits }
+    ensures { (t : Triples) → node_of store.now r ≡ Some t → (bits : List Bool)
+        → value_of store.now r bits ≡ value_of store.now (child_of bits t) bits }
 {}
 
 /// A value doesn't depend on the bits above the diagram's own level.
 pub fn independence(store: &Store, r: Ref)
     requires { Has store.now r }
-    ensures { (l : ℕ) (bit : Bool) (bits : List Bool) → l < level_of store.now r → value_of store.now r (slice_set bits l bit) ≡ value_of store.now r bits }
+    ensures { (l : ℕ) (bit : Bool) (bits : List Bool) → l < level_of store.now r
+        → value_of store.now r (slice_set bits l bit) ≡ value_of store.now r bits }
 {}

@@ -116,9 +116,12 @@ impl Store {
         requires high_deeper { level < level_of self.old high }
         ensures equal { low ≡ high → result ≡ Ok low }
         ensures equal_stays { low ≡ high → triples self.new ≡ triples self.old }
-        ensures there { (r : ℕ) → node_of self.old r ≡ Some (triple level low high) → result ≡ Ok r }
-        ensures there_stays { (r : ℕ) → node_of self.old r ≡ Some (triple level low high) → triples self.new ≡ triples self.old }
-        ensures added { low ≢ high → IsAbsent self.old level low high → OnOk result (triples self.new ≡ triples self.old ++ triple level low high ∷ []) }
+        ensures there { (r : ℕ) → node_of self.old r ≡ Some (triple level low high)
+            → result ≡ Ok r }
+        ensures there_stays { (r : ℕ) → node_of self.old r ≡ Some (triple level low high)
+            → triples self.new ≡ triples self.old }
+        ensures added { low ≢ high → IsAbsent self.old level low high
+            → OnOk result (triples self.new ≡ triples self.old ++ triple level low high ∷ []) }
         ensures node { IfOk result (IsNodeOf self.new level low high) }
         ensures has { IfOk result (Has self.new) }
         ensures full { IsFull result ↔ IsFullFor self.old level low high }

@@ -23,7 +23,8 @@ with_bit (x ∷ bits) (suc l) b = x ∷ with_bit bits l b
 -- some choice of the bits at these levels has value 1
 abbrev pub some_choice : (List Bool → Bool) → List ℕ → List Bool → Bool
 some_choice v [] bits = v bits
-some_choice v (l ∷ levels) bits = some_choice v levels (with_bit bits l false) || some_choice v levels (with_bit bits l true)
+some_choice v (l ∷ levels) bits
+    = some_choice v levels (with_bit bits l false) || some_choice v levels (with_bit bits l true)
 
 -- the bits with the places 0 and 1, 2 and 3 and so on exchanged; a missing one is false
 abbrev pub exchanged : List Bool → List Bool
@@ -40,10 +41,13 @@ abbrev pub meaning_of : List (List ℕ) → List Triple → Key → List Bool �
 meaning_of lists table (Not f) bits = not (value_of table f bits)
 meaning_of lists table (And f g) bits = value_of table f bits && value_of table g bits
 meaning_of lists table (Or f g) bits = value_of table f bits || value_of table g bits
-meaning_of lists table (Iff f g) bits = if value_of table f bits then value_of table g bits else not (value_of table g bits)
-meaning_of lists table (Ite f g h) bits = if value_of table f bits then value_of table g bits else value_of table h bits
+meaning_of lists table (Iff f g) bits
+    = if value_of table f bits then value_of table g bits else not (value_of table g bits)
+meaning_of lists table (Ite f g h) bits
+    = if value_of table f bits then value_of table g bits else value_of table h bits
 meaning_of lists table (Exists f p) bits = some_choice (value_of table f) (list_at lists p) bits
-meaning_of lists table (AndExists f g p) bits = some_choice (λ bs. value_of table f bs && value_of table g bs) (list_at lists p) bits
+meaning_of lists table (AndExists f g p) bits
+    = some_choice (λ bs. value_of table f bs && value_of table g bs) (list_at lists p) bits
 meaning_of lists table (Rename f to_next) bits = value_of table f (exchanged bits)
 
 -- the highest operand
@@ -80,7 +84,8 @@ key_top levels table (Not f) = level_of levels table f
 key_top levels table (And f g) = min (level_of levels table f) (level_of levels table g)
 key_top levels table (Or f g) = min (level_of levels table f) (level_of levels table g)
 key_top levels table (Iff f g) = min (level_of levels table f) (level_of levels table g)
-key_top levels table (Ite f g h) = min (level_of levels table f) (min (level_of levels table g) (level_of levels table h))
+key_top levels table (Ite f g h)
+    = min (level_of levels table f) (min (level_of levels table g) (level_of levels table h))
 key_top levels table (Exists f p) = level_of levels table f
 key_top levels table (AndExists f g p) = min (level_of levels table f) (level_of levels table g)
 key_top levels table (Rename f true) = min (level_of levels table f + 1) levels

@@ -44,7 +44,8 @@ pub(crate) struct Sides {
 fn operand_of(store: &Store, r: Ref) -> Operand
     requires { Has store.now r }
     ensures level { result.level ≡ level_of store.now r }
-    ensures parts { (level : ℕ) (bit : Bool) → part_at result level bit ≡ part_of (triples store.now) level bit r }
+    ensures parts { (level : ℕ) (bit : Bool)
+        → part_at result level bit ≡ part_of (triples store.now) level bit r }
 {
     match store.node(r) {
         Some(triple) => Operand {
@@ -95,8 +96,10 @@ fn choice(store: &Store, f: Ref, g: Ref, h: Ref) -> Sides
     requires g { Has store.now g }
     requires h { Has store.now h }
     ensures level { result.level ≡ top_of store.now (Operation.Ite f g h) }
-    ensures low { result.low ≡ with_operands (part_of (triples store.now) result.level false) (Operation.Ite f g h) }
-    ensures high { result.high ≡ with_operands (part_of (triples store.now) result.level true) (Operation.Ite f g h) }
+    ensures low { result.low
+        ≡ with_operands (part_of (triples store.now) result.level false) (Operation.Ite f g h) }
+    ensures high { result.high
+        ≡ with_operands (part_of (triples store.now) result.level true) (Operation.Ite f g h) }
 {
     let f = operand_of(store, f);
     let g = operand_of(store, g);
@@ -121,8 +124,10 @@ fn choice(store: &Store, f: Ref, g: Ref, h: Ref) -> Sides
 pub(crate) fn split(store: &Store, operation: Operation) -> Sides
     requires { HasOperands store.now operation }
     ensures level { result.level ≡ top_of store.now operation }
-    ensures low { result.low ≡ with_operands (part_of (triples store.now) result.level false) operation }
-    ensures high { result.high ≡ with_operands (part_of (triples store.now) result.level true) operation }
+    ensures low { result.low
+        ≡ with_operands (part_of (triples store.now) result.level false) operation }
+    ensures high { result.high
+        ≡ with_operands (part_of (triples store.now) result.level true) operation }
 {
     match operation {
         Operation::Not(f) => {

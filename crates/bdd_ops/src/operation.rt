@@ -31,7 +31,8 @@ impl Operation {
 
     /// The answer where the operands show it: a constant or one of them.
     pub(crate) fn answer(&self) -> Option<Ref>
-        ensures value { IfSome result (λ r. (v : ℕ → Bool) → v 0 ≡ false → v 1 ≡ true → v r ≡ combine v self.now) }
+        ensures value { IfSome result
+            (λ r. (v : ℕ → Bool) → v 0 ≡ false → v 1 ≡ true → v r ≡ combine v self.now) }
         ensures among { IfSome result (λ r. (r < 2) ⊎ SomeOperand (λ f. f ≡ r) self.now) }
         ensures none { IfNone result (2 ≤ highest_of self.now) }
         ensures unsettled { IfNone result (IsOpen self.now) }
@@ -47,7 +48,8 @@ impl Operation {
 }
 
 fn answer_not(f: Ref) -> Option<Ref>
-    ensures value { IfSome result (λ r. (v : ℕ → Bool) → v 0 ≡ false → v 1 ≡ true → v r ≡ not (v f)) }
+    ensures value { IfSome result
+        (λ r. (v : ℕ → Bool) → v 0 ≡ false → v 1 ≡ true → v r ≡ not (v f)) }
     ensures among { IfSome result (λ r. r < 2) }
     ensures none { IfNone result (2 ≤ f) }
 {
@@ -61,7 +63,8 @@ fn answer_not(f: Ref) -> Option<Ref>
 }
 
 fn answer_and(f: Ref, g: Ref) -> Option<Ref>
-    ensures value { IfSome result (λ r. (v : ℕ → Bool) → v 0 ≡ false → v 1 ≡ true → v r ≡ v f && v g) }
+    ensures value { IfSome result
+        (λ r. (v : ℕ → Bool) → v 0 ≡ false → v 1 ≡ true → v r ≡ v f && v g) }
     ensures among { IfSome result (λ r. (r < 2) ⊎ ((f ≡ r) ⊎ (g ≡ r))) }
     ensures none { IfNone result (2 ≤ max f g) }
     ensures unsettled { IfNone result ((2 ≤ f) × (2 ≤ g)) }
@@ -78,7 +81,8 @@ fn answer_and(f: Ref, g: Ref) -> Option<Ref>
 }
 
 fn answer_or(f: Ref, g: Ref) -> Option<Ref>
-    ensures value { IfSome result (λ r. (v : ℕ → Bool) → v 0 ≡ false → v 1 ≡ true → v r ≡ v f || v g) }
+    ensures value { IfSome result
+        (λ r. (v : ℕ → Bool) → v 0 ≡ false → v 1 ≡ true → v r ≡ v f || v g) }
     ensures among { IfSome result (λ r. (r < 2) ⊎ ((f ≡ r) ⊎ (g ≡ r))) }
     ensures none { IfNone result (2 ≤ max f g) }
     ensures unsettled { IfNone result ((2 ≤ f) × (2 ≤ g)) }
@@ -95,7 +99,8 @@ fn answer_or(f: Ref, g: Ref) -> Option<Ref>
 }
 
 fn answer_iff(f: Ref, g: Ref) -> Option<Ref>
-    ensures value { IfSome result (λ r. (v : ℕ → Bool) → v 0 ≡ false → v 1 ≡ true → v r ≡ (if v f then v g else not (v g))) }
+    ensures value { IfSome result
+        (λ r. (v : ℕ → Bool) → v 0 ≡ false → v 1 ≡ true → v r ≡ (if v f then v g else not (v g))) }
     ensures among { IfSome result (λ r. (r < 2) ⊎ ((f ≡ r) ⊎ (g ≡ r))) }
     ensures none { IfNone result (2 ≤ max f g) }
 {
@@ -111,7 +116,8 @@ fn answer_iff(f: Ref, g: Ref) -> Option<Ref>
 }
 
 fn answer_ite(f: Ref, g: Ref, h: Ref) -> Option<Ref>
-    ensures value { IfSome result (λ r. (v : ℕ → Bool) → v 0 ≡ false → v 1 ≡ true → v r ≡ (if v f then v g else v h)) }
+    ensures value { IfSome result
+        (λ r. (v : ℕ → Bool) → v 0 ≡ false → v 1 ≡ true → v r ≡ (if v f then v g else v h)) }
     ensures among { IfSome result (λ r. (r < 2) ⊎ ((f ≡ r) ⊎ ((g ≡ r) ⊎ (h ≡ r)))) }
     ensures none { IfNone result (2 ≤ max f (max g h)) }
     ensures unsettled { IfNone result (2 ≤ f) }

@@ -26,7 +26,9 @@ fn key(f: Ref, g: Ref, place: u32) -> Key
 pub(crate) fn remembered(engine: &mut Engine, f: Ref, g: Ref, place: Option<u32>) -> Option<Ref>
     requires f { Has (store_of engine.old) f }
     requires g { Has (store_of engine.old) g }
-    ensures answer { IfSome result (λ r. MatchOption place ⊥ (λ p. IsProduct (store_of engine.new) (list_at (lists_of engine.new) p) f g r)) }
+    ensures answer { IfSome result
+        (λ r. MatchOption place ⊥
+        (λ p. IsProduct (store_of engine.new) (list_at (lists_of engine.new) p) f g r)) }
     ensures store { store_of engine.new ≡ store_of engine.old }
     ensures lists { lists_of engine.new ≡ lists_of engine.old }
     ensures capacity { capacity_of engine.new ≡ capacity_of engine.old }

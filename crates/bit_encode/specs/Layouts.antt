@@ -11,8 +11,10 @@ abbrev pub counted : ℕ → ℕ
 counted n = min n (2 ^ 32 - 1)
 
 abbrev pub Refuses : List (List Value) → List ℕ → LayoutRefusal → Type 0
-Refuses types order (TooManyBits bits) = (MAX_STATE_BITS < bit_count types) × (bits ≡ counted (bit_count types))
-Refuses types order BadOrder = (bit_count types ≤ MAX_STATE_BITS) × (IsOrder (length types) order → ⊥)
+Refuses types order (TooManyBits bits)
+    = (MAX_STATE_BITS < bit_count types) × (bits ≡ counted (bit_count types))
+Refuses types order BadOrder
+    = (bit_count types ≤ MAX_STATE_BITS) × (IsOrder (length types) order → ⊥)
 Refuses types order Memory = Unit {0}
 
 pub record Accepts (types : List (List Value)) (order : List ℕ) : Type 0 where

@@ -26,11 +26,13 @@ model_with symbols vars = record {
 -- x : {a, b, c} has a code that is unused, and y : {only} has no bits
 abbrev pub unused_model : System
 unused_model = model_with ((97 ∷ []) ∷ (98 ∷ []) ∷ (99 ∷ []) ∷ (111 ∷ 110 ∷ 108 ∷ 121 ∷ []) ∷ [])
-    (variable (120 ∷ []) (Symbol 0 ∷ Symbol 1 ∷ Symbol 2 ∷ []) ∷ variable (121 ∷ []) (Symbol 3 ∷ []) ∷ [])
+    (variable (120 ∷ []) (Symbol 0 ∷ Symbol 1 ∷ Symbol 2 ∷ []) ∷ variable (121 ∷ []) (Symbol 3 ∷ [])
+    ∷ [])
 
 -- a boolean, a range 3..7 and a variable of one value
 abbrev pub mixed_model : System
 mixed_model = model_with ((111 ∷ 110 ∷ 108 ∷ 121 ∷ []) ∷ [])
     (variable (102 ∷ 108 ∷ 97 ∷ 103 ∷ []) (Number (pos 0) ∷ Number (pos 1) ∷ [])
-    ∷ variable (99 ∷ 111 ∷ 117 ∷ 110 ∷ 116 ∷ []) (Number (pos 3) ∷ Number (pos 4) ∷ Number (pos 5) ∷ Number (pos 6) ∷ Number (pos 7) ∷ [])
+    ∷ variable (99 ∷ 111 ∷ 117 ∷ 110 ∷ 116 ∷ [])
+    (Number (pos 3) ∷ Number (pos 4) ∷ Number (pos 5) ∷ Number (pos 6) ∷ Number (pos 7) ∷ [])
     ∷ variable (121 ∷ []) (Symbol 0 ∷ []) ∷ [])

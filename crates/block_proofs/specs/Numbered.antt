@@ -9,8 +9,10 @@ pub record AreNumberedBelow (marks : List Bool) (end : ℕ) (list : Numbered) : 
   pub as_many : length list.places.items ≡ end
   pub few : length list.numbers.items ≤ end
   pub below : (k : ℕ) → k < length list.numbers.items → slice_index list.numbers.items k < end
-  pub within : (number : ℕ) → number < end → IsMarked marks number → slice_index list.places.items number < length list.numbers.items
-  pub there : (number : ℕ) → number < end → IsMarked marks number → slice_index list.numbers.items (slice_index list.places.items number) ≡ number
+  pub within : (number : ℕ) → number < end → IsMarked marks number
+      → slice_index list.places.items number < length list.numbers.items
+  pub there : (number : ℕ) → number < end → IsMarked marks number
+      → slice_index list.numbers.items (slice_index list.places.items number) ≡ number
 
 -- all of them
 abbrev pub AreNumbered : List Bool → Numbered → Type 0

@@ -53,20 +53,26 @@ claim_of m p f n a = record { plus = claimed m p f n true; minus = claimed m p f
 -- of a formula whose first node has number n, in a list with so many in front of them
 abbrev pub claims_of : System → claims.Proof → Ctl → ℕ → ℕ → List ClaimView
 claims_of m p (Ctl.Leaf e) n before = claim_of m p (Ctl.Leaf e) n asks.Nothing ∷ []
-claims_of m p (Ctl.Not f) n before = claims_of m p f (n + 1) before ++ (claim_of m p (Ctl.Not f) n asks.Nothing ∷ [])
+claims_of m p (Ctl.Not f) n before
+    = claims_of m p f (n + 1) before ++ (claim_of m p (Ctl.Not f) n asks.Nothing ∷ [])
 claims_of m p (Ctl.And f g) n before =
     claims_of m p g (n + 1 + node_count f) before
-    ++ (claims_of m p f (n + 1) (before + node_count g) ++ (claim_of m p (Ctl.And f g) n asks.Nothing ∷ []))
+    ++ (claims_of m p f (n + 1) (before + node_count g)
+    ++ (claim_of m p (Ctl.And f g) n asks.Nothing ∷ []))
 claims_of m p (Ctl.Or f g) n before =
     claims_of m p g (n + 1 + node_count f) before
-    ++ (claims_of m p f (n + 1) (before + node_count g) ++ (claim_of m p (Ctl.Or f g) n asks.Nothing ∷ []))
+    ++ (claims_of m p f (n + 1) (before + node_count g)
+    ++ (claim_of m p (Ctl.Or f g) n asks.Nothing ∷ []))
 claims_of m p (Ctl.Implies f g) n before =
     claims_of m p g (n + 1 + node_count f) before
-    ++ (claims_of m p f (n + 1) (before + node_count g) ++ (claim_of m p (Ctl.Implies f g) n asks.Nothing ∷ []))
+    ++ (claims_of m p f (n + 1) (before + node_count g)
+    ++ (claim_of m p (Ctl.Implies f g) n asks.Nothing ∷ []))
 claims_of m p (Ctl.Iff f g) n before =
     claims_of m p g (n + 1 + node_count f) before
-    ++ (claims_of m p f (n + 1) (before + node_count g) ++ (claim_of m p (Ctl.Iff f g) n asks.Nothing ∷ []))
-claims_of m p (Ctl.Quant op f) n before = claims_of m p f (n + 1) before ++ (claim_of m p (Ctl.Quant op f) n (asks.One op) ∷ [])
+    ++ (claims_of m p f (n + 1) (before + node_count g)
+    ++ (claim_of m p (Ctl.Iff f g) n asks.Nothing ∷ []))
+claims_of m p (Ctl.Quant op f) n before
+    = claims_of m p f (n + 1) before ++ (claim_of m p (Ctl.Quant op f) n (asks.One op) ∷ [])
 claims_of m p (Ctl.Until all f g) n before =
     claims_of m p g (n + 1 + node_count f) before
     ++ (claims_of m p f (n + 1) (before + node_count g)
@@ -75,8 +81,18 @@ claims_of m p (Ctl.Until all f g) n before =
 -- what is asked of the entry of a sign at a place, where `at` has the claims
 abbrev pub asked_by : (ℕ → ClaimView) → ℕ → Bool → Asks → Option Demand
 asked_by at place sign asks.Nothing = None
-asked_by at place sign (asks.One op) = Some (record { rule = rule_of op sign; first = absent_argument (rule_of op sign); last = signed (at (place - 1)) sign })
-asked_by at place sign (asks.Two all last) = Some (record { rule = until_rule all sign; first = signed (at (place - 1)) sign; last = signed (at last) sign })
+asked_by at place sign (asks.One op)
+    = Some (record {
+      rule = rule_of op sign;
+      first = absent_argument (rule_of op sign);
+      last = signed (at (place - 1)) sign;
+    })
+asked_by at place sign (asks.Two all last)
+    = Some (record {
+      rule = until_rule all sign;
+      first = signed (at (place - 1)) sign;
+      last = signed (at last) sign;
+    })
 
 abbrev pub demand_in : List ClaimView → ℕ → Bool → Option Demand
 demand_in views place sign = asked_by (view_at views) place sign (view_at views place).asks
@@ -116,9 +132,11 @@ pub record IsClaim (m : System) (now : Sets) (c : Claim) (v : ClaimView) : Type 
 
 -- as far as the list of claims goes
 abbrev pub AreSoFar : System → Sets → List Claim → (ℕ → ClaimView) → Type 0
-AreSoFar m now cs at = (k : ℕ) (d : Claim) → k < length cs → IsClaim m now (slice_index_or cs k d) (at k)
+AreSoFar m now cs at
+    = (k : ℕ) (d : Claim) → k < length cs → IsClaim m now (slice_index_or cs k d) (at k)
 
-pub record AreClaims (m : System) (now : Sets) (cs : List Claim) (views : List ClaimView) : Type 0 where
+pub record AreClaims (m : System) (now : Sets) (cs : List Claim)
+    (views : List ClaimView) : Type 0 where
   pub count : length cs ≡ length views
   pub each : AreSoFar m now cs (view_at views)
 
@@ -139,7 +157,12 @@ connected true F G = both F G
 connected false F G = either F G
 
 abbrev pub leaf_view : System → Term → ClaimView
-leaf_view m e = record { plus = λ s. leaf_set true (eval m e s s); minus = λ s. leaf_set false (eval m e s s); asks = asks.Nothing }
+leaf_view m e
+    = record {
+      plus = λ s. leaf_set true (eval m e s s);
+      minus = λ s. leaf_set false (eval m e s s);
+      asks = asks.Nothing;
+    }
 
 -- the set of a sign of the node with this number, by the claims of its parts
 abbrev pub one_set : claims.Proof → ℕ → Unary → Bool → ClaimView → StateSet
@@ -166,16 +189,27 @@ two_asks (binary.Until all) last = asks.Two all last
 two_asks kind last = asks.Nothing
 
 abbrev pub one_view : claims.Proof → ℕ → Unary → ClaimView → ClaimView
-one_view p i kind f = record { plus = one_set p i kind true f; minus = one_set p i kind false f; asks = one_asks kind }
+one_view p i kind f
+    = record {
+      plus = one_set p i kind true f;
+      minus = one_set p i kind false f;
+      asks = one_asks kind;
+    }
 
 abbrev pub two_view : claims.Proof → ℕ → Binary → ℕ → ClaimView → ClaimView → ClaimView
-two_view p i kind last f g = record { plus = two_set p i kind true f g; minus = two_set p i kind false f g; asks = two_asks kind last }
+two_view p i kind last f g
+    = record {
+      plus = two_set p i kind true f g;
+      minus = two_set p i kind false f g;
+      asks = two_asks kind last;
+    }
 
 -- the claim of the node at this place, where `at` has the claims before it
 abbrev pub node_view_at : System → claims.Proof → ℕ → NodeView → (ℕ → ClaimView) → ℕ → ClaimView
 node_view_at m p i (NodeView.Leaf e) at place = leaf_view m e
 node_view_at m p i (NodeView.One kind) at place = one_view p i kind (at (place - 1))
-node_view_at m p i (NodeView.Two kind last) at place = two_view p i kind last (at (place - 1)) (at last)
+node_view_at m p i (NodeView.Two kind last) at place
+    = two_view p i kind last (at (place - 1)) (at last)
 
 -- its parts stand before it, and a leaf is one of the model's
 abbrev pub IsPlaced : System → ℕ → NodeView → Type 0
@@ -184,20 +218,28 @@ IsPlaced m place (NodeView.One kind) = 1 ≤ place
 IsPlaced m place (NodeView.Two kind last) = (1 ≤ place) × (last < place)
 
 abbrev pub ArePlaced : System → List NodeView → Type 0
-ArePlaced m nodes = (k : ℕ) (d : NodeView) → k < length nodes → IsPlaced m k (slice_index_or nodes k d)
+ArePlaced m nodes
+    = (k : ℕ) (d : NodeView) → k < length nodes → IsPlaced m k (slice_index_or nodes k d)
 
 -- each claim is that of its node by those before it, where the last node has number 1
 abbrev pub Follows : System → claims.Proof → List NodeView → (ℕ → ClaimView) → Type 0
-Follows m p nodes at = (k : ℕ) (d : NodeView) → k < length nodes → at k ≡ node_view_at m p (length nodes - k) (slice_index_or nodes k d) at k
+Follows m p nodes at
+    = (k : ℕ) (d : NodeView) → k < length nodes
+    → at k ≡ node_view_at m p (length nodes - k) (slice_index_or nodes k d) at k
 
 -- a call that adds one claim that is as it should be, or none where it was refused
-pub record IsAdding {T : Type 0} (held : ℕ) (before after : Sets) (old new : List Claim) (Is : Claim → Type 0) (result : Result T SetRefusal) : Type 0 where
+pub record IsAdding {T : Type 0} (held : ℕ) (before after : Sets) (old new : List Claim)
+    (Is : Claim → Type 0) (result : Result T SetRefusal) : Type 0 where
   pub added : List Claim
   pub items : new ≡ old ++ added
   pub call : IsCall held before after (claims_slots added) result
   pub one : OnOk result ((c : Claim) × (added ≡ c ∷ []) × Is c)
 
 -- the claim has both pins where there was a second one, and else the first was released
-pub record IsPaired (before after : Sets) (plus : Pin) (minus : Result Pin SetRefusal) (a : Asks) (result : Result Claim SetRefusal) : Type 0 where
-  pub call : (start : Sets) (held : ℕ) → IsCall held start before (plus.slot ∷ pin_slots minus) minus → IsCall held start after (claim_result_slots result) result
-  pub one : IfOk result (λ c. (after ≡ before) × (c.plus ≡ plus) × (minus ≡ Ok c.minus) × (c.asks ≡ a))
+pub record IsPaired (before after : Sets) (plus : Pin) (minus : Result Pin SetRefusal) (a : Asks)
+    (result : Result Claim SetRefusal) : Type 0 where
+  pub call : (start : Sets) (held : ℕ)
+      → IsCall held start before (plus.slot ∷ pin_slots minus) minus
+      → IsCall held start after (claim_result_slots result) result
+  pub one : IfOk result
+      (λ c. (after ≡ before) × (c.plus ≡ plus) × (minus ≡ Ok c.minus) × (c.asks ≡ a))

@@ -68,15 +68,19 @@ side_or sets sign F (Some c) = signed (seen_claim sets c) sign
 
 abbrev pub sides_from : System → Sets → List (Vec Claim) → Bool → ℕ → List Condition → List StateSet
 sides_from m sets lists sign k [] = []
-sides_from m sets lists sign k (c ∷ cs) = side_or sets sign (holding m sign c) (own_claim (claims_at lists k)) ∷ sides_from m sets lists sign (k + 1) cs
+sides_from m sets lists sign k (c ∷ cs)
+    = side_or sets sign (holding m sign c) (own_claim (claims_at lists k))
+    ∷ sides_from m sets lists sign (k + 1) cs
 
 abbrev pub model_sides : System → Sets → List (Vec Claim) → Bool → List StateSet
-model_sides m sets lists sign = one_at_least (whole sign) (sides_from m sets lists sign 0 m.constraints)
+model_sides m sets lists sign
+    = one_at_least (whole sign) (sides_from m sets lists sign 0 m.constraints)
 
 -- for each constraint the states where it is claimed true, or where it is claimed false
 abbrev pub constraint_list : Sets → Constraints → Bool → List StateSet
 constraint_list sets constraints.All sign = whole sign ∷ []
-constraint_list sets (constraints.Model model lists) sign = model_sides model.now sets lists.now sign
+constraint_list sets (constraints.Model model lists) sign
+    = model_sides model.now sets lists.now sign
 
 -- constraint k, counted from 0, where it holds no path operator; past the end each state meets it
 abbrev pub leaf_or_whole : System → Bool → Option Condition → StateSet
@@ -92,7 +96,9 @@ HasClaims m sets p c [] = has_path_operator c.expr ≡ false
 HasClaims m sets p c (d ∷ cs) = AreClaims m sets (d ∷ cs) (claims_of m p (formula_of c.expr) 1 0)
 
 abbrev pub HaveClaims : System → Sets → (ℕ → claims.Proof) → List (Vec Claim) → Type 0
-HaveClaims m sets proofs lists = (k : ℕ) (c : Condition) → k < length m.constraints → HasClaims m sets (proofs k) (slice_index_or m.constraints k c) (claims_at lists k)
+HaveClaims m sets proofs lists
+    = (k : ℕ) (c : Condition) → k < length m.constraints
+    → HasClaims m sets (proofs k) (slice_index_or m.constraints k c) (claims_at lists k)
 
 -- they are those of the sets' model, and their claims are live
 pub record IsGiven (now : Sets) (c : Constraints) : Type 0 where

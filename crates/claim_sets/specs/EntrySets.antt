@@ -56,6 +56,8 @@ pub record IsGroundOf (sets : Sets) (ground : Ground) (p : claims.Proof) : Type 
   pub entries : p.entries ≡ blocks.entry_of (listed_in sets ground.entries)
 
 -- a call that puts a pin in another one's place, which is released: whatever left the first one
-pub record IsReplacing (before after : Sets) (pin : Pin) (result : Result Pin SetRefusal) : Type 0 where
-  pub call : (start : Sets) (held : ℕ) → 2 ≤ held → IsCall held {T = Pin} start before (pin.slot ∷ []) (Ok pin)
+pub record IsReplacing (before after : Sets) (pin : Pin)
+    (result : Result Pin SetRefusal) : Type 0 where
+  pub call : (start : Sets) (held : ℕ) → 2 ≤ held
+      → IsCall held {T = Pin} start before (pin.slot ∷ []) (Ok pin)
       → IsCall held start after (pin_slots result) result

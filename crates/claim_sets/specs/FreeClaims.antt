@@ -34,8 +34,12 @@ pub record IsFreeGround (sets : Sets) (states layers : Pin) (part : FreePart Pin
   pub nonfair : region sets layers ≡ join (regions sets (layer_sets part.nonfair))
 
 -- a call that adds one list that is as it should be, or none where it was refused
-pub record IsListing {T : Type 0} (held size : ℕ) (before after : Sets) (old new : List (Vec Claim)) (Are : List Claim → Type 0) (result : Result T SetRefusal) : Type 0 where
+pub record IsListing {T : Type 0} (held size : ℕ) (before after : Sets)
+    (old new : List (Vec Claim)) (Are : List Claim → Type 0)
+    (result : Result T SetRefusal) : Type 0 where
   pub added : List (Vec Claim)
   pub items : new ≡ old ++ added
   pub call : IsCall held before after (lists_claims_slots added) result
-  pub one : OnOk result ((list : Vec Claim) × (added ≡ list ∷ []) × (length (claims_slots list.items) ≡ size) × Are list.items)
+  pub one : OnOk result
+      ((list : Vec Claim) × (added ≡ list ∷ []) × (length (claims_slots list.items) ≡ size)
+      × Are list.items)

@@ -23,7 +23,8 @@ job_asked (Replay name) = words.Replay name.now
 job_asked (Strong pairs) = words.Strong (pairs_in pairs)
 
 abbrev pub work_asked : Work → words.Work
-work_asked work = record { source = source_asked work.source; limit = work.limit; job = job_asked work.job }
+work_asked work
+    = record { source = source_asked work.source; limit = work.limit; job = job_asked work.job }
 
 abbrev pub asked : Command → words.Command
 asked Usage = words.Usage

@@ -55,7 +55,8 @@ abbrev pub before : Part → Option (List Part) → Option (List Part)
 before part = option_map (λ others. part ∷ others)
 
 -- What an option word of this form comes to, by the parts of the words behind it and by those where the first of them is its value.
-abbrev pub by_form : Form → Option (List Part) → ((List ℕ → Part) → Option (List Part)) → Option (List Part)
+abbrev pub by_form : Form → Option (List Part) → ((List ℕ → Part) → Option (List Part))
+    → Option (List Part)
 by_form Unknown parts valued = None
 by_form (Whole part) parts valued = before part parts
 by_form (Valued part) parts valued = valued part
@@ -66,7 +67,8 @@ abbrev mutual
   parts_of form [] = Some []
   parts_of form (word ∷ words) =
       if bytes_eq word (codes "--") then Some (map Operand words)
-      else if is_option word then by_form (form word) (parts_of form words) (parts_valued form words)
+      else if is_option word
+      then by_form (form word) (parts_of form words) (parts_valued form words)
       else before (Operand word) (parts_of form words)
 
   -- the same, where the first word is the value of an option

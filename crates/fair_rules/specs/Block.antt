@@ -32,10 +32,16 @@ same_sign a b = if a then b else not b
 -- the entry of a node and sign
 abbrev pub entry_of : List Listed → ℕ → Bool → Entry
 entry_of [] i sign = Entry.Absent
-entry_of (e ∷ entries) i sign = if (e.node == i) && same_sign e.plus sign then e.entry else entry_of entries i sign
+entry_of (e ∷ entries) i sign
+    = if (e.node == i) && same_sign e.plus sign then e.entry else entry_of entries i sign
 
 abbrev pub proof_of : Block → Proof
-proof_of b = record { nonfair = b.nonfair; fair = b.fair; reaches = b.reaches; entries = entry_of b.entries }
+proof_of b = record {
+  nonfair = b.nonfair;
+  fair = b.fair;
+  reaches = b.reaches;
+  entries = entry_of b.entries;
+}
 
 -- ---- the rule of a node's sign, with the sets of its arguments
 
@@ -46,9 +52,18 @@ pub record Demand : Type 0 where
 
 -- what is asked of a formula whose first node has number n; only temporal nodes are asked
 abbrev pub demand : System → Proof → Ctl → ℕ → Bool → Option Demand
-demand m p (Ctl.Quant op f) n sign = Some (record { rule = rule_of op sign; first = absent_argument (rule_of op sign); last = claimed m p f (n + 1) sign })
+demand m p (Ctl.Quant op f) n sign
+    = Some (record {
+      rule = rule_of op sign;
+      first = absent_argument (rule_of op sign);
+      last = claimed m p f (n + 1) sign;
+    })
 demand m p (Ctl.Until all f g) n sign =
-    Some (record { rule = until_rule all sign; first = claimed m p f (n + 1) sign; last = claimed m p g (n + 1 + node_count f) sign })
+    Some (record {
+      rule = until_rule all sign;
+      first = claimed m p f (n + 1) sign;
+      last = claimed m p g (n + 1 + node_count f) sign;
+    })
 demand m p f n sign = None
 
 -- and of its node i
@@ -67,31 +82,41 @@ HasRule rule entry = ⊥
 
 -- an entry names a temporal node and has the rule of its sign
 abbrev pub IsAsked : System → Proof → Ctl → ℕ → Listed → Type 0
-IsAsked m p f n e = (d : Demand) × (demand_at m p f n e.node e.plus ≡ Some d) × HasRule d.rule e.entry
+IsAsked m p f n e
+    = (d : Demand) × (demand_at m p f n e.node e.plus ≡ Some d) × HasRule d.rule e.entry
 
 -- ---- the lines
 
 -- an entry's first line has nothing to show
 abbrev pub entry_lines : List StateSet → List StateSet → Proof → Demand → Entry → List (List Check)
 entry_lines visited avoided p d Entry.Absent = []
-entry_lines visited avoided p d (Entry.EX set) = [] ∷ (Check.Leads set (both d.last p.fair) ∷ []) ∷ []
-entry_lines visited avoided p d (Entry.AX set) = [] ∷ (Check.Keeps set (either d.last (join_layers p.nonfair)) ∷ []) ∷ []
+entry_lines visited avoided p d (Entry.EX set)
+    = [] ∷ (Check.Leads set (both d.last p.fair) ∷ []) ∷ []
+entry_lines visited avoided p d (Entry.AX set)
+    = [] ∷ (Check.Keeps set (either d.last (join_layers p.nonfair)) ∷ []) ∷ []
 entry_lines visited avoided p d (Entry.AR set) =
-    [] ∷ (Check.Inside set d.last ∷ Check.Keeps (without set d.first) (either set (join_layers p.nonfair)) ∷ []) ∷ []
+    [] ∷ (Check.Inside set d.last
+    ∷ Check.Keeps (without set d.first) (either set (join_layers p.nonfair)) ∷ []) ∷ []
 entry_lines visited avoided p d (Entry.EU sets) = [] ∷ until_lines d.first (both d.last p.fair) sets
-entry_lines visited avoided p d (Entry.AU layers) = [] ∷ layer_lines avoided d.first (either d.last (join_layers p.nonfair)) nothing layers
+entry_lines visited avoided p d (Entry.AU layers)
+    = [] ∷ layer_lines avoided d.first (either d.last (join_layers p.nonfair)) nothing layers
 entry_lines visited avoided p d (Entry.ER set reaches untils) =
-    [] ∷ (Check.Inside set d.last ∷ []) ∷ reach_lines set visited reaches ++ ([] ∷ until_lines d.last (both d.first (both d.last p.fair)) untils)
+    [] ∷ (Check.Inside set d.last ∷ [])
+    ∷ reach_lines set visited reaches
+    ++ ([] ∷ until_lines d.last (both d.first (both d.last p.fair)) untils)
 
 -- an entry of no temporal node has no lines
-abbrev pub asked_lines : List StateSet → List StateSet → Proof → Option Demand → Entry → List (List Check)
+abbrev pub asked_lines : List StateSet → List StateSet → Proof → Option Demand → Entry
+    → List (List Check)
 asked_lines visited avoided p None entry = []
 asked_lines visited avoided p (Some d) entry = entry_lines visited avoided p d entry
 
-abbrev pub listed_lines : System → List StateSet → List StateSet → Proof → Ctl → ℕ → List Listed → List (List Check)
+abbrev pub listed_lines : System → List StateSet → List StateSet → Proof → Ctl → ℕ → List Listed
+    → List (List Check)
 listed_lines m visited avoided p f n [] = []
 listed_lines m visited avoided p f n (e ∷ entries) =
-    asked_lines visited avoided p (demand_at m p f n e.node e.plus) e.entry ++ listed_lines m visited avoided p f n entries
+    asked_lines visited avoided p (demand_at m p f n e.node e.plus) e.entry
+    ++ listed_lines m visited avoided p f n entries
 
 -- the lines of the claim, which end the block
 abbrev pub claim_lines : System → Proof → Ctl → ℕ → Option State → List (List Check)
@@ -99,14 +124,17 @@ claim_lines m p f n None = (Check.Starts (claimed m p f n true) ∷ []) ∷ []
 claim_lines m p f n (Some s) = (Check.Begins s (claimed m p f n false) ∷ []) ∷ [] ∷ []
 
 -- all lines from `nonfair` up to the block's end
-abbrev pub block_lines : System → List StateSet → List StateSet → Block → Ctl → ℕ → List (List Check)
+abbrev pub block_lines : System → List StateSet → List StateSet → Block → Ctl → ℕ
+    → List (List Check)
 block_lines m visited avoided b f n =
     ([] ∷ layer_lines avoided everything nothing nothing b.nonfair)
     ++ (([] ∷ reach_lines b.fair visited b.reaches)
-    ++ (listed_lines m visited avoided (proof_of b) f n b.entries ++ claim_lines m (proof_of b) f n b.at))
+    ++ (listed_lines m visited avoided (proof_of b) f n b.entries ++ claim_lines m
+    (proof_of b) f n b.at))
 
 -- the block is a proof of its claim
-pub record IsProofBlock (m : System) (visited avoided : List StateSet) (b : Block) (f : Ctl) (n : ℕ) : Type 0 where
+pub record IsProofBlock (m : System) (visited avoided : List StateSet) (b : Block) (f : Ctl)
+    (n : ℕ) : Type 0 where
   pub asked : All (IsAsked m (proof_of b) f n) b.entries
   pub lines : AllHold m (block_lines m visited avoided b f n)
 

@@ -37,17 +37,21 @@ IsFirstBad m lines n = ((i : ℕ) → i < n → LineHolds m lines i) × (LineHol
 -- ---- lists of sets; `earlier` has the states of the sets before
 
 -- layers inside f; each next state is in `out`, in an earlier layer, or stays clear of the layer's constraint
-abbrev pub layer_lines : List StateSet → StateSet → StateSet → StateSet → List Layer → List (List Check)
+abbrev pub layer_lines : List StateSet → StateSet → StateSet → StateSet → List Layer
+    → List (List Check)
 layer_lines avoided f out earlier [] = []
 layer_lines avoided f out earlier (l ∷ layers) =
-    (Check.Inside l.states f ∷ Check.Keeps l.states (either out (either earlier (both l.states (set_at avoided l.avoided)))) ∷ [])
+    (Check.Inside l.states f
+    ∷ Check.Keeps l.states
+    (either out (either earlier (both l.states (set_at avoided l.avoided)))) ∷ [])
     ∷ layer_lines avoided f out (either earlier l.states) layers
 
 -- sets inside f, each a step from `first` or an earlier set
 abbrev pub step_lines : StateSet → StateSet → StateSet → List StateSet → List (List Check)
 step_lines f first earlier [] = []
 step_lines f first earlier (set ∷ sets) =
-    (Check.Inside set f ∷ Check.Leads set (either first earlier) ∷ []) ∷ step_lines f first (either earlier set) sets
+    (Check.Inside set f ∷ Check.Leads set (either first earlier) ∷ [])
+    ∷ step_lines f first (either earlier set) sets
 
 -- the first set lies in `first`, and the later ones in f, each a step from an earlier set
 abbrev pub until_lines : StateSet → StateSet → List StateSet → List (List Check)
@@ -59,4 +63,5 @@ abbrev pub reach_lines : StateSet → List StateSet → List (List StateSet) →
 reach_lines set [] reaches = []
 reach_lines set (visit ∷ visited) [] = (Check.Inside set nothing ∷ []) ∷ reach_lines set visited []
 reach_lines set (visit ∷ visited) (sets ∷ reaches) =
-    (Check.Inside set (join sets) ∷ []) ∷ step_lines set (both set visit) nothing sets ++ reach_lines set visited reaches
+    (Check.Inside set (join sets) ∷ [])
+    ∷ step_lines set (both set visit) nothing sets ++ reach_lines set visited reaches

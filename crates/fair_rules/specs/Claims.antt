@@ -65,32 +65,42 @@ leaf_set false c = not (is_one c)
 abbrev pub claimed : System → Proof → Ctl → ℕ → Bool → StateSet
 claimed m p (Ctl.Leaf e) n sign = λ s. leaf_set sign (eval m e s s)
 claimed m p (Ctl.Not f) n sign = claimed m p f (n + 1) (not sign)
-claimed m p (Ctl.And f g) n true = both (claimed m p f (n + 1) true) (claimed m p g (n + 1 + node_count f) true)
-claimed m p (Ctl.And f g) n false = either (claimed m p f (n + 1) false) (claimed m p g (n + 1 + node_count f) false)
-claimed m p (Ctl.Or f g) n true = either (claimed m p f (n + 1) true) (claimed m p g (n + 1 + node_count f) true)
-claimed m p (Ctl.Or f g) n false = both (claimed m p f (n + 1) false) (claimed m p g (n + 1 + node_count f) false)
-claimed m p (Ctl.Implies f g) n true = either (claimed m p f (n + 1) false) (claimed m p g (n + 1 + node_count f) true)
-claimed m p (Ctl.Implies f g) n false = both (claimed m p f (n + 1) true) (claimed m p g (n + 1 + node_count f) false)
+claimed m p (Ctl.And f g) n true
+    = both (claimed m p f (n + 1) true) (claimed m p g (n + 1 + node_count f) true)
+claimed m p (Ctl.And f g) n false
+    = either (claimed m p f (n + 1) false) (claimed m p g (n + 1 + node_count f) false)
+claimed m p (Ctl.Or f g) n true
+    = either (claimed m p f (n + 1) true) (claimed m p g (n + 1 + node_count f) true)
+claimed m p (Ctl.Or f g) n false
+    = both (claimed m p f (n + 1) false) (claimed m p g (n + 1 + node_count f) false)
+claimed m p (Ctl.Implies f g) n true
+    = either (claimed m p f (n + 1) false) (claimed m p g (n + 1 + node_count f) true)
+claimed m p (Ctl.Implies f g) n false
+    = both (claimed m p f (n + 1) true) (claimed m p g (n + 1 + node_count f) false)
 claimed m p (Ctl.Iff f g) n true = either
     (both (claimed m p f (n + 1) true) (claimed m p g (n + 1 + node_count f) true))
     (both (claimed m p f (n + 1) false) (claimed m p g (n + 1 + node_count f) false))
 claimed m p (Ctl.Iff f g) n false = either
     (both (claimed m p f (n + 1) true) (claimed m p g (n + 1 + node_count f) false))
     (both (claimed m p f (n + 1) false) (claimed m p g (n + 1 + node_count f) true))
-claimed m p (Ctl.Quant op f) n sign = entry_set p.nonfair (p.entries n sign) (claimed m p f (n + 1) sign)
-claimed m p (Ctl.Until all f g) n sign = entry_set p.nonfair (p.entries n sign) (claimed m p g (n + 1 + node_count f) sign)
+claimed m p (Ctl.Quant op f) n sign
+    = entry_set p.nonfair (p.entries n sign) (claimed m p f (n + 1) sign)
+claimed m p (Ctl.Until all f g) n sign
+    = entry_set p.nonfair (p.entries n sign) (claimed m p g (n + 1 + node_count f) sign)
 
 -- ---- the obligations
 
 -- the entry has the rule, and meets it for the sets f and g of the arguments
-abbrev pub Meets : System → List StateSet → List StateSet → Proof → Rule → Entry → StateSet → StateSet → Type 0
+abbrev pub Meets : System → List StateSet → List StateSet → Proof → Rule → Entry → StateSet
+    → StateSet → Type 0
 Meets m visited avoided p rule Entry.Absent f g = Unit {0}
 Meets m visited avoided p Rule.EX (Entry.EX set) f g = MeetsEX m p.fair g set
 Meets m visited avoided p Rule.AX (Entry.AX set) f g = MeetsAX m p.nonfair g set
 Meets m visited avoided p Rule.EU (Entry.EU sets) f g = MeetsEU m p.fair f g sets
 Meets m visited avoided p Rule.AU (Entry.AU layers) f g = MeetsAU m avoided p.nonfair f g layers
 Meets m visited avoided p Rule.AR (Entry.AR set) f g = MeetsAR m p.nonfair f g set
-Meets m visited avoided p Rule.ER (Entry.ER set reaches untils) f g = MeetsER m visited p.fair f g set reaches untils
+Meets m visited avoided p Rule.ER (Entry.ER set reaches untils) f g
+    = MeetsER m visited p.fair f g set reaches untils
 Meets m visited avoided p rule entry f g = ⊥
 
 -- the first argument of an operator that has one argument alone
@@ -103,19 +113,28 @@ absent_argument rule = nothing
 abbrev pub AreMet : System → List StateSet → List StateSet → Proof → Ctl → ℕ → Type 0
 AreMet m visited avoided p (Ctl.Leaf e) n = Unit {0}
 AreMet m visited avoided p (Ctl.Not f) n = AreMet m visited avoided p f (n + 1)
-AreMet m visited avoided p (Ctl.And f g) n = AreMet m visited avoided p f (n + 1) × AreMet m visited avoided p g (n + 1 + node_count f)
-AreMet m visited avoided p (Ctl.Or f g) n = AreMet m visited avoided p f (n + 1) × AreMet m visited avoided p g (n + 1 + node_count f)
-AreMet m visited avoided p (Ctl.Implies f g) n = AreMet m visited avoided p f (n + 1) × AreMet m visited avoided p g (n + 1 + node_count f)
-AreMet m visited avoided p (Ctl.Iff f g) n = AreMet m visited avoided p f (n + 1) × AreMet m visited avoided p g (n + 1 + node_count f)
+AreMet m visited avoided p (Ctl.And f g) n
+    = AreMet m visited avoided p f (n + 1) × AreMet m visited avoided p g (n + 1 + node_count f)
+AreMet m visited avoided p (Ctl.Or f g) n
+    = AreMet m visited avoided p f (n + 1) × AreMet m visited avoided p g (n + 1 + node_count f)
+AreMet m visited avoided p (Ctl.Implies f g) n
+    = AreMet m visited avoided p f (n + 1) × AreMet m visited avoided p g (n + 1 + node_count f)
+AreMet m visited avoided p (Ctl.Iff f g) n
+    = AreMet m visited avoided p f (n + 1) × AreMet m visited avoided p g (n + 1 + node_count f)
 AreMet m visited avoided p (Ctl.Quant op f) n =
-    ((sign : Bool) → Meets m visited avoided p (rule_of op sign) (p.entries n sign) (absent_argument (rule_of op sign)) (claimed m p f (n + 1) sign))
+    ((sign : Bool)
+    → Meets m visited avoided p (rule_of op sign) (p.entries n sign)
+    (absent_argument (rule_of op sign)) (claimed m p f (n + 1) sign))
     × AreMet m visited avoided p f (n + 1)
 AreMet m visited avoided p (Ctl.Until all f g) n =
-    ((sign : Bool) → Meets m visited avoided p (until_rule all sign) (p.entries n sign) (claimed m p f (n + 1) sign) (claimed m p g (n + 1 + node_count f) sign))
+    ((sign : Bool)
+    → Meets m visited avoided p (until_rule all sign) (p.entries n sign)
+    (claimed m p f (n + 1) sign) (claimed m p g (n + 1 + node_count f) sign))
     × AreMet m visited avoided p f (n + 1) × AreMet m visited avoided p g (n + 1 + node_count f)
 
 -- the obligations of a proof of the formula, whose first node has number n
-pub record IsProof (m : System) (visited avoided : List StateSet) (p : Proof) (f : Ctl) (n : ℕ) : Type 0 where
+pub record IsProof (m : System) (visited avoided : List StateSet) (p : Proof) (f : Ctl)
+    (n : ℕ) : Type 0 where
   pub nonfair : AreNonfair m avoided p.nonfair
   pub fair : IsFairSet m visited p.fair p.reaches
   pub entries : AreMet m visited avoided p f n

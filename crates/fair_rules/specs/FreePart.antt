@@ -11,12 +11,14 @@ use Rattle.fair_rules.specs.LeafConstraints.{one_at_least}
 -- the claimed sets of the constraints from number k on
 abbrev pub claimed_from : System → (ℕ → Proof) → Bool → ℕ → List Condition → List StateSet
 claimed_from m proofs sign k [] = []
-claimed_from m proofs sign k (c ∷ cs) = claimed m (proofs k) (formula_of c.expr) 1 sign ∷ claimed_from m proofs sign (k + 1) cs
+claimed_from m proofs sign k (c ∷ cs)
+    = claimed m (proofs k) (formula_of c.expr) 1 sign ∷ claimed_from m proofs sign (k + 1) cs
 
 -- a proof of each constraint's formula, over one constraint that is true everywhere
 abbrev pub AreFreeProofs : System → (ℕ → Proof) → Type 0
 AreFreeProofs m proofs = (k : ℕ) (c : Condition) → k < length m.constraints
-    → IsProof m (everything ∷ []) (nothing ∷ []) (proofs k) (formula_of (slice_index_or m.constraints k c).expr) 1
+    → IsProof m (everything ∷ []) (nothing ∷ []) (proofs k)
+    (formula_of (slice_index_or m.constraints k c).expr) 1
 
 abbrev pub claimed_visited : System → (ℕ → Proof) → List StateSet
 claimed_visited m proofs = one_at_least everything (claimed_from m proofs true 0 m.constraints)

@@ -20,14 +20,16 @@ InEarlierLayer layers k s = (i : ℕ) × (i < k) × s ∈ (layer_at layers i).st
 
 -- the state is in layer k, and in the set of states that the layer's constraint avoids
 abbrev pub Stays : List StateSet → List Layer → ℕ → State → Type 0
-Stays avoided layers k t = (t ∈ (layer_at layers k).states) × t ∈ set_at avoided (layer_at layers k).avoided
+Stays avoided layers k t
+    = (t ∈ (layer_at layers k).states) × t ∈ set_at avoided (layer_at layers k).avoided
 
 -- ---- states without and with a fair path
 
 -- each next state is in an earlier layer, or stays in this layer
 abbrev pub AreNonfair : System → List StateSet → List Layer → Type 0
 AreNonfair m avoided layers =
-    (k : ℕ) → IsInside m (layer_at layers k).states (EachNext m (λ t. InEarlierLayer layers k t ⊎ Stays avoided layers k t))
+    (k : ℕ) → IsInside m (layer_at layers k).states
+    (EachNext m (λ t. InEarlierLayer layers k t ⊎ Stays avoided layers k t))
 
 abbrev pub reach_at : List (List StateSet) → ℕ → List StateSet
 reach_at reaches k = slice_index_or reaches k []
@@ -35,12 +37,15 @@ reach_at reaches k = slice_index_or reaches k []
 -- reach sets: each lies inside the set, a step from a state of the set that is in `visit`, or from an earlier one
 pub record AreReachSets (m : System) (visit set : StateSet) (sets : List StateSet) : Type 0 where
   pub inside : (i : ℕ) → IsInside m (set_at sets i) (λ s. s ∈ set)
-  pub moves : (i : ℕ) → IsInside m (set_at sets i) (SomeNext m (λ t. ((t ∈ set) × t ∈ visit) ⊎ InEarlier sets i t))
+  pub moves : (i : ℕ)
+      → IsInside m (set_at sets i) (SomeNext m (λ t. ((t ∈ set) × t ∈ visit) ⊎ InEarlier sets i t))
 
 -- for each constraint, its reach sets lead from each state of the set to a state of the set where it is true
-pub record IsFairSet (m : System) (visited : List StateSet) (set : StateSet) (reaches : List (List StateSet)) : Type 0 where
+pub record IsFairSet (m : System) (visited : List StateSet) (set : StateSet)
+    (reaches : List (List StateSet)) : Type 0 where
   pub covered : (k : ℕ) → k < length visited → IsInside m set (InSome (reach_at reaches k))
-  pub leads : (k : ℕ) → k < length visited → AreReachSets m (set_at visited k) set (reach_at reaches k)
+  pub leads : (k : ℕ) → k < length visited
+      → AreReachSets m (set_at visited k) set (reach_at reaches k)
 
 -- ---- the rules of temporal nodes: f and g are the sets of the arguments
 
@@ -55,10 +60,12 @@ MeetsAX m nonfair f set = IsInside m set (EachNext m (λ t. (t ∈ f) ⊎ InSome
 -- the first set lies in g, where fair paths begin, and each later one in f, a step from an earlier one
 pub record MeetsEU (m : System) (fair f g : StateSet) (sets : List StateSet) : Type 0 where
   pub first : IsInside m (set_at sets 0) (λ s. (s ∈ g) × s ∈ fair)
-  pub later : (k : ℕ) → 0 < k → IsInside m (set_at sets k) (λ s. (s ∈ f) × SomeNext m (InEarlier sets k) s)
+  pub later : (k : ℕ) → 0 < k
+      → IsInside m (set_at sets k) (λ s. (s ∈ f) × SomeNext m (InEarlier sets k) s)
 
 -- each layer lies in f, and each next state is in g, has no fair path, is in an earlier layer, or stays
-pub record MeetsAU (m : System) (avoided : List StateSet) (nonfair : List Layer) (f g : StateSet) (layers : List Layer) : Type 0 where
+pub record MeetsAU (m : System) (avoided : List StateSet) (nonfair : List Layer) (f g : StateSet)
+    (layers : List Layer) : Type 0 where
   pub inside : (k : ℕ) → IsInside m (layer_at layers k).states (λ s. s ∈ f)
   pub moves : (k : ℕ) → IsInside m (layer_at layers k).states
       (EachNext m (λ t. (t ∈ g) ⊎ (InSomeLayer nonfair t ⊎ (InEarlierLayer layers k t ⊎ Stays avoided layers k t))))
@@ -71,10 +78,12 @@ pub record MeetsAR (m : System) (nonfair : List Layer) (f g set : StateSet) : Ty
 -- the first set lies in f and g, where fair paths begin, and each later one in g, a step from an earlier one
 pub record AreUntils (m : System) (fair f g : StateSet) (untils : List StateSet) : Type 0 where
   pub first : IsInside m (set_at untils 0) (λ s. (s ∈ f) × (s ∈ g) × s ∈ fair)
-  pub later : (k : ℕ) → 0 < k → IsInside m (set_at untils k) (λ s. (s ∈ g) × SomeNext m (InEarlier untils k) s)
+  pub later : (k : ℕ) → 0 < k
+      → IsInside m (set_at untils k) (λ s. (s ∈ g) × SomeNext m (InEarlier untils k) s)
 
 -- a fair set inside g, or sets under `until`
-pub record MeetsER (m : System) (visited : List StateSet) (fair f g set : StateSet) (reaches : List (List StateSet)) (untils : List StateSet) : Type 0 where
+pub record MeetsER (m : System) (visited : List StateSet) (fair f g set : StateSet)
+    (reaches : List (List StateSet)) (untils : List StateSet) : Type 0 where
   pub inside : IsInside m set (λ s. s ∈ g)
   pub stays : IsFairSet m visited set reaches
   pub until : AreUntils m fair f g untils

@@ -4,26 +4,26 @@ use Rattle.std.specs.Prelude.{sum_by}
 use Rattle.std.proofs.lemmas.List.Sums.{sum_by-cons}
 use Rattle.std.proofs.lemmas.List.{get_or_append_left, get_or_push, length_push, get_or-take, length-take-le}
 use Rattle.std.proofs.lemmas.Bool.{cases_lt}
-use Rattle.graph_order.specs.Graphs.{HasEdge, LeadsTo, Reaches}
+use Rattle.graph_order.specs.Graphs.{HasEdge, LeadsTo, CanReach}
 
-pub reach_trans : {f t : List ℕ} {a b c : ℕ} → Reaches f t a b → Reaches f t b c → Reaches f t a c
-reach_trans Reaches.here r = r
-reach_trans (Reaches.on e q) r = Reaches.on e (reach_trans q r)
+pub reach_trans : {f t : List ℕ} {a b c : ℕ} → CanReach f t a b → CanReach f t b c → CanReach f t a c
+reach_trans CanReach.here r = r
+reach_trans (CanReach.on e q) r = CanReach.on e (reach_trans q r)
 
-pub reach_edge : {f t : List ℕ} {a b : ℕ} → HasEdge f t a b → Reaches f t a b
-reach_edge e = Reaches.on e Reaches.here
+pub reach_edge : {f t : List ℕ} {a b : ℕ} → HasEdge f t a b → CanReach f t a b
+reach_edge e = CanReach.on e CanReach.here
 
-pub reach_at : {f t : List ℕ} {a b c d : ℕ} → a ≡ c → b ≡ d → Reaches f t a b → Reaches f t c d
-reach_at {f} {t} {b} {c} p q r = subst (λ z. Reaches f t c z) q (subst (λ z. Reaches f t z b) p r)
+pub reach_at : {f t : List ℕ} {a b c d : ℕ} → a ≡ c → b ≡ d → CanReach f t a b → CanReach f t c d
+reach_at {f} {t} {b} {c} p q r = subst (λ z. CanReach f t c z) q (subst (λ z. CanReach f t z b) p r)
 
-pub leads_edge : {f t : List ℕ} {a b c : ℕ} → HasEdge f t a b → Reaches f t b c → LeadsTo f t a c
-leads_edge e Reaches.here = LeadsTo.one e
-leads_edge e (Reaches.on d r) = LeadsTo.more e (leads_edge d r)
+pub leads_edge : {f t : List ℕ} {a b c : ℕ} → HasEdge f t a b → CanReach f t b c → LeadsTo f t a c
+leads_edge e CanReach.here = LeadsTo.one e
+leads_edge e (CanReach.on d r) = LeadsTo.more e (leads_edge d r)
 
 -- two nodes that reach one another
-pub leads_apart : {f t : List ℕ} {a b : ℕ} → Reaches f t a b → Reaches f t b a → (a ≡ b → ⊥) → LeadsTo f t a a
-leads_apart Reaches.here back apart = absurd (apart refl)
-leads_apart (Reaches.on e r) back apart = leads_edge e (reach_trans r back)
+pub leads_apart : {f t : List ℕ} {a b : ℕ} → CanReach f t a b → CanReach f t b a → (a ≡ b → ⊥) → LeadsTo f t a a
+leads_apart CanReach.here back apart = absurd (apart refl)
+leads_apart (CanReach.on e r) back apart = leads_edge e (reach_trans r back)
 
 -- ---- a list to which a member comes
 

@@ -5,7 +5,7 @@ use Rattle.std.proofs.lemmas.Bool.{cases_lt, cases_eq}
 use Rattle.graph_order.specs.declared.graph.Graph.{Graph}
 use Rattle.graph_order.specs.declared.order.Mark.{Mark}
 use Rattle.graph_order.specs.declared.order.Frame.{Frame}
-use Rattle.graph_order.specs.Graphs.{Reaches}
+use Rattle.graph_order.specs.Graphs.{CanReach}
 use Rattle.graph_order.specs.Searches.{mark, no_frame, node, next, last_of, first_of, nodes, EdgeAt, Reach, IsAbove, Within, NoBound, KeepsStack, KeepsPath, KeepsRanks}
 use Rattle.graph_order.proofs.GraphLemmas.{reach_trans, reach_at, push_old, push_new, push_index, push_up, push_last, popped_length, popped_old}
 
@@ -129,13 +129,13 @@ module _ (g : Graph) (marks : List Mark) (stack : List Frame) (path bounds : Lis
   forward_at : (i j : ℕ) → i ≤ j → (j < length stack) ⊎ (j ≡ length stack) → (i < length stack) ⊎ (length stack ≤ i) → Reach g (node stack' i) (node stack' j)
   forward_at i j le (inl h) both = reach_at (sym (node_old i (omega (arith, h, le)))) (sym (node_old j h)) (ks.forward i j le h)
   forward_at i j le (inr e) (inl low) = reach_at (sym (node_old i low)) (sym (node_new j e)) (reached i low)
-  forward_at i j le (inr e) (inr high) = reach_at refl (ap (λ z. node stack' z) (omega (arith, le, e, high))) Reaches.here
+  forward_at i j le (inr e) (inr high) = reach_at refl (ap (λ z. node stack' z) (omega (arith, le, e, high))) CanReach.here
 
   backward_at : (i j : ℕ) → i ≤ j → NoBound bounds' i j → (j < length stack) ⊎ (j ≡ length stack) → (i < length stack) ⊎ (length stack ≤ i) → Reach g (node stack' j) (node stack' i)
   backward_at i j le none (inl h) both = reach_at (sym (node_old j h)) (sym (node_old i (omega (arith, h, le))))
       (ks.backward i j le h (λ m hm low high. none m (push_up bounds (length stack) m hm) (omega (arith, push_old bounds (length stack) m 0 hm, low)) (omega (arith, push_old bounds (length stack) m 0 hm, high))))
   backward_at i j le none (inr e) (inl low) = absurd (none (length bounds) (push_last bounds (length stack)) (omega (arith, push_new bounds (length stack) 0, low)) (omega (arith, push_new bounds (length stack) 0, e)))
-  backward_at i j le none (inr e) (inr high) = reach_at refl (ap (λ z. node stack' z) (omega (arith, le, e, high))) Reaches.here
+  backward_at i j le none (inr e) (inr high) = reach_at refl (ap (λ z. node stack' z) (omega (arith, le, e, high))) CanReach.here
 
   begun_at : (i : ℕ) → (i < length stack) ⊎ (i ≡ length stack) → first_of g (node stack' i) ≤ next stack' i
   begun_at i (inl h) = omega (arith, ap (λ z. first_of g z) (node_old i h), next_old i h, ks.begun i h)

@@ -13,12 +13,12 @@ pub struct Graph {
 }
 
 impl Graph {
-    ghost use Rattle.graph_order.specs.Graphs.{IsStarted, IsGraph, node_count};
+    ghost use Rattle.graph_order.specs.Graphs.{IsStarted, IsGraph, vertex_count};
 
     /// A graph without nodes.
     pub fn new(alloc: Global) -> Result<Graph, AllocError>
         ensures started { IfOk result (λ g. IsStarted g.firsts.items g.targets.items) }
-        ensures none { IfOk result (λ g. node_count g.firsts.items ≡ 0) }
+        ensures none { IfOk result (λ g. vertex_count g.firsts.items ≡ 0) }
         ensures firsts { IfOk result (λ g. g.firsts.items ≡ 0 ∷ []) }
         ensures targets { IfOk result (λ g. g.targets.items ≡ []) }
     {
@@ -35,7 +35,8 @@ impl Graph {
         requires { IsStarted self.old.firsts.items self.old.targets.items }
         ensures started { OnOk result (IsStarted self.new.firsts.items self.new.targets.items) }
         ensures firsts { OnOk result (self.new.firsts.items ≡ self.old.firsts.items) }
-        ensures targets { OnOk result (self.new.targets.items ≡ self.old.targets.items ++ target ∷ []) }
+        ensures targets { OnOk result
+            (self.new.targets.items ≡ self.old.targets.items ++ target ∷ []) }
     {
         self.targets.push(target)?;
         Ok(())
@@ -45,7 +46,8 @@ impl Graph {
     pub fn end_node(&mut self) -> Result<(), AllocError>
         requires { IsStarted self.old.firsts.items self.old.targets.items }
         ensures started { OnOk result (IsStarted self.new.firsts.items self.new.targets.items) }
-        ensures firsts { OnOk result (self.new.firsts.items ≡ self.old.firsts.items ++ length self.old.targets.items ∷ []) }
+        ensures firsts { OnOk result
+            (self.new.firsts.items ≡ self.old.firsts.items ++ length self.old.targets.items ∷ []) }
         ensures targets { OnOk result (self.new.targets.items ≡ self.old.targets.items) }
     {
         self.firsts.push(self.targets.len())?;

@@ -124,7 +124,8 @@ impl Search {
         requires good { IsGraph graph.now.firsts.items graph.now.targets.items }
         requires keeps { Keeps graph.now self.old }
         requires some { 0 < length self.old.path.items }
-        requires edge { EdgeAt graph.now (node self.old.stack.items (last_of self.old.path.items)) (next self.old.stack.items (last_of self.old.path.items)) target }
+        requires edge { EdgeAt graph.now (node self.old.stack.items (last_of self.old.path.items))
+            (next self.old.stack.items (last_of self.old.path.items)) target }
         ensures { OnOk result (LooksAt graph.now target self.old self.new) }
     {
         match self.marks[target] {
@@ -143,7 +144,8 @@ impl Search {
         requires keeps { Keeps graph.now self.old }
         requires some { 0 < length self.old.path.items }
         requires last { top ≡ last_of self.old.path.items }
-        requires more { next self.old.stack.items top < first_of graph.now (node self.old.stack.items top + 1) }
+        requires more { next self.old.stack.items top
+            < first_of graph.now (node self.old.stack.items top + 1) }
         ensures { OnOk result (Steps graph.now self.old self.new) }
     {
         let frame = self.stack[top];
@@ -157,9 +159,13 @@ impl Search {
 
     /// Puts the nodes from a place of the stack on in the order.
     fn rank_from(&mut self, bottom: usize, circular: bool) -> Result<(), AllocError>
-        requires marked { (i : ℕ) → i < length self.old.stack.items → node self.old.stack.items i < length self.old.marks.items }
-        requires flagged { (i : ℕ) → i < length self.old.stack.items → node self.old.stack.items i < length self.old.circular.items }
-        requires distinct { (i j : ℕ) → i < length self.old.stack.items → j < length self.old.stack.items → node self.old.stack.items i ≡ node self.old.stack.items j → i ≡ j }
+        requires marked { (i : ℕ) → i < length self.old.stack.items
+            → node self.old.stack.items i < length self.old.marks.items }
+        requires flagged { (i : ℕ) → i < length self.old.stack.items
+            → node self.old.stack.items i < length self.old.circular.items }
+        requires distinct { (i j : ℕ) → i < length self.old.stack.items
+            → j < length self.old.stack.items
+            → node self.old.stack.items i ≡ node self.old.stack.items j → i ≡ j }
         requires low { bottom ≤ length self.old.stack.items }
         ensures ranks { OnOk result (RanksFrom bottom circular self.old.stack.items self.old.marks.items self.new.marks.items self.old.order.items self.new.order.items self.old.circular.items self.new.circular.items (length self.old.stack.items)) }
         ensures stack { OnOk result (self.new.stack.items ≡ self.old.stack.items) }
@@ -181,7 +187,8 @@ impl Search {
         requires keeps { Keeps graph.now self.old }
         requires some { 0 < length self.old.path.items }
         requires last { top ≡ last_of self.old.path.items }
-        requires done { next self.old.stack.items top ≡ first_of graph.now (node self.old.stack.items top + 1) }
+        requires done { next self.old.stack.items top
+            ≡ first_of graph.now (node self.old.stack.items top + 1) }
         ensures { OnOk result (Steps graph.now self.old self.new) }
     {
         let _ = self.path.pop();
@@ -218,7 +225,8 @@ impl Search {
         requires is_node { root < nodes graph.now }
         requires unseen { slice_index_or self.old.marks.items root Mark.Unseen ≡ Mark.Unseen }
         ensures ends { OnOk result (Ends graph.now self.old self.new) }
-        ensures root { OnOk result (is_unseen (slice_index_or self.new.marks.items root Mark.Unseen) ≡ false) }
+        ensures root { OnOk result
+            (is_unseen (slice_index_or self.new.marks.items root Mark.Unseen) ≡ false) }
     {
         self.enter(root, graph.firsts[root])?;
         while let Some(top) = self.path.last().copied() {

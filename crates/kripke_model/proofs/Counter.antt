@@ -10,7 +10,7 @@ use Rattle.kripke_model.specs.Term.{Term}
 use Rattle.kripke_model.specs.System.{System, Variable, Assignment, State, value_in}
 use Rattle.kripke_model.specs.Evaluation.{values, runs, Holds}
 use Rattle.kripke_model.specs.Size.{node_count}
-use Rattle.kripke_model.specs.Step.{Step, IsValueOf, IsDriven, HasNext, IsCurrent}
+use Rattle.kripke_model.specs.Step.{Step, IsValueOf, IsDriven, HasNextAssign, IsCurrent}
 use Rattle.kripke_model.proofs.Latch.{num, bit, Contains-only}
 use Rattle.kripke_model.proofs.Examples.{constant, main_name, is_only}
 
@@ -88,7 +88,7 @@ nodes_of_second_bit = refl
 -- ---- steps
 
 -- with no selector, each process is selected
-kept : (s t : State) (x : ℕ) → HasNext counter x → (IsDriven counter s x → ⊥) → value_in t x ≡ value_in s x
+kept : (s t : State) (x : ℕ) → HasNextAssign counter x → (IsDriven counter s x → ⊥) → value_in t x ≡ value_in s x
 kept s t x h n = absurd (n (h.0, h.1, h.2, h.3, (h.4.0, h.4.1, refl)))
 
 current : (s : State) → IsCurrent counter s

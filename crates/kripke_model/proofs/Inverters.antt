@@ -10,7 +10,7 @@ use Rattle.kripke_model.specs.Term.{Term}
 use Rattle.kripke_model.specs.Ctl.{Ctl, formula_of}
 use Rattle.kripke_model.specs.System.{System, Variable, Assignment, Condition, State, value_in}
 use Rattle.kripke_model.specs.Evaluation.{eval, runs, Holds}
-use Rattle.kripke_model.specs.Step.{IsState, Step, IsValueOf, IsDriven, HasNext, IsCurrent}
+use Rattle.kripke_model.specs.Step.{IsState, Step, IsValueOf, IsDriven, HasNextAssign, IsCurrent}
 use Rattle.kripke_model.specs.Path.{Lasso, at, IsPath}
 use Rattle.kripke_model.specs.Truth.{FreeSat, IsFair}
 use Rattle.kripke_model.proofs.Latch.{num, bit, Any-only, zero_bit, one_bit}
@@ -132,10 +132,10 @@ not_driven s p unselected =
     other q e r = not_true (sym unselected ∙ ap (runs ring s) (sym e) ∙ r)
 
 -- the output of a process that is not selected is kept
-pub keeps_output : (s t : State) (p : ℕ) → HasNext ring p → runs ring s p ≡ false → Step ring s t → value_in t p ≡ value_in s p
+pub keeps_output : (s t : State) (p : ℕ) → HasNextAssign ring p → runs ring s p ≡ false → Step ring s t → value_in t p ≡ value_in s p
 keeps_output s t p h unselected move = move.kept p h (not_driven s p unselected)
 
-moved : (s t : State) (p input : ℕ) → HasNext ring p → (IsTrue (runs ring s p) → IsValueOf ring (inverted input) s t (value_in t p)) → Step ring s t → IsMove s t p input
+moved : (s t : State) (p input : ℕ) → HasNextAssign ring p → (IsTrue (runs ring s p) → IsValueOf ring (inverted input) s t (value_in t p)) → Step ring s t → IsMove s t p input
 moved s t p input h f move =
     elim (runs ring s p) as (λ b. runs ring s p ≡ b → IsMove s t p input) [
       | true ↦ (λ e. inl (e, f e))

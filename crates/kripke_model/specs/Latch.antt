@@ -37,7 +37,11 @@ one_fair = record { expr = Term.Const (num 1); line = 7 }
 abbrev pub latch : System
 latch = record {
   symbols = [];
-  vars = record { name = 120 ∷ []; values = bit; line = 2 } ∷ record { name = 103 ∷ 111 ∷ []; values = bit; line = 2 } ∷ [];
+  vars = record { name = 120 ∷ []; values = bit; line = 2 } ∷ record {
+    name = 103 ∷ 111 ∷ [];
+    values = bit;
+    line = 2;
+  } ∷ [];
   selector = false;
   processes = (109 ∷ 97 ∷ 105 ∷ 110 ∷ []) ∷ [];
   assigns = init_x ∷ next_x ∷ [];

@@ -16,7 +16,9 @@ IsLeafOf t (Ctl.Until all f g) = IsLeafOf t f ⊎ IsLeafOf t g
 
 -- the expression is a leaf of a constraint or of a specification
 abbrev pub IsModelLeaf : System → Term → Type 0
-IsModelLeaf m t = Any (λ c. IsLeafOf t (formula_of c.expr)) m.constraints ⊎ Any (λ c. IsLeafOf t (formula_of c.expr)) m.specs
+IsModelLeaf m t
+    = Any (λ c. IsLeafOf t (formula_of c.expr)) m.constraints
+    ⊎ Any (λ c. IsLeafOf t (formula_of c.expr)) m.specs
 
 -- each constraint is a leaf
 abbrev pub HasLeafConstraints : System → Type 0

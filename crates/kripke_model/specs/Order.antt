@@ -19,7 +19,8 @@ abbrev pub IsBefore : List Variable → State → State → Type 0
 IsBefore [] s t = ⊥
 IsBefore (x ∷ xs) [] t = ⊥
 IsBefore (x ∷ xs) (v ∷ s) [] = ⊥
-IsBefore (x ∷ xs) (v ∷ s) (w ∷ t) = IsEarlier (place_in x v) (place_in x w) ⊎ ((v ≡ w) × IsBefore xs s t)
+IsBefore (x ∷ xs) (v ∷ s) (w ∷ t)
+    = IsEarlier (place_in x v) (place_in x w) ⊎ ((v ≡ w) × IsBefore xs s t)
 
 -- the first state that meets P, or none where none does
 abbrev pub IsLeast : System → (State → Type 0) → Option State → Type 0

@@ -8,7 +8,7 @@ use Rattle.kripke_model.specs.declared.models.Part.{Part}
 use Rattle.kripke_model.specs.Term.{Term, esac, arm}
 use Rattle.kripke_model.specs.System.{System, Variable, Assignment, State, value_in}
 use Rattle.kripke_model.specs.Evaluation.{same, runs, Holds}
-use Rattle.kripke_model.specs.Step.{IsState, Step, Initial, IsValueOf, IsDriven, HasNext, IsCurrent, Assigned}
+use Rattle.kripke_model.specs.Step.{IsState, Step, Initial, IsValueOf, IsDriven, HasNextAssign, IsCurrent, Assigned}
 use Rattle.kripke_model.specs.Truth.{Sat, Initials}
 use Rattle.kripke_model.proofs.Latch.{num, Contains-only}
 use Rattle.path_laws.specs.StateSet.{StateSet, ◌∈◌}
@@ -72,7 +72,7 @@ is_state_of x c = record { each = refl; typed = typed }
     typed (suc k) v h = absurd (omega arith)
 
 -- with no selector, the process is selected
-kept : (s t : State) (x : ℕ) → HasNext chain x → (IsDriven chain s x → ⊥) → value_in t x ≡ value_in s x
+kept : (s t : State) (x : ℕ) → HasNextAssign chain x → (IsDriven chain s x → ⊥) → value_in t x ≡ value_in s x
 kept s t x h n = absurd (n (h.0, h.1, h.2, h.3, (h.4.0, h.4.1, refl)))
 
 by_parts : (part : Part) (R : Assignment → Type 0) → (Part.Init ≡ part → R init_x) → (Part.Next ≡ part → R next_x) → Assigned chain part R

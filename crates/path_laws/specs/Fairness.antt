@@ -20,4 +20,5 @@ pub record IsWalkOver (m : System) (n : ℕ) (C : ℕ → State → Type 0) (w :
 
 -- constraint k of the model is true at s
 abbrev pub ConstraintHolds : System → ℕ → State → Type 0
-ConstraintHolds m k s = (c : Condition) → FreeSat m (formula_of (slice_index_or m.constraints k c).expr) s
+ConstraintHolds m k s
+    = (c : Condition) → FreeSat m (formula_of (slice_index_or m.constraints k c).expr) s

@@ -12,7 +12,8 @@ IsLive m = (s : State) → IsState m s → (t : State) × IsState m t × Step m 
 pub record IsRun (m : System) (run : List State) : Type 0 where
   pub begins : 0 < length run
   pub states : (i : ℕ) → i < length run → IsState m (slice_index_or run i [])
-  pub steps : (i : ℕ) → i + 1 < length run → Step m (slice_index_or run i []) (slice_index_or run (i + 1) [])
+  pub steps : (i : ℕ) → i + 1 < length run
+      → Step m (slice_index_or run i []) (slice_index_or run (i + 1) [])
 
 abbrev pub first_state : List State → State
 first_state run = slice_index_or run 0 []

@@ -13,7 +13,8 @@ pub record Lessens (before after : Sets) (old new : List ℕ) : Type 0 where
   pub over : after.over ≡ before.over
   pub within : (k : ℕ) → is_one_of k new ≡ true → is_one_of k old ≡ true
   pub kept : (k : ℕ) → is_one_of k old ≡ false → after.pins k ≡ before.pins k
-  pub held : (front behind : List ℕ) → HasPins before (front ++ (old ++ behind)) → HasPins after (front ++ (new ++ behind))
+  pub held : (front behind : List ℕ) → HasPins before (front ++ (old ++ behind))
+      → HasPins after (front ++ (new ++ behind))
 
 -- each live pin stands for what it stood for
 abbrev pub Keeps : Sets → Sets → Type 0
@@ -21,4 +22,5 @@ Keeps before after = (k : ℕ) → IsLive before k → after.pins k ≡ before.p
 
 -- each live pin but those of a list stands for what it stood for
 abbrev pub LetsGo : Sets → Sets → List ℕ → Type 0
-LetsGo before after slots = (k : ℕ) → IsLive before k → is_one_of k slots ≡ false → after.pins k ≡ before.pins k
+LetsGo before after slots
+    = (k : ℕ) → IsLive before k → is_one_of k slots ≡ false → after.pins k ≡ before.pins k

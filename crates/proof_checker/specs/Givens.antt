@@ -17,7 +17,9 @@ use Rattle.proof_checker.specs.Imported.{node_states}
 
 -- what each line has to show, over the states of the nodes
 abbrev pub given_lines : Given → List (List Check)
-given_lines g = obligations g.model.now (ctl_of g.formula.now) (map_proof (node_states g.model.now g.order.now g.nodes.now) g.proof.now)
+given_lines g
+    = obligations g.model.now (ctl_of g.formula.now)
+    (map_proof (node_states g.model.now g.order.now g.nodes.now) g.proof.now)
 
 -- nothing in the model faults, its states have few bits, and the proof has the shape of one of the formula over good nodes
 pub record IsGiven (g : Given) : Type 0 where

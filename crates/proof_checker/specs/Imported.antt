@@ -29,7 +29,8 @@ pub record IsPlaced (list : Numbered) (number : ℕ) : Type 0 where
 
 -- the states in whose codes, with the variables in this order, the walk down from the node ends at 1
 abbrev pub node_states : System → List ℕ → List Triple → ℕ → StateSet
-node_states m order nodes number s = value_of nodes number (code (record { types = types_of m; order = order }) s)
+node_states m order nodes number s
+    = value_of nodes number (code (record { types = types_of m; order = order }) s)
 
 abbrev pub seen_in : DiagramSets → Sets
 seen_in x = diagram_sets x.parts x.pins x.fulls
@@ -37,13 +38,18 @@ seen_in x = diagram_sets x.parts x.pins x.fulls
 -- the slot's pin is live, and has the states in whose codes the node has value 1
 pub record HasNumber (x : DiagramSets) (nodes : List Triple) (slot number : ℕ) : Type 0 where
   pub live : IsLive (seen_in x) slot
-  pub states : (s : State) → In (seen_in x) slot s ↔ (IsState (seen_in x).over s × (value_of nodes number (code (coding_in x) s) ≡ true))
+  pub states : (s : State)
+      → In (seen_in x) slot s
+      ↔ (IsState (seen_in x).over s × (value_of nodes number (code (coding_in x) s) ≡ true))
 
 -- each root at the place of a number has its slot
 abbrev pub HasPlaces : DiagramSets → NodeList → List ℕ → List ℕ → Type 0
-HasPlaces x list places table = (number : ℕ) → number < length places → slice_index places number < length (roots_of list)
-    → HasNumber x (nodes_of list) (slice_index table number) (slice_index (roots_of list) (slice_index places number))
+HasPlaces x list places table
+    = (number : ℕ) → number < length places → slice_index places number < length (roots_of list)
+    → HasNumber x (nodes_of list) (slice_index table number)
+    (slice_index (roots_of list) (slice_index places number))
 
 -- each of the numbers has its slot
 abbrev pub HaveNumbers : DiagramSets → List Triple → List ℕ → List ℕ → Type 0
-HaveNumbers x nodes table numbers = All (λ number. HasNumber x nodes (slice_index table number) number) numbers
+HaveNumbers x nodes table numbers
+    = All (λ number. HasNumber x nodes (slice_index table number) number) numbers

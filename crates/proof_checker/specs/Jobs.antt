@@ -19,7 +19,9 @@ use Rattle.proof_checker.specs.Imported.{seen_in}
 
 -- what each line has to show, over the states of the numbers' pins
 abbrev pub lines_in : Job → List (List Check)
-lines_in job = obligations job.model.now (ctl_of job.formula.now) (over_states (seen_in job.sets) (pinned job.table.now job.proof.now))
+lines_in job
+    = obligations job.model.now (ctl_of job.formula.now)
+    (over_states (seen_in job.sets) (pinned job.table.now job.proof.now))
 
 -- so many pins are held while the formula's proof is tested
 abbrev pub test_pins : System → Ctl → ℕ
@@ -34,5 +36,6 @@ IsTestCall job before after result =
 pub record IsJob (job : Job) : Type 0 where
   pub over : (seen_in job.sets).over ≡ job.model.now
   pub leaves : HasModelLeaves job.model.now (ctl_of job.formula.now)
-  pub live : All (λ number. IsLive (seen_in job.sets) (slice_index job.table.now number)) (sets_of job.proof.now)
+  pub live : All (λ number. IsLive (seen_in job.sets) (slice_index job.table.now number))
+      (sets_of job.proof.now)
   pub shape : IsInShape job.model.now (ctl_of job.formula.now) job.proof.now

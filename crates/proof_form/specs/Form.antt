@@ -70,7 +70,12 @@ abbrev pub map_free_entry : {A B : Type 0} → (A → B) → FreeEntry A → Fre
 map_free_entry f e = record { constraint = e.constraint; entry = map_entry f e.entry }
 
 abbrev pub map_free : {A B : Type 0} → (A → B) → FreePart A → FreePart B
-map_free f p = record { nonfair = map (map_layer f) p.nonfair; fair = map_fair f p.fair; entries = map (map_free_entry f) p.entries }
+map_free f p
+    = record {
+      nonfair = map (map_layer f) p.nonfair;
+      fair = map_fair f p.fair;
+      entries = map (map_free_entry f) p.entries;
+    }
 
 abbrev pub map_proof : {A B : Type 0} → (A → B) → Proof A → Proof B
 map_proof f p = record {
@@ -102,11 +107,13 @@ abbrev pub entries_sets : {A : Type 0} → List (Entry A) → List A
 entries_sets entries = flat_map (λ e. rule_sets e.rule) entries
 
 abbrev pub free_sets : {A : Type 0} → FreePart A → List A
-free_sets p = layer_sets p.nonfair ++ (fair_sets p.fair ++ entries_sets (map (λ e. e.entry) p.entries))
+free_sets p = layer_sets p.nonfair
+    ++ (fair_sets p.fair ++ entries_sets (map (λ e. e.entry) p.entries))
 
 abbrev pub free_sets_of : {A : Type 0} → Option (FreePart A) → List A
 free_sets_of None = []
 free_sets_of (Some part) = free_sets part
 
 abbrev pub sets_of : {A : Type 0} → Proof A → List A
-sets_of p = free_sets_of p.free ++ (layer_sets p.nonfair ++ (fair_sets p.fair ++ entries_sets p.entries))
+sets_of p = free_sets_of p.free
+    ++ (layer_sets p.nonfair ++ (fair_sets p.fair ++ entries_sets p.entries))

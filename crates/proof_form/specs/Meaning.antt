@@ -45,11 +45,13 @@ block_of p = record {
 -- what the free part has for constraint k, counted from 1
 abbrev pub entries_for : ℕ → List (FreeEntry StateSet) → List Listed
 entries_for k [] = []
-entries_for k (e ∷ es) = if e.constraint == k then listed_of e.entry ∷ entries_for k es else entries_for k es
+entries_for k (e ∷ es)
+    = if e.constraint == k then listed_of e.entry ∷ entries_for k es else entries_for k es
 
 -- constraints are counted from 0 here; a constraint that is a leaf needs nothing
 abbrev pub free_proof : Option (FreePart StateSet) → ℕ → claims.Proof
-free_proof None k = record { nonfair = []; fair = nothing; reaches = []; entries = blocks.entry_of [] }
+free_proof None k
+    = record { nonfair = []; fair = nothing; reaches = []; entries = blocks.entry_of [] }
 free_proof (Some part) k = record {
   nonfair = map layer_of part.nonfair;
   fair = part.fair.inside;
@@ -79,10 +81,12 @@ free_demand m part e = option_and_then
     (λ f. demand_at m (free_proof (Some part) (e.constraint - 1)) f 1 e.entry.node e.entry.plus)
     (constraint_formula m e.constraint)
 
-abbrev pub free_entry_lines : System → FreePart StateSet → List (FreeEntry StateSet) → List (List Check)
+abbrev pub free_entry_lines : System → FreePart StateSet → List (FreeEntry StateSet)
+    → List (List Check)
 free_entry_lines m part [] = []
 free_entry_lines m part (e ∷ es) =
-    asked_lines free_visited free_avoided (free_proof (Some part) (e.constraint - 1)) (free_demand m part e) (entry_of e.entry.rule)
+    asked_lines free_visited free_avoided (free_proof (Some part) (e.constraint - 1))
+    (free_demand m part e) (entry_of e.entry.rule)
     ++ free_entry_lines m part es
 
 -- the line `free` has nothing to show
@@ -90,11 +94,13 @@ abbrev pub free_lines : System → Option (FreePart StateSet) → List (List Che
 free_lines m None = []
 free_lines m (Some part) =
     [] ∷ ([] ∷ layer_lines free_avoided everything nothing nothing (map layer_of part.nonfair))
-    ++ (([] ∷ reach_lines part.fair.inside free_visited part.fair.reach) ++ free_entry_lines m part part.entries)
+    ++ (([] ∷ reach_lines part.fair.inside free_visited part.fair.reach)
+    ++ free_entry_lines m part part.entries)
 
 -- what each line has to show, from `free` or `nonfair` to `end`
 abbrev pub obligations : System → Ctl → Proof StateSet → List (List Check)
-obligations m f p = free_lines m p.free ++ block_lines m (visited m p) (avoided m p) (block_of p) f 1
+obligations m f p
+    = free_lines m p.free ++ block_lines m (visited m p) (avoided m p) (block_of p) f 1
 
 -- a proof in shape, each line of which shows what it has to
 pub record IsProofOf (m : System) (f : Ctl) (p : Proof StateSet) : Type 0 where
@@ -107,7 +113,8 @@ ProvesSpec m j p = IsSomeAnd (spec_formula m j) (λ f. IsProofOf m f p)
 
 -- a proof in shape of specification j, and line n, counted from 0 at `free` or `nonfair`, is the first that fails
 abbrev pub FailsFirstAt : System → ℕ → Proof StateSet → ℕ → Type 0
-FailsFirstAt m j p n = IsSomeAnd (spec_formula m j) (λ f. IsInShape m f p × IsFirstBad m (obligations m f p) n)
+FailsFirstAt m j p n
+    = IsSomeAnd (spec_formula m j) (λ f. IsInShape m f p × IsFirstBad m (obligations m f p) n)
 
 -- ---- its claim
 

@@ -35,7 +35,9 @@ proof_result_slots (Err refusal) = []
 
 -- each of the later pins has the states that its fellow had before
 abbrev pub AreCopies : Sets → Sets → List Pin → List Pin → Type 0
-AreCopies before after pins copies = AllZip (λ (pin copy : Pin). (s : State) → In after copy.slot s ↔ In before pin.slot s) pins copies
+AreCopies before after pins copies
+    = AllZip (λ (pin copy : Pin). (s : State)
+    → In after copy.slot s ↔ In before pin.slot s) pins copies
 
 -- how many nodes specification j has
 abbrev pub spec_nodes : System → ℕ → ℕ

@@ -52,11 +52,25 @@ node_views nodes = map node_view nodes
 abbrev pub nodes_from : Ctl → ℕ → List NodeView
 nodes_from (Ctl.Leaf e) before = NodeView.Leaf e ∷ []
 nodes_from (Ctl.Not f) before = nodes_from f before ++ (NodeView.One unary.Not ∷ [])
-nodes_from (Ctl.And f g) before = nodes_from g before ++ (nodes_from f (before + node_count g) ++ (NodeView.Two binary.And (before + node_count g - 1) ∷ []))
-nodes_from (Ctl.Or f g) before = nodes_from g before ++ (nodes_from f (before + node_count g) ++ (NodeView.Two binary.Or (before + node_count g - 1) ∷ []))
+nodes_from (Ctl.And f g) before
+    = nodes_from g before
+    ++ (nodes_from f (before + node_count g)
+    ++ (NodeView.Two binary.And (before + node_count g - 1) ∷ []))
+nodes_from (Ctl.Or f g) before
+    = nodes_from g before
+    ++ (nodes_from f (before + node_count g)
+    ++ (NodeView.Two binary.Or (before + node_count g - 1) ∷ []))
 nodes_from (Ctl.Implies f g) before =
-    nodes_from g before ++ (nodes_from f (before + node_count g) ++ (NodeView.Two binary.Implies (before + node_count g - 1) ∷ []))
-nodes_from (Ctl.Iff f g) before = nodes_from g before ++ (nodes_from f (before + node_count g) ++ (NodeView.Two binary.Iff (before + node_count g - 1) ∷ []))
-nodes_from (Ctl.Quant op f) before = nodes_from f before ++ (NodeView.One (unary.Quantified op) ∷ [])
+    nodes_from g before
+    ++ (nodes_from f (before + node_count g)
+    ++ (NodeView.Two binary.Implies (before + node_count g - 1) ∷ []))
+nodes_from (Ctl.Iff f g) before
+    = nodes_from g before
+    ++ (nodes_from f (before + node_count g)
+    ++ (NodeView.Two binary.Iff (before + node_count g - 1) ∷ []))
+nodes_from (Ctl.Quant op f) before
+    = nodes_from f before ++ (NodeView.One (unary.Quantified op) ∷ [])
 nodes_from (Ctl.Until all f g) before =
-    nodes_from g before ++ (nodes_from f (before + node_count g) ++ (NodeView.Two (binary.Until all) (before + node_count g - 1) ∷ []))
+    nodes_from g before
+    ++ (nodes_from f (before + node_count g)
+    ++ (NodeView.Two (binary.Until all) (before + node_count g - 1) ∷ []))

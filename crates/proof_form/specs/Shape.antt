@@ -55,7 +55,8 @@ FitsConstraints count rule = Unit {0}
 
 -- a comes before b: by constraint, by node, and `+` before `-`
 abbrev pub StandsBefore : {A : Type 0} → FreeEntry A → FreeEntry A → Type 0
-StandsBefore a b = (a.constraint < b.constraint) ⊎ ((a.constraint ≡ b.constraint) × ComesBefore a.entry b.entry)
+StandsBefore a b
+    = (a.constraint < b.constraint) ⊎ ((a.constraint ≡ b.constraint) × ComesBefore a.entry b.entry)
 
 -- the entry is one for a formula of the model's constraints
 abbrev pub HasConstraintRule : {A : Type 0} → System → FreeEntry A → Type 0

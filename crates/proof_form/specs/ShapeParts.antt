@@ -30,4 +30,5 @@ pub record ClaimFits {A : Type 0} (m : System) (p : Proof A) : Type 0 where
 
 -- for each formula the list of its nodes
 abbrev pub AreTables : List Formula → List (Vec Node) → Type 0
-AreTables formulas tables = map (λ table. node_views table.items) tables ≡ map (λ f. nodes_from (ctl_of f) 0) formulas
+AreTables formulas tables
+    = map (λ table. node_views table.items) tables ≡ map (λ f. nodes_from (ctl_of f) 0) formulas

@@ -24,8 +24,11 @@ use Rattle.claim_sets.specs.Claimed.{HasModelLeaves}
 use Rattle.claim_sets.specs.ConstraintClaims.{AreFitting, lists_claims_slots}
 
 -- the lines of what entries share
-abbrev pub shared : List StateSet → List StateSet → List rules.Layer → StateSet → List (List StateSet) → List (List Check)
-shared visited avoided layers fair reaches = ([] ∷ layer_lines avoided everything nothing nothing layers) ++ ([] ∷ reach_lines fair visited reaches)
+abbrev pub shared : List StateSet → List StateSet → List rules.Layer → StateSet
+    → List (List StateSet) → List (List Check)
+shared visited avoided layers fair reaches
+    = ([] ∷ layer_lines avoided everything nothing nothing layers)
+    ++ ([] ∷ reach_lines fair visited reaches)
 
 -- the pins are live, and are what they say
 pub record AreEnds (sets : Sets) (ends : Ends) : Type 0 where

@@ -26,11 +26,13 @@ AreTested m lines before false after = (n : ℕ) × IsFirstBad m lines n × (aft
 abbrev pub layer_line : List StateSet → StateSet → StateSet → StateSet → Layer → List Check
 layer_line avoided f out earlier l =
     Check.Inside l.states f
-    ∷ Check.Keeps l.states (either out (either earlier (both l.states (set_at avoided l.avoided)))) ∷ []
+    ∷ Check.Keeps l.states (either out (either earlier (both l.states (set_at avoided l.avoided))))
+    ∷ []
 
 abbrev pub step_line : StateSet → StateSet → StateSet → StateSet → List Check
 step_line f first earlier set = Check.Inside set f ∷ Check.Leads set (either first earlier) ∷ []
 
 -- the lines of one constraint's reach sets
 abbrev pub reach_part : StateSet → StateSet → List StateSet → List (List Check)
-reach_part set visit sets = (Check.Inside set (join sets) ∷ []) ∷ step_lines set (both set visit) nothing sets
+reach_part set visit sets
+    = (Check.Inside set (join sets) ∷ []) ∷ step_lines set (both set visit) nothing sets

@@ -49,14 +49,19 @@ in_rest (Err fault) = Err fault
 -- ---- readers
 
 -- what a reader finds of a part in a text whose nodes are over so many levels
-abbrev pub FindsOver : {X : Type 0} → ℕ → (X → Type 0) → (X → List Line) → Place → Result X Fault → Place → Type 0
-FindsOver levels Fits lines old result new = IsFound line_text (IsGoodLine levels) Fits lines old result new
+abbrev pub FindsOver : {X : Type 0} → ℕ → (X → Type 0) → (X → List Line) → Place → Result X Fault
+    → Place → Type 0
+FindsOver levels Fits lines old result new
+    = IsFound line_text (IsGoodLine levels) Fits lines old result new
 
 -- no whole line is left
 abbrev pub EndsHere : Place → Fault → Place → Type 0
 EndsHere old fault new = (lines_in old.left ≡ []) × (fault ≡ End) × (new ≡ old)
 
 -- and where it may be that no part fits, or that no line is left
-abbrev pub FindsFirst : {X : Type 0} → ℕ → (X → Type 0) → (X → List Line) → Place → Result X Fault → Place → Type 0
+abbrev pub FindsFirst : {X : Type 0} → ℕ → (X → Type 0) → (X → List Line) → Place → Result X Fault
+    → Place → Type 0
 FindsFirst levels Fits lines old (Ok x) new = FindsOver levels Fits lines old (Ok x) new
-FindsFirst levels Fits lines old (Err fault) new = EndsHere old fault new ⊎ (StartsNone Fits lines old fault new ⊎ FindsOver levels Fits lines old (Err fault) new)
+FindsFirst levels Fits lines old (Err fault) new
+    = EndsHere old fault new
+    ⊎ (StartsNone Fits lines old fault new ⊎ FindsOver levels Fits lines old (Err fault) new)

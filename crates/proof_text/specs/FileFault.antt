@@ -12,9 +12,15 @@ use Rattle.text_lines.specs.declared.faults.Fault.TheVariants.{Stops, Breaks, En
 
 -- No file goes on at the line, or one does whose node breaks the rules, or the lines end within a file; the reader stands at line n.
 abbrev pub IsFileFault : System → List ℕ → ℕ → Fault → Type 0
-IsFileFault m bytes n (Stops l) = (k : ℕ) × (l ≡ k + 1) × (k < length (lines_in bytes)) × Begins m (take k (lines_in bytes)) × (MayBegin m (take (k + 1) (lines_in bytes)) → ⊥)
-IsFileFault m bytes n (Breaks l) = (k : ℕ) × (l ≡ k + 1) × (k < length (lines_in bytes)) × Begins m (take k (lines_in bytes)) × (Begins m (take (k + 1) (lines_in bytes)) → ⊥) × MayBegin m (take (k + 1) (lines_in bytes))
-IsFileFault m bytes n End = (n ≡ length (lines_in bytes) + 1) × Begins m (lines_in bytes) × ((f : File) → IsFile m f → bytes ≡ text_of (file_lines m f) → ⊥)
+IsFileFault m bytes n (Stops l)
+    = (k : ℕ) × (l ≡ k + 1) × (k < length (lines_in bytes)) × Begins m (take k (lines_in bytes))
+    × (MayBegin m (take (k + 1) (lines_in bytes)) → ⊥)
+IsFileFault m bytes n (Breaks l)
+    = (k : ℕ) × (l ≡ k + 1) × (k < length (lines_in bytes)) × Begins m (take k (lines_in bytes))
+    × (Begins m (take (k + 1) (lines_in bytes)) → ⊥) × MayBegin m (take (k + 1) (lines_in bytes))
+IsFileFault m bytes n End
+    = (n ≡ length (lines_in bytes) + 1) × Begins m (lines_in bytes)
+    × ((f : File) → IsFile m f → bytes ≡ text_of (file_lines m f) → ⊥)
 IsFileFault m bytes n Memory = Unit {0}
 
 -- what a reader of the whole text finds

@@ -52,13 +52,17 @@ FitsEnd m claim at = (claim ≡ is_none at) × IfSome at (IsState m)
 -- ---- blocks behind earlier ones
 
 abbrev pub FitsNextBlock : System → List Block → Block → Type 0
-FitsNextBlock m earlier b = IsBlock m b × All (λ a. a.spec < b.spec) earlier × (b.first ≡ 3 + length (flat_map (block_lines m) earlier))
+FitsNextBlock m earlier b
+    = IsBlock m b × All (λ a. a.spec < b.spec) earlier
+    × (b.first ≡ 3 + length (flat_map (block_lines m) earlier))
 
 -- ---- the proof of a formula, where the sets of its block are the numbers below `most`
 
 abbrev pub FitsFree : System → ℕ → Option (FreePart ℕ) → Type 0
 FitsFree m most None = HasLeafConstraints m
-FitsFree m most (Some part) = ¬ HasLeafConstraints m × FitsLayers 1 most part.nonfair × FitsFair 1 most part.fair × FitEach (FitsFreeEntry m most) [] part.entries
+FitsFree m most (Some part)
+    = ¬ HasLeafConstraints m × FitsLayers 1 most part.nonfair × FitsFair 1 most part.fair
+    × FitEach (FitsFreeEntry m most) [] part.entries
 
 pub record FitsProof (m : System) (f : Ctl) (claim : Bool) (most : ℕ) (p : Proof ℕ) : Type 0 where
   pub claims : p.claim ≡ claim
@@ -74,4 +78,7 @@ FitsNodes nodes = (length nodes ≤ greatest_number) × FitMany FitsNode (length
 
 -- a block is one by its parts
 abbrev pub FitsBlock : System → Block → Type 0
-FitsBlock m b = FitsNodes b.nodes × IsSomeAnd (spec_formula m b.spec) (λ f. FitsProof m f b.proof.claim (length b.nodes + 2) b.proof)
+FitsBlock m b
+    = FitsNodes b.nodes
+    × IsSomeAnd (spec_formula m b.spec)
+    (λ f. FitsProof m f b.proof.claim (length b.nodes + 2) b.proof)

@@ -29,13 +29,16 @@ text_of lines = join_lines (map line_text lines)
 
 -- the second version of the text is for models some constraint of which holds a path operator
 abbrev pub version_word : System → List ℕ
-version_word m = if list_any (λ c. has_path_operator c.expr) m.constraints then codes "2" else codes "1"
+version_word m
+    = if list_any (λ c. has_path_operator c.expr) m.constraints then codes "2" else codes "1"
 
 abbrev pub variable_name : System → ℕ → List ℕ
 variable_name m x = (slice_index_or m.vars x (record { name = []; values = []; line = 0 })).name
 
 abbrev pub header_lines : System → List ℕ → List Line
-header_lines m order = Words (codes "smvproof" ∷ version_word m ∷ []) ∷ Words (codes "order" ∷ map (variable_name m) order) ∷ []
+header_lines m order
+    = Words (codes "smvproof" ∷ version_word m ∷ [])
+    ∷ Words (codes "order" ∷ map (variable_name m) order) ∷ []
 
 -- ---- sets, layers, fair parts
 
@@ -51,7 +54,9 @@ layer_line l = Words (codes "layer" ∷ decimal l.avoid ∷ decimal l.set ∷ []
 -- the sets that lead to each constraint, from number k on
 abbrev pub reach_lines : ℕ → List (List ℕ) → List Line
 reach_lines k [] = []
-reach_lines k (sets ∷ lists) = Words (codes "reach" ∷ decimal k ∷ decimal (length sets) ∷ []) ∷ map set_line sets ++ reach_lines (k + 1) lists
+reach_lines k (sets ∷ lists)
+    = Words (codes "reach" ∷ decimal k ∷ decimal (length sets) ∷ [])
+    ∷ map set_line sets ++ reach_lines (k + 1) lists
 
 abbrev pub fair_lines : FairPart ℕ → List Line
 fair_lines p = Words (codes "fair" ∷ decimal p.inside ∷ []) ∷ reach_lines 1 p.reach
@@ -67,9 +72,13 @@ abbrev pub rule_lines : List (List ℕ) → Rule ℕ → List Line
 rule_lines front (EX set) = Words (front ++ codes "EX" ∷ []) ∷ set_line set ∷ []
 rule_lines front (AX set) = Words (front ++ codes "AX" ∷ []) ∷ set_line set ∷ []
 rule_lines front (AR set) = Words (front ++ codes "AR" ∷ []) ∷ set_line set ∷ []
-rule_lines front (EU sets) = Words (front ++ codes "EU" ∷ decimal (length sets) ∷ []) ∷ map set_line sets
-rule_lines front (AU layers) = Words (front ++ codes "AU" ∷ decimal (length layers) ∷ []) ∷ map layer_line layers
-rule_lines front (ER fair untils) = Words (front ++ codes "ER" ∷ []) ∷ fair_lines fair ++ (counted (codes "until") (length untils) ∷ map set_line untils)
+rule_lines front (EU sets)
+    = Words (front ++ codes "EU" ∷ decimal (length sets) ∷ []) ∷ map set_line sets
+rule_lines front (AU layers)
+    = Words (front ++ codes "AU" ∷ decimal (length layers) ∷ []) ∷ map layer_line layers
+rule_lines front (ER fair untils)
+    = Words (front ++ codes "ER" ∷ [])
+    ∷ fair_lines fair ++ (counted (codes "until") (length untils) ∷ map set_line untils)
 
 abbrev pub entry_lines : Entry ℕ → List Line
 entry_lines e = rule_lines (codes "entry" ∷ decimal e.node ∷ sign_word e.plus ∷ []) e.rule
@@ -77,14 +86,19 @@ entry_lines e = rule_lines (codes "entry" ∷ decimal e.node ∷ sign_word e.plu
 -- ---- the free part
 
 abbrev pub free_entry_lines : FreeEntry ℕ → List Line
-free_entry_lines e = rule_lines (codes "centry" ∷ decimal e.constraint ∷ decimal e.entry.node ∷ sign_word e.entry.plus ∷ []) e.entry.rule
+free_entry_lines e
+    = rule_lines
+    (codes "centry" ∷ decimal e.constraint ∷ decimal e.entry.node ∷ sign_word e.entry.plus
+    ∷ []) e.entry.rule
 
 abbrev pub nonfair_lines : List (Layer ℕ) → List Line
 nonfair_lines layers = counted (codes "nonfair") (length layers) ∷ map layer_line layers
 
 abbrev pub free_lines : Option (FreePart ℕ) → List Line
 free_lines None = []
-free_lines (Some part) = Words (codes "free" ∷ []) ∷ nonfair_lines part.nonfair ++ (fair_lines part.fair ++ flat_map free_entry_lines part.entries)
+free_lines (Some part)
+    = Words (codes "free" ∷ [])
+    ∷ nonfair_lines part.nonfair ++ (fair_lines part.fair ++ flat_map free_entry_lines part.entries)
 
 -- ---- blocks
 
@@ -107,10 +121,15 @@ node_lines earlier (t ∷ nodes) = Node earlier t ∷ node_lines (earlier ++ t �
 
 -- the lines of a proof, each of which has something to show
 abbrev pub proof_lines : System → Proof ℕ → List Line
-proof_lines m p = free_lines p.free ++ (nonfair_lines p.nonfair ++ (fair_lines p.fair ++ (flat_map entry_lines p.entries ++ end_lines m p.at)))
+proof_lines m p
+    = free_lines p.free
+    ++ (nonfair_lines p.nonfair
+    ++ (fair_lines p.fair ++ (flat_map entry_lines p.entries ++ end_lines m p.at)))
 
 abbrev pub block_lines : System → Block → List Line
-block_lines m b = Words (codes "spec" ∷ decimal b.spec ∷ claim_word b.proof.claim ∷ []) ∷ counted (codes "nodes") (length b.nodes)
+block_lines m b
+    = Words (codes "spec" ∷ decimal b.spec ∷ claim_word b.proof.claim ∷ [])
+    ∷ counted (codes "nodes") (length b.nodes)
     ∷ node_lines [] b.nodes ++ proof_lines m b.proof
 
 abbrev pub file_lines : System → File → List Line

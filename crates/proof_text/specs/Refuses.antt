@@ -40,7 +40,9 @@ pub record StopsAt (m : System) (texts : List (List ℕ)) (k : ℕ) : Type 0 whe
 
 -- the text has lines that stop to begin a file at line l, counted from 1, and P says why
 abbrev pub StopsBy : System → List ℕ → ℕ → (List (List ℕ) → ℕ → Type 0) → Type 0
-StopsBy m bytes l P = (texts : List (List ℕ)) × (rest : List ℕ) × (k : ℕ) × HasLines bytes texts rest × StopsAt m texts k × (l ≡ k + 1) × P texts k
+StopsBy m bytes l P
+    = (texts : List (List ℕ)) × (rest : List ℕ) × (k : ℕ) × HasLines bytes texts rest
+    × StopsAt m texts k × (l ≡ k + 1) × P texts k
 
 -- line k is one of a node, but breaks the rules of nodes
 abbrev pub IsNodeLine : System → List (List ℕ) → ℕ → Type 0
@@ -48,7 +50,9 @@ IsNodeLine m texts k = MayBegin m (take (k + 1) texts)
 
 -- line k is the second one, and its first word is `order`
 abbrev pub IsOrderLine : List (List ℕ) → ℕ → Type 0
-IsOrderLine texts k = (k ≡ 1) × IsSomeAnd (slice_get texts k) (λ text. before_first (λ b. b == 32) text ≡ codes "order")
+IsOrderLine texts k
+    = (k ≡ 1) × IsSomeAnd (slice_get texts k)
+    (λ text. before_first (λ b. b == 32) text ≡ codes "order")
 
 -- all whole lines begin a file, but the text is none: it ends too early, or bytes are left
 pub record IsCutOff (m : System) (bytes : List ℕ) (l : ℕ) : Type 0 where
@@ -65,7 +69,8 @@ Refuses m bytes TooLong = most_bytes < length bytes
 Refuses m bytes (Truncated l) = IsCutOff m bytes l
 Refuses m bytes BadOrder = (l : ℕ) × StopsBy m bytes l IsOrderLine
 Refuses m bytes (BadNode l) = StopsBy m bytes l (IsNodeLine m)
-Refuses m bytes (BadLine l) = StopsBy m bytes l (λ texts k. (IsNodeLine m texts k → ⊥) × (IsOrderLine texts k → ⊥))
+Refuses m bytes (BadLine l)
+    = StopsBy m bytes l (λ texts k. (IsNodeLine m texts k → ⊥) × (IsOrderLine texts k → ⊥))
 Refuses m bytes Memory = ⊥
 
 -- ---- the laws
@@ -73,7 +78,8 @@ Refuses m bytes Memory = ⊥
 -- the bytes are refused for one reason at most, and they are a file or refused
 pub record AreRefusedOnce (m : System) (bytes : List ℕ) : Type 0 where
   pub one_reason : (r q : TextRefusal) → Refuses m bytes r → Refuses m bytes q → r ≡ q
-  pub not_neither : ((f : File) → Spells m f bytes → ⊥) → ((r : TextRefusal) → Refuses m bytes r → ⊥) → ⊥
+  pub not_neither : ((f : File) → Spells m f bytes → ⊥)
+      → ((r : TextRefusal) → Refuses m bytes r → ⊥) → ⊥
 
 -- they are one file at most, and no file is refused
 pub record AreOneFile (m : System) (bytes : List ℕ) : Type 0 where

@@ -42,7 +42,8 @@ body_lines (AX set) = set_line set ∷ []
 body_lines (AR set) = set_line set ∷ []
 body_lines (EU sets) = map set_line sets
 body_lines (AU layers) = map layer_line layers
-body_lines (ER fair untils) = fair_lines fair ++ (counted (codes "until") (length untils) ∷ map set_line untils)
+body_lines (ER fair untils)
+    = fair_lines fair ++ (counted (codes "until") (length untils) ∷ map set_line untils)
 
 -- a rule with this head fits
 abbrev pub FitsBody : ℕ → ℕ → RuleHead → Rule ℕ → Type 0

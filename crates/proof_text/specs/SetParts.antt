@@ -29,7 +29,8 @@ FitsLayers count most layers = All (FitsLayer count most) layers × (length laye
 
 -- a list of reach sets for each constraint
 abbrev pub FitsFair : ℕ → ℕ → FairPart ℕ → Type 0
-FitsFair count most p = FitsSet most p.inside × (length p.reach ≡ count) × All (FitsSets most) p.reach
+FitsFair count most p
+    = FitsSet most p.inside × (length p.reach ≡ count) × All (FitsSets most) p.reach
 
 abbrev pub FitsRule : ℕ → ℕ → Rule ℕ → Type 0
 FitsRule count most (EX set) = FitsSet most set
@@ -41,10 +42,12 @@ FitsRule count most (ER fair untils) = FitsFair count most fair × FitsSets most
 
 -- behind these entries
 abbrev pub FitsEntry : Ctl → ℕ → ℕ → List (Entry ℕ) → Entry ℕ → Type 0
-FitsEntry f count most earlier e = HasRule f e × All (λ a. ComesBefore a e) earlier × FitsRule count most e.rule
+FitsEntry f count most earlier e
+    = HasRule f e × All (λ a. ComesBefore a e) earlier × FitsRule count most e.rule
 
 abbrev pub FitsFreeEntry : System → ℕ → List (FreeEntry ℕ) → FreeEntry ℕ → Type 0
-FitsFreeEntry m most earlier e = HasConstraintRule m e × All (λ a. StandsBefore a e) earlier × FitsRule 1 most e.entry.rule
+FitsFreeEntry m most earlier e
+    = HasConstraintRule m e × All (λ a. StandsBefore a e) earlier × FitsRule 1 most e.entry.rule
 
 -- ---- so many of them
 
@@ -60,7 +63,8 @@ AreLists most n lists = All (FitsSets most) lists × (length lists ≡ n)
 
 -- the sets that lead to constraint k
 abbrev pub list_lines : ℕ → List ℕ → List Line
-list_lines k sets = Words (codes "reach" ∷ decimal k ∷ decimal (length sets) ∷ []) ∷ map set_line sets
+list_lines k sets
+    = Words (codes "reach" ∷ decimal k ∷ decimal (length sets) ∷ []) ∷ map set_line sets
 
 -- ---- readers
 
@@ -70,21 +74,27 @@ Judges Fits line text (Some x) = Fits x × AreWords text (words_of (line x))
 Judges Fits line text None = (x : _) → Fits x → AreWords text (words_of (line x)) → ⊥
 
 -- what a reader finds of a part none of whose lines is one of a node
-abbrev pub Finds : {X : Type 0} → (X → Type 0) → (X → List Line) → Place → Result X Fault → Place → Type 0
-Finds Fits lines old result new = (levels : ℕ) → IsFound line_text (IsGoodLine levels) Fits lines old result new
+abbrev pub Finds : {X : Type 0} → (X → Type 0) → (X → List Line) → Place → Result X Fault → Place
+    → Type 0
+Finds Fits lines old result new
+    = (levels : ℕ) → IsFound line_text (IsGoodLine levels) Fits lines old result new
 
 -- no part has the line that stands there as its first one
-pub record StartsNone {X : Type 0} (Fits : X → Type 0) (lines : X → List Line) (old : Place) (fault : Fault) (new : Place) : Type 0 where
+pub record StartsNone {X : Type 0} (Fits : X → Type 0) (lines : X → List Line) (old : Place)
+    (fault : Fault) (new : Place) : Type 0 where
   pub text : List ℕ
   pub shown : Shows old (Some text)
-  pub none : (x : X) → Fits x → (l : Line) (ls : List Line) → lines x ≡ l ∷ ls → line_text l ≡ text → ⊥
+  pub none : (x : X) → Fits x → (l : Line) (ls : List Line) → lines x ≡ l ∷ ls → line_text l ≡ text
+      → ⊥
   pub is : fault ≡ Stops old.line
   pub room : new.line + length new.left ≤ old.line + length old.left
 
 -- what a reader finds of a part, where it may be that none fits
-abbrev pub FindsNext : {X : Type 0} → (X → Type 0) → (X → List Line) → Place → Result X Fault → Place → Type 0
+abbrev pub FindsNext : {X : Type 0} → (X → Type 0) → (X → List Line) → Place → Result X Fault
+    → Place → Type 0
 FindsNext Fits lines old (Ok x) new = Finds Fits lines old (Ok x) new
-FindsNext Fits lines old (Err fault) new = StartsNone Fits lines old fault new ⊎ Finds Fits lines old (Err fault) new
+FindsNext Fits lines old (Err fault) new
+    = StartsNone Fits lines old fault new ⊎ Finds Fits lines old (Err fault) new
 
 -- the list that is read
 abbrev pub in_list : {A : Type 0} → Result (Vec A) Fault → Result (List A) Fault

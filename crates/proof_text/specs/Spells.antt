@@ -32,17 +32,22 @@ rule_lengths (ER fair untils) = fair_lengths fair ++ length untils ∷ []
 
 abbrev pub free_lengths : Option (FreePart ℕ) → List ℕ
 free_lengths None = []
-free_lengths (Some part) = length part.nonfair ∷ fair_lengths part.fair ++ flat_map (λ e. rule_lengths e.entry.rule) part.entries
+free_lengths (Some part)
+    = length part.nonfair
+    ∷ fair_lengths part.fair ++ flat_map (λ e. rule_lengths e.entry.rule) part.entries
 
 abbrev pub lengths_of : Proof ℕ → List ℕ
-lengths_of p = free_lengths p.free ++ (length p.nonfair ∷ fair_lengths p.fair ++ flat_map (λ e. rule_lengths e.rule) p.entries)
+lengths_of p
+    = free_lengths p.free
+    ++ (length p.nonfair ∷ fair_lengths p.fair ++ flat_map (λ e. rule_lengths e.rule) p.entries)
 
 abbrev pub triple_numbers : Triple → List ℕ
 triple_numbers t = t.level ∷ t.low ∷ t.high ∷ []
 
 -- the numbers that a block writes, beside those of nodes, constraints and specifications, of which a model has few
 abbrev pub numbers_of : Block → List ℕ
-numbers_of b = length b.nodes ∷ flat_map triple_numbers b.nodes ++ (lengths_of b.proof ++ sets_of b.proof)
+numbers_of b
+    = length b.nodes ∷ flat_map triple_numbers b.nodes ++ (lengths_of b.proof ++ sets_of b.proof)
 
 -- ---- what can be written
 
@@ -67,7 +72,8 @@ pub record IsFile (m : System) (file : File) : Type 0 where
 -- a node that is written is a good one behind the earlier ones, and none of them; each other line is good
 abbrev pub IsGoodLine : ℕ → Line → Type 0
 IsGoodLine levels (Words words) = Unit {0}
-IsGoodLine levels (Node earlier t) = IsGoodNode levels earlier (length earlier + 2) t × (Contains earlier t → ⊥)
+IsGoodLine levels (Node earlier t)
+    = IsGoodNode levels earlier (length earlier + 2) t × (Contains earlier t → ⊥)
 
 -- The bytes are the lines of the file.
 pub record Spells (m : System) (file : File) (bytes : List ℕ) : Type 0 where

@@ -21,9 +21,13 @@ own_order m = range_with_len 0 (length m.vars)
 
 -- the text of the header in declared order, and of each block
 abbrev pub written_text : System → List Block → List ℕ
-written_text m blocks = text_of (header_lines m (own_order m)) ++ flat_map (λ b. text_of (block_lines m b)) blocks
+written_text m blocks
+    = text_of (header_lines m (own_order m)) ++ flat_map (λ b. text_of (block_lines m b)) blocks
 
 -- blocks of rising specifications that are written so are what the text spells, if it isn't too long
 abbrev pub AreSpelled : System → Type 0
-AreSpelled m = (blocks : List Block) → All (IsWritable m) blocks → AllPairs (λ (a b : Block). a.spec < b.spec) blocks → StandFrom m 3 blocks
-    → length (written_text m blocks) ≤ most_bytes → Spells m (record { order = own_order m; blocks = blocks }) (written_text m blocks)
+AreSpelled m
+    = (blocks : List Block) → All (IsWritable m) blocks
+    → AllPairs (λ (a b : Block). a.spec < b.spec) blocks → StandFrom m 3 blocks
+    → length (written_text m blocks) ≤ most_bytes
+    → Spells m (record { order = own_order m; blocks = blocks }) (written_text m blocks)

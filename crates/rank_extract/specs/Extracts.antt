@@ -27,4 +27,6 @@ Shows m now run at = ShowsSets m (node_of now run.nodes.items 1) at
 
 -- the proof that is written of a run
 abbrev pub run_proof : Ctl → Sets → Run → Option State → Option (FreePart StateSet) → Proof StateSet
-run_proof f now run st free = written_proof f (region now run.fair) (layer_views now run.nonfair.items) (list_regions now run.reach.items) (node_of now run.nodes.items) st free
+run_proof f now run st free
+    = written_proof f (region now run.fair) (layer_views now run.nonfair.items)
+    (list_regions now run.reach.items) (node_of now run.nodes.items) st free

@@ -29,24 +29,34 @@ numbered_from k [] = []
 numbered_from k (es ∷ parts) = map (numbered k) es ++ numbered_from (k + 1) parts
 
 -- the entries are those of a formula for both of its signs, by the sets of its nodes
-abbrev pub AreOfFormula : System → List StateSet → StateSet → StateSet → Ctl → List (Entry StateSet) → Type 0
-AreOfFormula m visited Z fair f es = (at : ℕ → NodeView) × AreComputed m visited Z fair at f 1 × (es ≡ wanted fair at f 1 true true)
+abbrev pub AreOfFormula : System → List StateSet → StateSet → StateSet → Ctl → List (Entry StateSet)
+    → Type 0
+AreOfFormula m visited Z fair f es
+    = (at : ℕ → NodeView) × AreComputed m visited Z fair at f 1 × (es ≡ wanted fair at f 1 true true)
 
 -- or there are none, where it is a leaf
-abbrev pub AreBothSigns : System → List StateSet → StateSet → StateSet → Ctl → List (Entry StateSet) → Type 0
-AreBothSigns m visited Z fair f es = ((path_nodes f ≡ 0) × (es ≡ [])) ⊎ AreOfFormula m visited Z fair f es
+abbrev pub AreBothSigns : System → List StateSet → StateSet → StateSet → Ctl → List (Entry StateSet)
+    → Type 0
+AreBothSigns m visited Z fair f es
+    = ((path_nodes f ≡ 0) × (es ≡ [])) ⊎ AreOfFormula m visited Z fair f es
 
 -- and so for each of the formulas
-pub record AreWrittenFor (m : System) (visited : List StateSet) (Z fair : StateSet) (fs : List Ctl) (parts : List (List (Entry StateSet))) : Type 0 where
+pub record AreWrittenFor (m : System) (visited : List StateSet) (Z fair : StateSet) (fs : List Ctl)
+    (parts : List (List (Entry StateSet))) : Type 0 where
   pub count : length parts ≡ length fs
-  pub each : (k : ℕ) → k < length fs → (f : Ctl) (es : List (Entry StateSet)) → AreBothSigns m visited Z fair (slice_index_or fs k f) (slice_index_or parts k es)
+  pub each : (k : ℕ) → k < length fs → (f : Ctl) (es : List (Entry StateSet))
+      → AreBothSigns m visited Z fair (slice_index_or fs k f) (slice_index_or parts k es)
 
 -- the entries are those of the constraints' formulas, in order
-abbrev pub AreAllEntries : System → List StateSet → StateSet → StateSet → List Ctl → List (FreeEntry StateSet) → Type 0
-AreAllEntries m visited Z fair fs es = (parts : List (List (Entry StateSet))) × AreWrittenFor m visited Z fair fs parts × (es ≡ numbered_from 1 parts)
+abbrev pub AreAllEntries : System → List StateSet → StateSet → StateSet → List Ctl
+    → List (FreeEntry StateSet) → Type 0
+AreAllEntries m visited Z fair fs es
+    = (parts : List (List (Entry StateSet))) × AreWrittenFor m visited Z fair fs parts
+    × (es ≡ numbered_from 1 parts)
 
 -- the free part that is written
-abbrev pub written_free : StateSet → List LayerView → List (List StateSet) → List (List (Entry StateSet)) → FreePart StateSet
+abbrev pub written_free : StateSet → List LayerView → List (List StateSet)
+    → List (List (Entry StateSet)) → FreePart StateSet
 written_free fair layers reaches parts = record {
   nonfair = map written_layer layers;
   fair = record { inside = fair; reach = reaches };
@@ -80,7 +90,8 @@ free_result_slots (Err refusal) = []
 
 -- A call that moves entries to the end of a list, as those of constraint k, or the first ones of them where there was no
 -- room: then the others are released.
-pub record AreMoved {T : Type 0} (k : ℕ) (before after : Sets) (own : List (Entry Pin)) (old new : List (FreeEntry Pin)) (result : Result T SetRefusal) : Type 0 where
+pub record AreMoved {T : Type 0} (k : ℕ) (before after : Sets) (own : List (Entry Pin))
+    (old new : List (FreeEntry Pin)) (result : Result T SetRefusal) : Type 0 where
   pub moved : List (Entry Pin)
   pub rest : List (Entry Pin)
   pub parted : own ≡ moved ++ rest
@@ -92,11 +103,15 @@ pub record AreMoved {T : Type 0} (k : ℕ) (before after : Sets) (own : List (En
 
 -- A call that adds to a list the entries of some formulas, from constraint k on, or the first ones of them where one was
 -- refused. The pins are those of what was added.
-pub record AreFormulasAdded {T : Type 0} (held : ℕ) (m : System) (visited : List StateSet) (Z fair : StateSet) (before after : Sets) (k : ℕ) (fs : List Ctl) (old new : List (FreeEntry Pin)) (result : Result T SetRefusal) : Type 0 where
+pub record AreFormulasAdded {T : Type 0} (held : ℕ) (m : System) (visited : List StateSet)
+    (Z fair : StateSet) (before after : Sets) (k : ℕ) (fs : List Ctl)
+    (old new : List (FreeEntry Pin)) (result : Result T SetRefusal) : Type 0 where
   pub added : List (FreeEntry Pin)
   pub longer : new ≡ old ++ added
   pub call : IsCall held before after (flat_map free_own added) result
-  pub written : IfOk result (λ _. (parts : List (List (Entry StateSet))) × AreWrittenFor m visited Z fair fs parts × (map (free_seen after) added ≡ numbered_from k parts))
+  pub written : IfOk result
+      (λ _. (parts : List (List (Entry StateSet))) × AreWrittenFor m visited Z fair fs parts
+      × (map (free_seen after) added ≡ numbered_from k parts))
 
 -- so many pins are held at a time for formulas of n nodes
 abbrev pub formulas_hold : System → ℕ → ℕ

@@ -33,7 +33,12 @@ base_size v = many v.0 + fair_size v.1
 
 -- as they are written of what is left when layers are taken away
 abbrev pub pruned_base : Sets → Pruned → List (Layer StateSet) × FairPart StateSet
-pruned_base now p = (map written_layer (layer_views now p.layers.items), fair_of (region now p.left) (list_regions now p.reach.items))
+pruned_base now p
+    = (
+      map written_layer (layer_views now p.layers.items),
+      fair_of (region now p.left)
+          (list_regions now p.reach.items),
+    )
 
 -- ---- with the entries
 
@@ -41,16 +46,23 @@ abbrev pub part_hold : System → ℕ → ℕ
 part_hold m n = formulas_hold m n + node_pins m 1
 
 -- the free part is written of these sets, and of some nodes of each formula
-pub record IsPartMade {T : Type 0} (h : ℕ) (m : System) (visited : List StateSet) (Z fair : StateSet) (layers : List LayerView) (reaches : List (List StateSet)) (fs : List Ctl) (before after : Sets) (slots : List ℕ) (seen : T → FreePart StateSet) (result : Result T SetRefusal) : Type 0 where
+pub record IsPartMade {T : Type 0} (h : ℕ) (m : System) (visited : List StateSet)
+    (Z fair : StateSet) (layers : List LayerView) (reaches : List (List StateSet)) (fs : List Ctl)
+    (before after : Sets) (slots : List ℕ) (seen : T → FreePart StateSet)
+    (result : Result T SetRefusal) : Type 0 where
   pub call : IsCall h before after slots result
   pub few : length slots ≤ h
-  pub written : IfOk result (λ part. (parts : List (List (Entry StateSet))) × AreWrittenFor m visited Z fair fs parts × (seen part ≡ written_free fair layers reaches parts))
+  pub written : IfOk result
+      (λ part. (parts : List (List (Entry StateSet))) × AreWrittenFor m visited Z fair fs parts
+      × (seen part ≡ written_free fair layers reaches parts))
 
 -- a free part is written of what is left of Z when layers are taken away
 abbrev pub IsFreeOf : System → List StateSet → StateSet → List Ctl → FreePart StateSet → Type 0
 IsFreeOf m visited Z fs part =
-    (fair : StateSet) × (layers : List LayerView) × (reaches : List (List StateSet)) × (parts : List (List (Entry StateSet)))
-    × IsPrunedTo m visited Z layers fair reaches × AreWrittenFor m visited Z fair fs parts × (part ≡ written_free fair layers reaches parts)
+    (fair : StateSet) × (layers : List LayerView) × (reaches : List (List StateSet))
+    × (parts : List (List (Entry StateSet)))
+    × IsPrunedTo m visited Z layers fair reaches × AreWrittenFor m visited Z fair fs parts
+    × (part ≡ written_free fair layers reaches parts)
 
 -- so many pins are held at a time
 abbrev pub over_hold : System → ℕ → ℕ

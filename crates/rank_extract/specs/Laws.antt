@@ -26,25 +26,34 @@ pub record IsWholeFree (m : System) (free : Option (FreePart StateSet)) : Type 0
   pub lines : AllHold m (free_lines m free)
   pub true_there : (k : ℕ) (c : Condition) → k < length m.constraints → (s : State) → IsState m s
       → FreeSat m (formula_of (slice_index_or m.constraints k c).expr) s
-      → s ∈ claimed m (free_proof free k) (formula_of (slice_index_or m.constraints k c).expr) 1 true
+      → s ∈ claimed m (free_proof free k)
+      (formula_of (slice_index_or m.constraints k c).expr) 1 true
   pub false_there : (k : ℕ) (c : Condition) → k < length m.constraints → (s : State) → IsState m s
       → (FreeSat m (formula_of (slice_index_or m.constraints k c).expr) s → ⊥)
-      → s ∈ claimed m (free_proof free k) (formula_of (slice_index_or m.constraints k c).expr) 1 false
+      → s ∈ claimed m (free_proof free k)
+      (formula_of (slice_index_or m.constraints k c).expr) 1 false
 
 -- with such a free part, what is written of a run is a proof of what the run shows
 abbrev pub RunsProve : System → Type 0
-RunsProve m = (f : Ctl) (now : Sets) (run : Run) → IsLiveRun m f now run → (st : Option State) → Shows m now run st
-    → (free : Option (FreePart StateSet)) → IsWholeFree m free → IsProofOf m f (run_proof f now run st free)
+RunsProve m = (f : Ctl) (now : Sets) (run : Run) → IsLiveRun m f now run → (st : Option State)
+    → Shows m now run st
+    → (free : Option (FreePart StateSet)) → IsWholeFree m free
+    → IsProofOf m f (run_proof f now run st free)
 
 -- and without one where the constraints hold no path operators
 abbrev pub LeafRunsProve : System → Type 0
-LeafRunsProve m = HasLeafConstraints m → (f : Ctl) (now : Sets) (run : Run) → IsLiveRun m f now run → (st : Option State)
+LeafRunsProve m
+    = HasLeafConstraints m → (f : Ctl) (now : Sets) (run : Run) → IsLiveRun m f now run
+    → (st : Option State)
     → Shows m now run st → IsProofOf m f (run_proof f now run st None)
 
 -- what is written for the constraints' formulas, where all states are looked at and one constraint is visited, which each
 -- state meets, is such a free part
 abbrev pub FreePartsProve : System → Type 0
-FreePartsProve m = (HasLeafConstraints m → ⊥) → (visited : List StateSet) → IsWhole m visited → (Z fair : StateSet) (layers : List LayerView) (reaches : List (List StateSet))
+FreePartsProve m
+    = (HasLeafConstraints m → ⊥) → (visited : List StateSet) → IsWhole m visited
+    → (Z fair : StateSet) (layers : List LayerView) (reaches : List (List StateSet))
     → ((s : State) → IsState m s → s ∈ Z) → IsPrunedTo m visited Z layers fair reaches
-    → (parts : List (List (Entry StateSet))) → AreWrittenFor m visited Z fair (map (λ c. formula_of c.expr) m.constraints) parts
+    → (parts : List (List (Entry StateSet)))
+    → AreWrittenFor m visited Z fair (map (λ c. formula_of c.expr) m.constraints) parts
     → IsWholeFree m (Some (written_free fair layers reaches parts))

@@ -22,12 +22,15 @@ made_slots own (Err refusal) = []
 
 -- A call that gives what has these sets, and pins of its own for them. `own` are the slots of what it gives, `seen` is
 -- what that stands for, and `size` is how many sets it has.
-pub record IsMade {X A : Type 0} (own : X → List ℕ) (seen : Sets → X → A) (size : A → ℕ) (before after : Sets) (v : A) (result : Result X SetRefusal) : Type 0 where
+pub record IsMade {X A : Type 0} (own : X → List ℕ) (seen : Sets → X → A) (size : A → ℕ)
+    (before after : Sets) (v : A) (result : Result X SetRefusal) : Type 0 where
   pub call : IsCall (size v) before after (made_slots own result) result
   pub view : IfOk result (λ x. seen after x ≡ v)
 
 -- A call that adds to a list what has these sets in turn, or the first ones of them where one was refused.
-pub record AreAdded {X A T : Type 0} (own : X → List ℕ) (seen : Sets → X → A) (size : A → ℕ) (before after : Sets) (vs : List A) (old new : List X) (result : Result T SetRefusal) : Type 0 where
+pub record AreAdded {X A T : Type 0} (own : X → List ℕ) (seen : Sets → X → A) (size : A → ℕ)
+    (before after : Sets) (vs : List A) (old new : List X)
+    (result : Result T SetRefusal) : Type 0 where
   pub added : List X
   pub longer : new ≡ old ++ added
   pub call : IsCall (total size vs) before after (flat_map own added) result

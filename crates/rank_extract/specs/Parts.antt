@@ -38,7 +38,8 @@ run_behind f now run st = (
 -- ---- with the layers
 
 abbrev pub main_sets : MainPart → List Pin
-main_sets main = layer_sets main.nonfair.items ++ (fair_sets main.fair ++ entries_sets main.entries.items)
+main_sets main
+    = layer_sets main.nonfair.items ++ (fair_sets main.fair ++ entries_sets main.entries.items)
 
 abbrev pub main_own : MainPart → List ℕ
 main_own main = slots (main_sets main)

@@ -17,7 +17,8 @@ use Rattle.rank_extract.specs.Given.{given, own_entries}
 -- a connective has no entries of its own
 abbrev pub kind_entries : StateSet → (ℕ → NodeView) → ℕ → Kind → Bool → Bool → List (Entry StateSet)
 kind_entries fair at n (Connected c) plus minus = []
-kind_entries fair at n (Quantified op) plus minus = own_entries fair at n (is_existential op) plus minus
+kind_entries fair at n (Quantified op) plus minus
+    = own_entries fair at n (is_existential op) plus minus
 kind_entries fair at n (Between all) plus minus = own_entries fair at n (not all) plus minus
 
 -- the signs that are wanted of the first part, by those that are wanted of the node
@@ -69,5 +70,6 @@ abbrev pub sign_entry : Sets → Pin → NodeRun → ℕ → Bool → Bool → E
 sign_entry now fair node n some plus = record {
   node = n;
   plus = plus;
-  rule = given (region now fair) (same_sign some plus) (region now (sign_pin plus node)) (ranks_view now node.ranks);
+  rule = given (region now fair) (same_sign some plus) (region now (sign_pin plus node))
+      (ranks_view now node.ranks);
 }

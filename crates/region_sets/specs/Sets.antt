@@ -77,11 +77,14 @@ Rose before after = (before < after) ⊎ (after ≡ 18446744073709551615)
 
 -- a full store was counted, and is of the object's gauge
 abbrev pub IsCaused : Sets → Sets → SetRefusal → Type 0
-IsCaused before after (Full held) = Rose before.fulls after.fulls × (held.levels ≡ after.gauge.levels) × (held.number ≡ after.gauge.limit)
+IsCaused before after (Full held)
+    = Rose before.fulls after.fulls × (held.levels ≡ after.gauge.levels)
+    × (held.number ≡ after.gauge.limit)
 IsCaused before after Memory = Unit {0}
 
 -- a call that holds at most so many pins at a time beside those that were live, and leaves those of the slots
-pub record IsCall (held : ℕ) {T : Type 0} (before after : Sets) (slots : List ℕ) (result : Result T SetRefusal) : Type 0 where
+pub record IsCall (held : ℕ) {T : Type 0} (before after : Sets) (slots : List ℕ)
+    (result : Result T SetRefusal) : Type 0 where
   pub pins : Adds before after slots
   pub refusal : IfErr result (IsCaused before after)
   pub fulls : before.fulls ≤ after.fulls
@@ -89,14 +92,18 @@ pub record IsCall (held : ℕ) {T : Type 0} (before after : Sets) (slots : List 
 
 -- the pins that are live are so many
 abbrev pub IsCount : (ℕ → Option StateSet) → ℕ → Type 0
-IsCount pins live = (slots : List ℕ) × AreDistinct slots × (length slots ≡ live) × ((k : ℕ) → (is_one_of k slots ≡ true) ↔ IsSome (pins k))
+IsCount pins live
+    = (slots : List ℕ) × AreDistinct slots × (length slots ≡ live)
+    × ((k : ℕ) → (is_one_of k slots ≡ true) ↔ IsSome (pins k))
 
 -- ---- constraints
 
 -- constraint k, counted from 1, holds no path operator
 abbrev pub IsLeafConstraint : System → ℕ → Type 0
-IsLeafConstraint m k = MatchOption (slice_get m.constraints (k - 1)) (Unit {0}) (λ c. has_path_operator c.expr ≡ false)
+IsLeafConstraint m k
+    = MatchOption (slice_get m.constraints (k - 1)) (Unit {0}) (λ c. has_path_operator c.expr ≡ false)
 
 -- constraint k, counted from 1, is true
 abbrev pub MeetsConstraint : System → ℕ → State → Type 0
-MeetsConstraint m k s = MatchOption (slice_get m.constraints (k - 1)) (Unit {0}) (λ c. Holds m c.expr s s)
+MeetsConstraint m k s
+    = MatchOption (slice_get m.constraints (k - 1)) (Unit {0}) (λ c. Holds m c.expr s s)

@@ -9,7 +9,7 @@ use Rattle.kripke_model.specs.declared.models.Part.{Part}
 use Rattle.kripke_model.specs.Term.{Term, none, more}
 use Rattle.kripke_model.specs.System.{System, Assignment, Condition, State, value_in}
 use Rattle.kripke_model.specs.Evaluation.{Checked, runs, Holds}
-use Rattle.kripke_model.specs.Step.{Step, Initial, IsValueOf, IsCurrent, IsDriven, HasNext}
+use Rattle.kripke_model.specs.Step.{Step, Initial, IsValueOf, IsCurrent, IsDriven, HasNextAssign}
 use Rattle.kripke_model.proofs.Latch.{num, bit, Contains-only}
 use Rattle.kripke_model.proofs.Examples.{constant, main_name, is_only}
 
@@ -76,7 +76,7 @@ not_initially_apart h = let e : num 0 ≡ num 1 = only 0 1 (h.current 0 tied_z (
 -- ---- steps
 
 -- with no selector, each process is selected
-kept : (s t : State) (x : ℕ) → HasNext sections x → (IsDriven sections s x → ⊥) → value_in t x ≡ value_in s x
+kept : (s t : State) (x : ℕ) → HasNextAssign sections x → (IsDriven sections s x → ⊥) → value_in t x ≡ value_in s x
 kept s t x h n = absurd (n (h.0, h.1, h.2, h.3, (h.4.0, h.4.1, refl)))
 
 steps : (s t : State) → IsValueOf sections rising_y.right s t (value_in t 1) → Holds sections alternates.expr s t → value_in s 0 ≡ value_in s 2 → value_in t 0 ≡ value_in t 2 → Step sections s t

@@ -26,14 +26,17 @@ abbrev pub only : Summary → Checked Value
 only x = if x.many then Err FaultKind.ManyValues else Ok x.first
 
 abbrev pub in_bounds : ℤ → Checked Value
-in_bounds i = if int_le (negsuc 2147483647) i && int_le i (pos 2147483647) then Ok (Number i) else Err FaultKind.Overflow
+in_bounds i = if int_le (negsuc 2147483647) i
+    && int_le i (pos 2147483647) then Ok (Number i) else Err FaultKind.Overflow
 
 abbrev pub arithmetic : BinOp → ℤ → ℤ → Checked Value
 arithmetic BinOp.Mul i j = in_bounds (i *ℤ j)
-arithmetic BinOp.Div i j = if int_eq j (pos 0) then Err FaultKind.ZeroDivisor else in_bounds (int_div i j)
+arithmetic BinOp.Div i j
+    = if int_eq j (pos 0) then Err FaultKind.ZeroDivisor else in_bounds (int_div i j)
 arithmetic BinOp.Add i j = in_bounds (i +ℤ j)
 arithmetic BinOp.Sub i j = in_bounds (i -ℤ j)
-arithmetic BinOp.Mod i j = if int_eq j (pos 0) then Err FaultKind.ZeroDivisor else in_bounds (int_rem i j)
+arithmetic BinOp.Mod i j
+    = if int_eq j (pos 0) then Err FaultKind.ZeroDivisor else in_bounds (int_rem i j)
 arithmetic BinOp.Lt i j = Ok (truth_value (int_lt i j))
 arithmetic BinOp.Gt i j = Ok (truth_value (int_lt j i))
 arithmetic BinOp.Le i j = Ok (truth_value (int_le i j))

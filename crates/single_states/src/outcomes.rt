@@ -69,7 +69,9 @@ fn gather(
     values: &mut Vec<Value>,
 ) -> Result<Result<(), FaultKind>, AllocError>
     requires { IsFilled (term_of expr.now) }
-    ensures { IfOk result (λ r. gathered r values.new.items ≡ added values.old.items (eval model.now (term_of expr.now) s.now t.now)) }
+    ensures { IfOk result
+        (λ r. gathered r values.new.items
+        ≡ added values.old.items (eval model.now (term_of expr.now) s.now t.now)) }
 {
     match expr {
         Expr::Next(e) => gather(model, e, t, t, values),
@@ -101,7 +103,9 @@ fn gather_elements(
     values: &mut Vec<Value>,
 ) -> Result<Result<(), FaultKind>, AllocError>
     requires { AreFilled (terms_in elements.now) }
-    ensures { IfOk result (λ r. gathered r values.new.items ≡ added values.old.items (eval_elements model.now (terms_in elements.now) s.now t.now)) }
+    ensures { IfOk result
+        (λ r. gathered r values.new.items
+        ≡ added values.old.items (eval_elements model.now (terms_in elements.now) s.now t.now)) }
 {
     for e in elements {
         if let Err(kind) = gather(model, e, s, t, values)? {
@@ -121,7 +125,9 @@ fn gather_chosen(
     values: &mut Vec<Value>,
 ) -> Result<Result<(), FaultKind>, AllocError>
     requires { AreFilledArms (arms_in arms.now) }
-    ensures { IfOk result (λ r. gathered r values.new.items ≡ added values.old.items (eval_arms model.now (arms_in arms.now) s.now t.now)) }
+    ensures { IfOk result
+        (λ r. gathered r values.new.items
+        ≡ added values.old.items (eval_arms model.now (arms_in arms.now) s.now t.now)) }
 {
     for arm in arms {
         match boolean_of(summarize(model, &arm.guard, s, t)) {

@@ -7,7 +7,7 @@ ghost use Rattle.kripke_model.specs.Evaluable.{IsEvaluable};
 ghost use Rattle.kripke_model.specs.Evaluation.{Holds, runs};
 ghost use Rattle.kripke_model.specs.Leaves.{HasLeafConstraints};
 ghost use Rattle.kripke_model.specs.Reading.{term_of};
-ghost use Rattle.kripke_model.specs.Step.{IsValueOf, IsCurrent, IsInvariant, Assigned, IsDriven, HasNext, Initial, Step};
+ghost use Rattle.kripke_model.specs.Step.{IsValueOf, IsCurrent, IsInvariant, Assigned, IsDriven, HasNextAssign, Initial, Step};
 ghost use Rattle.kripke_model.specs.Path.{IsPath};
 ghost use Rattle.kripke_model.specs.Truth.{IsFair};
 ghost use Rattle.kripke_model.specs.System.{value_in};
@@ -74,7 +74,8 @@ fn all_hold(model: &Ruled, items: &[Item], s: &State, t: &State) -> bool
 #[tactic(auto, using(crate::proofs::BracesLemmas::evaluable_filled))]
 fn meets(model: &Ruled, a: &Assign, s: &State, t: &State, u: &State) -> bool
     requires { IsEvaluable model.now a.now.right }
-    ensures { IsTrue result ↔ IsValueOf model.now a.now.right s.now t.now (value_in u.now a.now.var) }
+    ensures { IsTrue result
+        ↔ IsValueOf model.now a.now.right s.now t.now (value_in u.now a.now.var) }
 {
     admits(model, &a.right, s, t, u.value(a.var))
 }
@@ -87,14 +88,18 @@ fn is_part(a: &Assign, part: Part) -> bool
 
 fn part_met(model: &Ruled, a: &Assign, part: Part, s: &State) -> bool
     requires { IsEvaluable model.now a.now.right }
-    ensures { IsTrue result ↔ (a.now.part ≡ part → IsValueOf model.now a.now.right s.now s.now (value_in s.now a.now.var)) }
+    ensures { IsTrue result
+        ↔ (a.now.part ≡ part
+        → IsValueOf model.now a.now.right s.now s.now (value_in s.now a.now.var)) }
 {
     !is_part(a, part) || meets(model, a, s, s, s)
 }
 
 /// Whether the initial or current-value assignments hold at s.
 fn all_met(model: &Ruled, part: Part, s: &State) -> bool
-    ensures { IsTrue result ↔ Assigned model.now part (λ a. IsValueOf model.now a.right s.now s.now (value_in s.now a.var)) }
+    ensures { IsTrue result
+        ↔ Assigned model.now part
+        (λ a. IsValueOf model.now a.right s.now s.now (value_in s.now a.var)) }
 {
     let assigns = model.assigns();
     for a in assigns {
@@ -124,14 +129,19 @@ pub fn is_initial(model: &Ruled, s: &State) -> bool
 
 fn next_met(model: &Ruled, a: &Assign, s: &State, t: &State) -> bool
     requires { IsEvaluable model.now a.now.right }
-    ensures { IsTrue result ↔ (a.now.part ≡ Part.Next → IsTrue (runs model.now s.now a.now.process) → IsValueOf model.now a.now.right s.now t.now (value_in t.now a.now.var)) }
+    ensures { IsTrue result
+        ↔ (a.now.part ≡ Part.Next → IsTrue (runs model.now s.now a.now.process)
+        → IsValueOf model.now a.now.right s.now t.now (value_in t.now a.now.var)) }
 {
     !is_part(a, Part::Next) || !runs(model, s, a.process) || meets(model, a, s, t, t)
 }
 
 /// Whether the next-value assignments of the process selected in s hold.
 fn all_next_met(model: &Ruled, s: &State, t: &State) -> bool
-    ensures { IsTrue result ↔ Assigned model.now Part.Next (λ a. IsTrue (runs model.now s.now a.process) → IsValueOf model.now a.right s.now t.now (value_in t.now a.var)) }
+    ensures { IsTrue result
+        ↔ Assigned model.now Part.Next
+        (λ a. IsTrue (runs model.now s.now a.process)
+        → IsValueOf model.now a.right s.now t.now (value_in t.now a.var)) }
 {
     let assigns = model.assigns();
     for a in assigns {
@@ -143,7 +153,9 @@ fn all_next_met(model: &Ruled, s: &State, t: &State) -> bool
 }
 
 fn drives(model: &Ruled, a: &Assign, s: &State, x: u32) -> bool
-    ensures { IsTrue result ↔ ((a.now.part ≡ Part.Next) × (a.now.var ≡ x) × IsTrue (runs model.now s.now a.now.process)) }
+    ensures { IsTrue result
+        ↔ ((a.now.part ≡ Part.Next) × (a.now.var ≡ x)
+        × IsTrue (runs model.now s.now a.now.process)) }
 {
     is_part(a, Part::Next) && a.var == x && runs(model, s, a.process)
 }
@@ -162,14 +174,18 @@ fn is_driven(model: &Ruled, s: &State, x: u32) -> bool
 }
 
 fn is_kept(model: &Ruled, a: &Assign, s: &State, t: &State) -> bool
-    ensures { IsTrue result ↔ (a.now.part ≡ Part.Next → (IsDriven model.now s.now a.now.var → ⊥) → value_in t.now a.now.var ≡ value_in s.now a.now.var) }
+    ensures { IsTrue result
+        ↔ (a.now.part ≡ Part.Next → (IsDriven model.now s.now a.now.var → ⊥)
+        → value_in t.now a.now.var ≡ value_in s.now a.now.var) }
 {
     !is_part(a, Part::Next) || is_driven(model, s, a.var) || t.value(a.var) == s.value(a.var)
 }
 
 /// Whether each variable that another process alone assigns keeps its value.
 fn all_kept(model: &Ruled, s: &State, t: &State) -> bool
-    ensures { IsTrue result ↔ All (λ a. a.part ≡ Part.Next → (IsDriven model.now s.now a.var → ⊥) → value_in t.now a.var ≡ value_in s.now a.var) model.now.assigns }
+    ensures { IsTrue result
+        ↔ All (λ a. a.part ≡ Part.Next → (IsDriven model.now s.now a.var → ⊥)
+        → value_in t.now a.var ≡ value_in s.now a.var) model.now.assigns }
 {
     let assigns = model.assigns();
     for a in assigns {
@@ -232,7 +248,8 @@ fn is_visited(model: &Ruled, item: &Item, states: &[State]) -> bool
 /// Whether each item holds at some of the states.
 fn all_visited(model: &Ruled, items: &[Item], states: &[State]) -> bool
     requires { All (λ c. IsEvaluable model.now c.expr) items.now }
-    ensures { IsTrue result ↔ All (λ c. Any (λ s. Holds model.now c.expr s s) states.now) items.now }
+    ensures { IsTrue result
+        ↔ All (λ c. Any (λ s. Holds model.now c.expr s s) states.now) items.now }
 {
     for item in items {
         if !is_visited(model, item, states) {

@@ -66,10 +66,10 @@ abbrev mutual
   path (tree.PathTree.path_on line first parts) = followed (Path.Here line first) parts
 
   -- the path q with what follows it
-  pub followed : Path → tree.Parts → Path
-  followed q tree.Parts.no_parts = q
-  followed q (tree.Parts.field x parts) = followed (Path.Field q x) parts
-  followed q (tree.Parts.index e parts) = followed (Path.Index q (expr e)) parts
+  pub followed : Path → tree.PathTail → Path
+  followed q tree.PathTail.no_parts = q
+  followed q (tree.PathTail.field x parts) = followed (Path.Field q x) parts
+  followed q (tree.PathTail.index e parts) = followed (Path.Index q (expr e)) parts
 
   pub exprs : tree.Trees → Exprs
   exprs tree.Trees.no_trees = Exprs.none
@@ -104,7 +104,8 @@ abbrev mutual
 
 abbrev pub form : parsed.TypeForm → Form
 form (parsed.TypeForm.plain type) = Form.Stored (plain type)
-form (parsed.TypeForm.instance process module_name actuals) = Form.Instance process module_name (map expr actuals)
+form (parsed.TypeForm.instance process module_name actuals)
+    = Form.Instance process module_name (map expr actuals)
 
 -- ---- modules
 
@@ -149,7 +150,12 @@ abbrev pub formal : parsed.Lined (List ℕ) → Formal
 formal f = record { name = f.form; line = f.line }
 
 abbrev pub module_of : parsed.Lined parsed.Module → Module
-module_of m = record { name = m.form.name; line = m.line; formals = map formal m.form.formals; sections = map section m.form.sections }
+module_of m = record {
+  name = m.form.name;
+  line = m.line;
+  formals = map formal m.form.formals;
+  sections = map section m.form.sections;
+}
 
 abbrev pub program : parsed.Program → Program
 program modules = map module_of modules

@@ -14,7 +14,8 @@ pub record AreInstances (p : Program) (all : Instances) : Type 0 where
   pub known : AreModules all.modules p
   pub are : AreRows all.modules all.rows.items (tree.instances p)
   pub linked : AreLinked p all.rows.items (tree.instances p) 0
-  pub entered : Pairs (λ n c. slice_get (tree.instances p) n ≡ Some c) all.processes.items (filter tree.is_process (tree.instances p))
+  pub entered : Pairs (λ n c. slice_get (tree.instances p) n ≡ Some c) all.processes.items
+      (filter tree.is_process (tree.instances p))
   pub selected : all.selector ≡ tree.has_selector p
   pub named : all.symbols ≡ tree.symbols p
   pub silent : Silent (refused_declarations p)
@@ -25,7 +26,9 @@ HasInstance all i = (p : Program) × AreInstances p all × (i < length (tree.ins
 
 -- one of them has this number, and its module an entry at this place
 abbrev pub HasEntry : Instances → ℕ → ℕ → Type 0
-HasEntry all i place = (p : Program) × (s : tree.Scope) × AreInstances p all × (slice_get (tree.instances p) i ≡ Some s) × (place < length (entries (tree.module_of s)))
+HasEntry all i place
+    = (p : Program) × (s : tree.Scope) × AreInstances p all
+    × (slice_get (tree.instances p) i ≡ Some s) × (place < length (entries (tree.module_of s)))
 
 -- the entry at this place declares the name
 pub record IsEntryOf (m : Module) (x : Name) (place : ℕ) : Type 0 where

@@ -22,7 +22,8 @@ pub record IsCounts (c : Counts) (es : List Entry) : Type 0 where
 abbrev pub Counted : Program → Scope → List Entry → Entry → ℕ → Result Counts FlatRefusal → Type 0
 Counted p s es e line result =
     MatchResult result
-    (λ c. IsCounts c (es ++ (e ∷ [])) × Silent (declaration_rows p (es ++ (e ∷ [])) s line e.entity))
+    (λ c. IsCounts c (es ++ (e ∷ []))
+    × Silent (declaration_rows p (es ++ (e ∷ [])) s line e.entity))
     (Refused (declaration_rows p (es ++ (e ∷ [])) s line e.entity))
 
 -- the entry is an instance of a module that is there, is not on the way, and takes as many parameters
@@ -32,4 +33,5 @@ pub record IsNamed (p : Program) (s : Scope) (e : Entry) (process : Bool) : Type
   pub is : e.entity ≡ Entity.Instance process module_name actuals
   pub found : module_named p module_name ≡ None → ⊥
   pub apart : Contains (modules_to s) module_name → ⊥
-  pub enough : (m : Module) × (module_named p module_name ≡ Some m) × (length actuals ≢ length m.formals) → ⊥
+  pub enough : (m : Module) × (module_named p module_name ≡ Some m)
+      × (length actuals ≢ length m.formals) → ⊥

@@ -18,10 +18,13 @@ PlacedEntry = Scope × Entry
 -- ---- the program
 
 abbrev pub second_module : Program → Refusal
-second_module p = First (λ before m. refuse (FlatRefusal.DuplicateName m.line) (IsTrue (is_some (module_named before m.name)))) [] p
+second_module p
+    = First (λ before m. refuse (FlatRefusal.DuplicateName m.line)
+    (IsTrue (is_some (module_named before m.name)))) [] p
 
 abbrev pub no_main : Program → Refusal
-no_main p = refuse FlatRefusal.NoMain ((m : Module) → module_named p main_name ≡ Some m → m.formals ≡ [] → ⊥)
+no_main p = refuse FlatRefusal.NoMain
+    ((m : Module) → module_named p main_name ≡ Some m → m.formals ≡ [] → ⊥)
 
 -- ---- declarations
 
@@ -65,7 +68,9 @@ one_if false = 0
 
 -- the flat variables that the entries declare, with the selector from the first process on
 abbrev pub variables_in : List Entry → ℕ
-variables_in es = one_if (list_any (λ e. declares_process e.entity) es) + sum_by (λ e. entry_variable_count e.entity) es
+variables_in es
+    = one_if (list_any (λ e. declares_process e.entity) es) + sum_by
+    (λ e. entry_variable_count e.entity) es
 
 abbrev pub instances_in : List Entry → ℕ
 instances_in es = sum_by (λ e. one_if (is_instance e.entity)) es
@@ -80,7 +85,8 @@ above line which most count = refuse (FlatRefusal.Limit line which (most + 1)) (
 -- the number of the type's values, or of an array's elements'
 abbrev pub value_count : Plain → ℕ
 value_count Plain.Boolean = 2
-value_count (Plain.Enumeration constants) = length (type_values (atoms_in (Plain.Enumeration constants)) (Plain.Enumeration constants))
+value_count (Plain.Enumeration constants)
+    = length (type_values (atoms_in (Plain.Enumeration constants)) (Plain.Enumeration constants))
 value_count (Plain.Range low high) = integer_count low high
 value_count (Plain.Array low high element) = value_count element
 
@@ -92,7 +98,8 @@ declaration_rows p upto s line (Entity.Stored type) =
 declaration_rows p upto s line (Entity.Instance process module_name actuals) =
     refuse (FlatRefusal.UnknownName line) (module_named p module_name ≡ None)
     then refuse (FlatRefusal.RecursiveModule line) (Contains (modules_to s) module_name)
-    then refuse (FlatRefusal.ArgumentCount line) ((m : Module) × (module_named p module_name ≡ Some m) × (length actuals ≢ length m.formals))
+    then refuse (FlatRefusal.ArgumentCount line)
+    ((m : Module) × (module_named p module_name ≡ Some m) × (length actuals ≢ length m.formals))
     then above line Which.Variables 256 (variables_in upto)
     then above line Which.Instances 1023 (instances_in upto)
     then above line Which.Depth 32 (depth s + 1)
@@ -128,7 +135,9 @@ abbrev pub is_named_constant : Program → Entry → Bool
 is_named_constant p e = not (is_parameter e.entity) && is_symbol p e.name
 
 abbrev pub named_constant : Program → Refusal
-named_constant p = first_of (flat_map (λ s. entries (module_of s)) (main_scope p)) (λ e. refuse (FlatRefusal.NameIsConstant e.line) (IsTrue (is_named_constant p e)))
+named_constant p
+    = first_of (flat_map (λ s. entries (module_of s)) (main_scope p))
+    (λ e. refuse (FlatRefusal.NameIsConstant e.line) (IsTrue (is_named_constant p e)))
 
 -- ---- together
 

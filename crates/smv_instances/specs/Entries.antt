@@ -17,7 +17,8 @@ pub record Entry : Type 0 where
 
 abbrev pub entity_of_form : Form → Entity
 entity_of_form (Form.Stored type) = Entity.Stored type
-entity_of_form (Form.Instance process module_name actuals) = Entity.Instance process module_name actuals
+entity_of_form (Form.Instance process module_name actuals)
+    = Entity.Instance process module_name actuals
 
 abbrev pub of_formal : Formal → Entry
 of_formal f = record { name = f.name; line = f.line; entity = Entity.Parameter }

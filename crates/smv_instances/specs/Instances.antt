@@ -15,7 +15,8 @@ use Rattle.smv_instances.specs.Entries.{Entity, Entry, entries, module_named}
 -- an instance, as the declarations on the way from `main` to it: its body is read in this scope
 pub data Scope : Type 0 where
   Main : (m : Module) → Scope
-  Inside : (around : Scope) → (name : Name) → (process : Bool) → (actuals : List Expr) → (m : Module) → Scope
+  Inside : (around : Scope) → (name : Name) → (process : Bool) → (actuals : List Expr)
+      → (m : Module) → Scope
 
 abbrev pub module_of : Scope → Module
 module_of (Main m) = m
@@ -52,7 +53,8 @@ abbrev pub child : Program → Scope → Entry → Option Scope
 child p s e = child_of e.entity
   where
     child_of : Entity → Option Scope
-    child_of (Entity.Instance process module_name actuals) = option_map (Inside s e.name process actuals) (module_named p module_name)
+    child_of (Entity.Instance process module_name actuals)
+        = option_map (Inside s e.name process actuals) (module_named p module_name)
     child_of Entity.Parameter = None
     child_of (Entity.Stored type) = None
     child_of (Entity.Defined body) = None
@@ -163,7 +165,8 @@ indexed x i = x ++ (91 ∷ decimal i) ++ (93 ∷ [])
 
 -- the names of the elements of x, rising
 abbrev pub element_names : Plain → Name → List Name
-element_names (Plain.Array low high element) x = flat_map (λ i. element_names element (indexed x i)) (between low high)
+element_names (Plain.Array low high element) x
+    = flat_map (λ i. element_names element (indexed x i)) (between low high)
 element_names Plain.Boolean x = x ∷ []
 element_names (Plain.Enumeration constants) x = x ∷ []
 element_names (Plain.Range low high) x = x ∷ []
@@ -181,7 +184,8 @@ value_of names (Constant.Truth b) = truth_value b
 abbrev pub type_values : List Name → Plain → List Value
 type_values names Plain.Boolean = Number (pos 0) ∷ Number (pos 1) ∷ []
 type_values names (Plain.Enumeration constants) = distinct (map (value_of names) constants)
-type_values names (Plain.Range low high) = map (λ k. Number (low +ℤ pos k)) (rising 0 (integer_count low high))
+type_values names (Plain.Range low high)
+    = map (λ k. Number (low +ℤ pos k)) (rising 0 (integer_count low high))
 type_values names (Plain.Array low high element) = type_values names element
 
 -- the flat variables of an entry, where inner gives those of an instance
@@ -189,19 +193,29 @@ abbrev pub entry_variables : Program → (Scope → List Variable) → Scope →
 entry_variables p inner s e = variables_of e.entity
   where
     variables_of : Entity → List Variable
-    variables_of (Entity.Stored type) = map (λ x. record { name = x; values = type_values (symbols p) type; line = e.line }) (element_names type (spelled s e.name))
-    variables_of (Entity.Instance process module_name actuals) = flat_map inner (cons_option (child p s e) [])
+    variables_of (Entity.Stored type)
+        = map (λ x. record { name = x; values = type_values (symbols p) type; line = e.line })
+        (element_names type (spelled s e.name))
+    variables_of (Entity.Instance process module_name actuals)
+        = flat_map inner (cons_option (child p s e) [])
     variables_of Entity.Parameter = []
     variables_of (Entity.Defined body) = []
 
 -- the flat variables of an instance and of those inside it, declarations depth first
 abbrev pub variables_from : Program → ℕ → Scope → List Variable
 variables_from p zero s = flat_map (entry_variables p (λ c. []) s) (entries (module_of s))
-variables_from p (suc n) s = flat_map (entry_variables p (variables_from p n) s) (entries (module_of s))
+variables_from p (suc n) s
+    = flat_map (entry_variables p (variables_from p n) s) (entries (module_of s))
 
 -- its line is that of the first process instance's declaration
 abbrev pub selector_variables : Program → List Variable
-selector_variables p = map (λ e. record { name = selector_name; values = map (λ k. Number (pos k)) (rising 0 (length (processes p))); line = e.1.line }) (take 1 (process_entries p))
+selector_variables p
+    = map (λ e. record {
+      name = selector_name;
+      values = map (λ k. Number (pos k)) (rising 0 (length (processes p)));
+      line = e.1.line;
+    })
+    (take 1 (process_entries p))
 
 -- the selector, if there is one, and the others
 abbrev pub variables : Program → List Variable

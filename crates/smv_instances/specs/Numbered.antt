@@ -18,7 +18,8 @@ scope_at p i = slice_get (instances p) i
 abbrev pub plain_entity : Held → Entity
 plain_entity held.Parameter = Entity.Parameter
 plain_entity (held.Stored type) = Entity.Stored (plain_type type.now)
-plain_entity (held.Instance process module_name actuals) = Entity.Instance process module_name.now (map plain_expr actuals.now)
+plain_entity (held.Instance process module_name actuals)
+    = Entity.Instance process module_name.now (map plain_expr actuals.now)
 plain_entity (held.Defined right) = Entity.Defined (plain_expr right.now)
 
 abbrev pub plain_entry : Line → Entry
@@ -28,7 +29,8 @@ plain_entry e = record { name = e.name.now; line = e.line; entity = plain_entity
 
 -- the place of the formal parameter x
 abbrev pub IsFormal : List Formal → Name → ℕ → Type 0
-IsFormal formals x place = (place < length formals) × (place_of (map (λ f. f.name) formals) x ≡ place)
+IsFormal formals x place
+    = (place < length formals) × (place_of (map (λ f. f.name) formals) x ≡ place)
 
 -- the child of s that is declared under the name x has this number
 pub record IsChild (p : Program) (s : Scope) (x : Name) (number : ℕ) : Type 0 where
@@ -42,10 +44,13 @@ pub record IsChild (p : Program) (s : Scope) (x : Name) (number : ℕ) : Type 0 
 
 -- what the module of s declares under the name x
 abbrev pub IsFound : Program → Scope → Name → Found → Type 0
-IsFound p s x (found.Parameter place) = (entity_in (module_of s) x ≡ Some Entity.Parameter) × IsFormal (module_of s).formals x place
-IsFound p s x (found.Stored type) = entity_in (module_of s) x ≡ Some (Entity.Stored (plain_type type.now))
+IsFound p s x (found.Parameter place)
+    = (entity_in (module_of s) x ≡ Some Entity.Parameter) × IsFormal (module_of s).formals x place
+IsFound p s x (found.Stored type)
+    = entity_in (module_of s) x ≡ Some (Entity.Stored (plain_type type.now))
 IsFound p s x (found.Instance number) = IsChild p s x number
-IsFound p s x (found.Defined right) = entity_in (module_of s) x ≡ Some (Entity.Defined (plain_expr right.now))
+IsFound p s x (found.Defined right)
+    = entity_in (module_of s) x ≡ Some (Entity.Defined (plain_expr right.now))
 
 -- ---- around an instance
 

@@ -18,13 +18,16 @@ Pairs R xs ys = ⊥
 
 -- no name stood before
 abbrev pub IsFresh : List Name → Type 0
-IsFresh names = (k : ℕ) (x : Name) → k < length names → list_any (bytes_eq (slice_index_or names k x)) (take k names) ≡ false
+IsFresh names
+    = (k : ℕ) (x : Name) → k < length names
+    → list_any (bytes_eq (slice_index_or names k x)) (take k names) ≡ false
 
 -- the names before the first that stood before
 pub record IsFront (all front : List Name) : Type 0 where
   pub begins : front ≡ take (length front) all
   pub distinct : IsFresh front
-  pub ends : (x : Name) → length front < length all → list_any (bytes_eq (slice_index_or all (length front) x)) front ≡ true
+  pub ends : (x : Name) → length front < length all
+      → list_any (bytes_eq (slice_index_or all (length front) x)) front ≡ true
 
 -- how many instances stand before each entry, n of them before the first
 abbrev pub counts_from : ℕ → List Entry → List ℕ

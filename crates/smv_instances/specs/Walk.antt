@@ -24,7 +24,8 @@ pub record Stands (ms : Modules) (place : ℕ) (m : Module) : Type 0 where
   pub is_table : IsTable table m
 
 -- the step is the declaration of an instance of this name in `around`, which has a number below k
-pub record Comes (numbering : List Scope) (k : ℕ) (step : Step) (around : Scope) (name : Name) (process : Bool) (actuals : List Expr) : Type 0 where
+pub record Comes (numbering : List Scope) (k : ℕ) (step : Step) (around : Scope) (name : Name)
+    (process : Bool) (actuals : List Expr) : Type 0 where
   pub earlier : step.around < k
   pub numbered : slice_get numbering step.around ≡ Some around
   pub named : step.name.now ≡ name
@@ -36,10 +37,12 @@ abbrev pub IsStep : List Scope → ℕ → Option Step → Scope → Type 0
 IsStep numbering k None (Scope.Main m) = Unit {0}
 IsStep numbering k None (Scope.Inside around name process actuals m) = ⊥
 IsStep numbering k (Some step) (Scope.Main m) = ⊥
-IsStep numbering k (Some step) (Scope.Inside around name process actuals m) = Comes numbering k step around name process actuals
+IsStep numbering k (Some step) (Scope.Inside around name process actuals m)
+    = Comes numbering k step around name process actuals
 
 -- the row k is that of the instance s
-pub record IsRow (ms : Modules) (numbering : List Scope) (k : ℕ) (row : Row) (s : Scope) : Type 0 where
+pub record IsRow (ms : Modules) (numbering : List Scope) (k : ℕ) (row : Row)
+    (s : Scope) : Type 0 where
   pub table : Stands ms row.table (module_of s)
   pub depth_is : row.depth ≡ depth s
   pub process_is : slice_get (filter is_process numbering) row.process ≡ Some (process_of s)
@@ -47,17 +50,22 @@ pub record IsRow (ms : Modules) (numbering : List Scope) (k : ℕ) (row : Row) (
 
 pub record AreRows (ms : Modules) (rows : List Row) (numbering : List Scope) : Type 0 where
   pub lengths : length rows ≡ length numbering
-  pub each : (k : ℕ) (row : Row) (s : Scope) → slice_get rows k ≡ Some row → slice_get numbering k ≡ Some s → IsRow ms numbering k row s
+  pub each : (k : ℕ) (row : Row) (s : Scope) → slice_get rows k ≡ Some row
+      → slice_get numbering k ≡ Some s → IsRow ms numbering k row s
 
 -- the walk has come to these instances, and has counted the bodies of some of them
 pub record HasWalked (ms : Modules) (w : Walk) (done counted : List Scope) : Type 0 where
   pub rows : AreRows ms w.rows.items done
-  pub processes : Pairs (λ n c. slice_get done n ≡ Some c) w.processes.items (filter is_process done)
+  pub processes : Pairs (λ n c. slice_get done n ≡ Some c) w.processes.items
+      (filter is_process done)
   pub counts : IsCounts w.counts (entries_of counted)
 
 -- the numbers in each row from this one on are those of its children
 abbrev pub AreLinked : Program → List Row → List Scope → ℕ → Type 0
-AreLinked p rows numbering from = (k : ℕ) (row : Row) (s : Scope) → from ≤ k → slice_get rows k ≡ Some row → slice_get numbering k ≡ Some s → Pairs (λ n c. slice_get numbering n ≡ Some c) row.children.items (children p s)
+AreLinked p rows numbering from
+    = (k : ℕ) (row : Row) (s : Scope) → from ≤ k → slice_get rows k ≡ Some row
+    → slice_get numbering k ≡ Some s
+    → Pairs (λ n c. slice_get numbering n ≡ Some c) row.children.items (children p s)
 
 -- the list with its member at k changed
 abbrev pub updated : {A : Type 0} → List A → ℕ → (A → A) → List A
@@ -66,14 +74,16 @@ updated (x ∷ xs) zero f = f x ∷ xs
 updated (x ∷ xs) (suc k) f = x ∷ updated xs k f
 
 -- one instance more, with this number
-pub record Adds (ms : Modules) (old new : Walk) (done counted : List Scope) (s : Scope) (number : ℕ) : Type 0 where
+pub record Adds (ms : Modules) (old new : Walk) (done counted : List Scope) (s : Scope)
+    (number : ℕ) : Type 0 where
   pub numbered : number ≡ length done
   pub reaches : HasWalked ms new (done ++ (s ∷ [])) counted
   pub row : Row
   pub kept : new.rows.items ≡ old.rows.items ++ (row ∷ [])
 
 -- the walk went on over these instances, with the rows from this one on
-pub record Visited (ms : Modules) (p : Program) (old new : Walk) (before added : List Scope) (from : ℕ) : Type 0 where
+pub record Visited (ms : Modules) (p : Program) (old new : Walk) (before added : List Scope)
+    (from : ℕ) : Type 0 where
   pub reaches : HasWalked ms new (before ++ added) (before ++ added)
   pub linked : AreLinked p new.rows.items (before ++ added) from
   pub kept : take from new.rows.items ≡ take from old.rows.items
@@ -89,7 +99,8 @@ abbrev pub IsInside : Modules → List Row → ℕ → Type 0
 IsInside ms rows number = (done : List Scope) × AreRows ms rows done × (number < length rows)
 
 -- the answer to the first entries of the body s: new counts, or the first refusal among them
-abbrev pub CountsBody : Program → List Scope → Scope → List Entry → Result Counts FlatRefusal → Type 0
+abbrev pub CountsBody : Program → List Scope → Scope → List Entry → Result Counts FlatRefusal
+    → Type 0
 CountsBody p before s es result =
     MatchResult result
     (λ c. IsCounts c (entries_of before ++ es) × Silent (First (declaration p before s) [] es))
@@ -103,14 +114,17 @@ ChecksBody p before s result =
     (Refused (body p before s))
 
 -- the entry of s is an instance of the module at this place, and the step is its declaration
-pub record Leads (ms : Modules) (p : Program) (s : Scope) (e : Entry) (number : ℕ) (step : Step) (table : ℕ) : Type 0 where
+pub record Leads (ms : Modules) (p : Program) (s : Scope) (e : Entry) (number : ℕ) (step : Step)
+    (table : ℕ) : Type 0 where
   pub m : Module
-  pub is : child p s e ≡ Some (Scope.Inside s step.name.now step.process (map plain_expr step.actuals.now) m)
+  pub is : child p s e
+      ≡ Some (Scope.Inside s step.name.now step.process (map plain_expr step.actuals.now) m)
   pub from : step.around ≡ number
   pub stands : Stands ms table m
 
 -- the walk has come to these instances; one that s declares comes next, and may have so many levels inside it
-pub record Enters (ms : Modules) (p : Program) (w : Walk) (done : List Scope) (s : Scope) (m : Module) (around table left : ℕ) : Type 0 where
+pub record Enters (ms : Modules) (p : Program) (w : Walk) (done : List Scope) (s : Scope)
+    (m : Module) (around table left : ℕ) : Type 0 where
   pub mods : AreModules ms p
   pub reaches : HasWalked ms w done done
   pub numbered : slice_get done around ≡ Some s
@@ -118,7 +132,8 @@ pub record Enters (ms : Modules) (p : Program) (w : Walk) (done : List Scope) (s
   pub deep : depth s + 1 + left ≡ 32
 
 -- the walk has come to these instances, s among them; those inside s come next
-pub record Goes (ms : Modules) (p : Program) (w : Walk) (done : List Scope) (s : Scope) (number left : ℕ) : Type 0 where
+pub record Goes (ms : Modules) (p : Program) (w : Walk) (done : List Scope) (s : Scope)
+    (number left : ℕ) : Type 0 where
   pub mods : AreModules ms p
   pub reaches : HasWalked ms w done done
   pub numbered : slice_get done number ≡ Some s
@@ -126,7 +141,8 @@ pub record Goes (ms : Modules) (p : Program) (w : Walk) (done : List Scope) (s :
   pub bottom : left ≡ 0 → children p s ≡ []
 
 -- the walk has come to these instances and to s, whose body comes next
-pub record Begins (ms : Modules) (p : Program) (w : Walk) (before : List Scope) (s : Scope) (number left : ℕ) : Type 0 where
+pub record Begins (ms : Modules) (p : Program) (w : Walk) (before : List Scope) (s : Scope)
+    (number left : ℕ) : Type 0 where
   pub mods : AreModules ms p
   pub reaches : HasWalked ms w (before ++ (s ∷ [])) before
   pub numbered : number ≡ length before

@@ -60,7 +60,8 @@ fn visit_child<'p>(
 ) -> Result<usize, FlatRefusal>
     requires { (p : Plain) × (done : List Scope) × (s : Scope) × (m : Source)
         × Enters modules.now p walk.old done s m step.around table left }
-    ensures { (p : Plain) (done : List Scope) (s : Scope) (m : Source) → Enters modules.now p walk.old done s m step.entry.around table left
+    ensures { (p : Plain) (done : List Scope) (s : Scope) (m : Source)
+        → Enters modules.now p walk.old done s m step.entry.around table left
         → MatchResult result (λ n. (n ≡ length done) × Visited modules.now p walk.old walk.new done (instances_from p left (Scope.Inside s step.entry.name.now step.entry.process (map plain_expr step.entry.actuals.now) m)) (length done))
         (Refused (First (body p) done (instances_from p left (Scope.Inside s step.entry.name.now step.entry.process (map plain_expr step.entry.actuals.now) m)))) }
 {
@@ -80,7 +81,8 @@ fn visit_inside<'p>(
 ) -> Result<Vec<usize>, FlatRefusal>
     requires { (p : Plain) × (done : List Scope) × (s : Scope)
         × Goes modules.now p walk.old done s number left }
-    ensures { (p : Plain) (done : List Scope) (s : Scope) → Goes modules.now p walk.old done s number left
+    ensures { (p : Plain) (done : List Scope) (s : Scope)
+        → Goes modules.now p walk.old done s number left
         → MatchResult result (λ cs. Visited modules.now p walk.old walk.new done (inside p left s) (length done) × Pairs (λ n c. slice_get (done ++ inside p left s) n ≡ Some c) cs.items (children p s))
         (Refused (First (body p) done (inside p left s))) }
 {
@@ -110,7 +112,8 @@ pub fn visit_body<'p>(
 ) -> Result<(), FlatRefusal>
     requires { (p : Plain) × (before : List Scope) × (s : Scope)
         × Begins modules.now p walk.old before s number left }
-    ensures { (p : Plain) (before : List Scope) (s : Scope) → Begins modules.now p walk.old before s number left
+    ensures { (p : Plain) (before : List Scope) (s : Scope)
+        → Begins modules.now p walk.old before s number left
         → MatchResult result (λ _. Visited modules.now p walk.old walk.new before (instances_from p left s) (length before))
         (Refused (First (body p) before (instances_from p left s))) }
 {

@@ -92,12 +92,12 @@ mutual
       let fine : AreFine (d.0 ∷ d.1) = same_fine d.2 f in
       parts_written d.1 parts (Path.Here line first) d.5 (tail_fine d.0 d.1 fine) (word_atom first d.0 d.3 (first_fine d.0 d.1 fine))
 
-  parts_written : (ts : List Placed) (parts : tree.Parts) (q : Path) → DerivesParts ts parts → AreFine ts → IsWrittenPath q → IsWrittenPath (plain.followed q parts)
-  parts_written ts tree.Parts.no_parts q d f w = w
-  parts_written ts (tree.Parts.field x parts) q d f w =
+  parts_written : (ts : List Placed) (parts : tree.PathTail) (q : Path) → DerivesParts ts parts → AreFine ts → IsWrittenPath q → IsWrittenPath (plain.followed q parts)
+  parts_written ts tree.PathTail.no_parts q d f w = w
+  parts_written ts (tree.PathTail.field x parts) q d f w =
       let fine : AreFine (d.1 ∷ d.2) = tail_fine d.0 _ (same_fine d.3 f) in
       parts_written d.2 parts (Path.Field q x) d.6 (tail_fine d.1 d.2 fine) (w, word_atom x d.1 d.5 (first_fine d.1 d.2 fine))
-  parts_written ts (tree.Parts.index e parts) q d f w =
+  parts_written ts (tree.PathTail.index e parts) q d f w =
       let fine : AreFine (d.2 ++ (d.1 ∷ d.3)) = tail_fine d.0 _ (same_fine d.4 f) in
       parts_written d.3 parts (Path.Index q (plain.expr e)) d.8 (tail_fine d.1 d.3 (right_fine d.2 _ fine)) (w, expr_written false 1 d.2 e d.7 (left_fine d.2 _ fine))
 

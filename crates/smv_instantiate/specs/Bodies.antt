@@ -13,7 +13,8 @@ use Rattle.smv_instances.specs.Tables.{AreModules}
 use Rattle.smv_instances.specs.Walk.{AreRows, AreLinked}
 use Rattle.smv_instantiate.specs.Written.{IsWritten}
 
-pub record AreBodies (p : Program) (ms : Modules) (rows : List Row) (names : List Name) : Type 0 where
+pub record AreBodies (p : Program) (ms : Modules) (rows : List Row)
+    (names : List Name) : Type 0 where
   pub known : AreModules ms p
   pub are : AreRows ms rows (instances p)
   pub linked : AreLinked p rows (instances p) 0

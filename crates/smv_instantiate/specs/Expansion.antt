@@ -24,7 +24,8 @@ use Rattle.smv_instantiate.specs.Names.{AreVariableNames}
 use Rattle.smv_instantiate.specs.Written.{IsWritten}
 
 -- the paths and the flat variables are those of a written program
-pub record CanExpand (p : Program) (instances : Instances) (paths : Paths) (names : List Name) : Type 0 where
+pub record CanExpand (p : Program) (instances : Instances) (paths : Paths)
+    (names : List Name) : Type 0 where
   pub paths_are : ArePaths p instances paths
   pub names_are : AreVariableNames p names
   pub written : IsWritten p
@@ -60,7 +61,8 @@ abbrev mutual
 
   pub ArmsHaveWrittenNumbers : Arms → Type 0
   ArmsHaveWrittenNumbers esac = Unit {0}
-  ArmsHaveWrittenNumbers (arm guard right rest) = HasWrittenNumbers guard × HasWrittenNumbers right × ArmsHaveWrittenNumbers rest
+  ArmsHaveWrittenNumbers (arm guard right rest)
+      = HasWrittenNumbers guard × HasWrittenNumbers right × ArmsHaveWrittenNumbers rest
 
 -- the expression, read in s, stands for the term, which is at most so deep
 pub record StandsFor (p : Program) (s : Scope) (e : Expr) (depth : ℕ) (t : Term) : Type 0 where
@@ -75,12 +77,14 @@ plain_exprs es = abstract.exprs (tree.trees_of (map tree_of es))
 abbrev pub plain_arms : List Held_arm → Program.Arms
 plain_arms arms = abstract.arms (tree.arms_of (map arm_pair arms))
 
-pub record ElementsStandFor (p : Program) (s : Scope) (es : Exprs) (depth : ℕ) (ts : Terms) : Type 0 where
+pub record ElementsStandFor (p : Program) (s : Scope) (es : Exprs) (depth : ℕ)
+    (ts : Terms) : Type 0 where
   pub expand : ExpandElements p s es ts
   pub shallow : element_nesting ts ≤ depth
   pub numbers : HaveWrittenNumbers ts
 
-pub record ArmsStandFor (p : Program) (s : Scope) (arms : Program.Arms) (depth : ℕ) (ts : Arms) : Type 0 where
+pub record ArmsStandFor (p : Program) (s : Scope) (arms : Program.Arms) (depth : ℕ)
+    (ts : Arms) : Type 0 where
   pub expand : ExpandArms p s arms ts
   pub shallow : arm_nesting ts ≤ depth
   pub numbers : ArmsHaveWrittenNumbers ts

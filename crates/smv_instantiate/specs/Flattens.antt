@@ -24,7 +24,8 @@ Placed = Scope × Item
 
 -- all items, in instantiation order
 abbrev pub all_items : Program → List Placed
-all_items p = flat_map (λ s. map (λ i. (s, i)) (flat_map section_items (module_of s).sections)) (instances p)
+all_items p = flat_map (λ s. map (λ i. (s, i)) (flat_map section_items (module_of s).sections))
+    (instances p)
 
 abbrev pub same_kind : Kind → Kind → Bool
 same_kind Kind.Init Kind.Init = true
@@ -58,7 +59,9 @@ Matches R xs ys = ⊥
 
 abbrev pub IsAssignment : Program → Placed → Assignment → Type 0
 IsAssignment p (s, Item.Assigns a) b =
-    (b.part ≡ a.part) × Selects p s a.left b.var × (b.process ≡ place_of (processes p) (process_name s)) × Expands p s a.right b.right × (b.line ≡ a.line)
+    (b.part ≡ a.part) × Selects p s a.left b.var
+    × (b.process ≡ place_of (processes p) (process_name s)) × Expands p s a.right b.right
+    × (b.line ≡ a.line)
 IsAssignment p (s, Item.States c) b = ⊥
 
 abbrev pub IsCondition : Program → Placed → Condition → Type 0

@@ -16,7 +16,8 @@ plain_assigned a = plain.assigned (programs.assignment a)
 
 abbrev pub plain_item : Held → Item
 plain_item (held.Assigns a) = Item.Assigns (plain_assigned a.now)
-plain_item (held.States condition expr line) = Item.States (plain.stated condition line (tree_of expr.now))
+plain_item (held.States condition expr line)
+    = Item.States (plain.stated condition line (tree_of expr.now))
 
 -- the line of a condition, of the lines of its expression and of its section
 abbrev pub stated_line : Condition → ℕ → ℕ → ℕ

@@ -10,5 +10,6 @@ pub record AreParts (p : Program) (items : List Placed) (parts : FlatParts) : Ty
   pub inits : Matches (IsCondition p) (filter (λ i. is_of Kind.Init i.1) items) parts.inits.items
   pub invars : Matches (IsCondition p) (filter (λ i. is_of Kind.Invar i.1) items) parts.invars.items
   pub trans : Matches (IsCondition p) (filter (λ i. is_of Kind.Trans i.1) items) parts.trans.items
-  pub constraints : Matches (IsCondition p) (filter (λ i. is_of Kind.Fairness i.1) items) parts.constraints.items
+  pub constraints : Matches (IsCondition p)
+      (filter (λ i. is_of Kind.Fairness i.1) items) parts.constraints.items
   pub specs : Matches (IsCondition p) (filter (λ i. is_of Kind.Spec i.1) items) parts.specs.items

@@ -23,13 +23,15 @@ use Rattle.smv_instantiate.specs.Expansion.{CanExpand}
 use Rattle.smv_instantiate.specs.Written.{IsWrittenExpr}
 
 -- the instances, the paths and the names of the flat variables, as the code keeps them
-pub record AreTables (p : Program) (instances : Instances) (paths : Paths) (names : List Name) : Type 0 where
+pub record AreTables (p : Program) (instances : Instances) (paths : Paths)
+    (names : List Name) : Type 0 where
   pub instances_are : AreInstances p instances
   pub expands : CanExpand p instances paths names
 
 -- one of the instances has this number
 abbrev pub HasTables : Instances → Paths → List Name → ℕ → Type 0
-HasTables instances paths names i = (p : Program) × (s : Scope) × AreTables p instances paths names × (scope_at p i ≡ Some s)
+HasTables instances paths names i
+    = (p : Program) × (s : Scope) × AreTables p instances paths names × (scope_at p i ≡ Some s)
 
 -- items in the body of s
 abbrev pub placed : Scope → List Held → List Placed
@@ -89,10 +91,12 @@ Counts old items i rule result =
     (Refused rule)
 
 -- the answer to what an item is refused for besides its paths and its size
-abbrev pub CountsItem : Program → List Placed → Scope → Item → Totals → Result Totals FlatRefusal → Type 0
+abbrev pub CountsItem : Program → List Placed → Scope → Item → Totals → Result Totals FlatRefusal
+    → Type 0
 CountsItem p items s i old result =
     MatchResult result
-    (λ new. AreCounts new (items ++ ((s, i) ∷ [])) × (new.nodes ≡ old.nodes) × HasLeft p s i × Silent (own_rows p (items ++ ((s, i) ∷ [])) s i))
+    (λ new. AreCounts new (items ++ ((s, i) ∷ [])) × (new.nodes ≡ old.nodes) × HasLeft p s i
+    × Silent (own_rows p (items ++ ((s, i) ∷ [])) s i))
     (Refused (own_rows p (items ++ ((s, i) ∷ [])) s i))
 
 -- so many nodes more, so deep, at this line
@@ -100,7 +104,9 @@ abbrev pub AddsSize : Totals → ℕ → ℕ → ℕ → Result Totals FlatRefus
 AddsSize old line n d result =
     MatchResult result
     (λ new. (new ≡ record old { nodes = old.nodes + n }) × (old.nodes + n ≤ 200000) × (d ≤ 1024))
-    (λ r. (r ≡ FlatRefusal.Limit line Which.Nodes 200001) × (200000 < old.nodes + n) ⊎ (r ≡ FlatRefusal.Limit line Which.Nesting 1025) × (old.nodes + n ≤ 200000) × (1024 < d))
+    (λ r. (r ≡ FlatRefusal.Limit line Which.Nodes 200001)
+    × (200000 < old.nodes + n) ⊎ (r ≡ FlatRefusal.Limit line Which.Nesting 1025)
+    × (old.nodes + n ≤ 200000) × (1024 < d))
 
 -- the answer to an item: totals of one item more, or why it is refused
 abbrev pub PassesItem : Program → List Placed → Placed → Result Totals FlatRefusal → Type 0

@@ -31,8 +31,10 @@ AreTerms p items ts = Matches (λ i t. Expands p i.0 (expression i.1) t) items t
 
 abbrev pub size_rows : Program → List Placed → Placed → Refusal
 size_rows p upto (s, i) =
-    refuse (FlatRefusal.Limit (item_line i) Which.Nodes 200001) ((ts : List Term) × AreTerms p upto ts × (200000 < sum_by node_count ts))
-    then refuse (FlatRefusal.Limit (item_line i) Which.Nesting 1025) ((t : Term) × Expands p s (expression i) t × (1024 < nesting t))
+    refuse (FlatRefusal.Limit (item_line i) Which.Nodes 200001)
+    ((ts : List Term) × AreTerms p upto ts × (200000 < sum_by node_count ts))
+    then refuse (FlatRefusal.Limit (item_line i) Which.Nesting 1025)
+    ((t : Term) × Expands p s (expression i) t × (1024 < nesting t))
 
 abbrev pub count_rows : List Placed → Stated → Refusal
 count_rows upto c = rows c.kind
@@ -46,7 +48,8 @@ count_rows upto c = rows c.kind
 
 abbrev pub item_rows : Program → List Placed → Scope → Item → Refusal
 item_rows p upto s (Item.Assigns a) =
-    path_rows p s ((record { path = a.left; wanted = false } ∷ index_mentions a.left) ++ mentions a.right)
+    path_rows p s
+    ((record { path = a.left; wanted = false } ∷ index_mentions a.left) ++ mentions a.right)
     then refuse (FlatRefusal.NotAssignable a.left_line) ((x : ℕ) → Selects p s a.left x → ⊥)
     then size_rows p upto (s, Item.Assigns a)
 item_rows p upto s (Item.States c) =

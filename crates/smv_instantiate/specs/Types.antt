@@ -21,4 +21,5 @@ AreNamed names (Plain.Array low high element) = AreNamed names element
 
 -- a variable of each name, all with the same values and line
 abbrev pub variables_named : List Name → List Value → ℕ → List Variable
-variables_named names values line = map (λ x. record { name = x; values = values; line = line }) names
+variables_named names values line
+    = map (λ x. record { name = x; values = values; line = line }) names

@@ -24,7 +24,8 @@ abbrev mutual
   IsWrittenExpr (Expr.Braces Exprs.none) = ⊥
   IsWrittenExpr (Expr.Braces (Exprs.more e es)) = IsWrittenExpr e × AreWritten es
   IsWrittenExpr (Expr.Case Program.Arms.esac) = ⊥
-  IsWrittenExpr (Expr.Case (Program.Arms.arm guard right rest)) = IsWrittenExpr guard × IsWrittenExpr right × AreWrittenArms rest
+  IsWrittenExpr (Expr.Case (Program.Arms.arm guard right rest))
+      = IsWrittenExpr guard × IsWrittenExpr right × AreWrittenArms rest
   IsWrittenExpr (Expr.Not e) = IsWrittenExpr e
   IsWrittenExpr (Expr.Binary op a b) = IsWrittenExpr a × IsWrittenExpr b
   IsWrittenExpr (Expr.Quant op e) = IsWrittenExpr e
@@ -36,7 +37,8 @@ abbrev mutual
 
   pub AreWrittenArms : Program.Arms → Type 0
   AreWrittenArms Program.Arms.esac = Unit {0}
-  AreWrittenArms (Program.Arms.arm guard right rest) = IsWrittenExpr guard × IsWrittenExpr right × AreWrittenArms rest
+  AreWrittenArms (Program.Arms.arm guard right rest)
+      = IsWrittenExpr guard × IsWrittenExpr right × AreWrittenArms rest
 
   pub IsWrittenPath : Path → Type 0
   IsWrittenPath (Path.Here line x) = IsAtom x
@@ -52,13 +54,16 @@ IsWrittenConstant (Constant.Truth b) = Unit {0}
 
 abbrev pub IsWrittenType : Plain → Type 0
 IsWrittenType Plain.Boolean = Unit {0}
-IsWrittenType (Plain.Enumeration constants) = (0 < length constants) × All IsWrittenConstant constants
+IsWrittenType (Plain.Enumeration constants)
+    = (0 < length constants) × All IsWrittenConstant constants
 IsWrittenType (Plain.Range low high) = IsWrittenEnd low × IsWrittenEnd high
-IsWrittenType (Plain.Array low high element) = IsWrittenNumber low × IsWrittenNumber high × IsWrittenType element
+IsWrittenType (Plain.Array low high element)
+    = IsWrittenNumber low × IsWrittenNumber high × IsWrittenType element
 
 abbrev pub IsWrittenForm : Form → Type 0
 IsWrittenForm (Form.Stored type) = IsWrittenType type
-IsWrittenForm (Form.Instance process module_name actuals) = IsAtom module_name × All IsWrittenExpr actuals
+IsWrittenForm (Form.Instance process module_name actuals)
+    = IsAtom module_name × All IsWrittenExpr actuals
 
 -- ---- modules
 

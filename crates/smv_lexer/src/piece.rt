@@ -44,7 +44,8 @@ impl From<AllocError> for PieceFault {
 
 /// The number that the digits write, unless it is too large.
 pub fn number(digits: &[u8]) -> Option<i32>
-    ensures { MatchOption result (greatest_number < decimal digits.now) (λ n. (n ≡ pos (decimal digits.now)) × (decimal digits.now ≤ greatest_number)) }
+    ensures { MatchOption result (greatest_number < decimal digits.now)
+        (λ n. (n ≡ pos (decimal digits.now)) × (decimal digits.now ≤ greatest_number)) }
 {
     let mut value: u32 = 0;
     for byte in digits {
@@ -71,7 +72,9 @@ fn word_kind(alloc: Global, word: &[u8]) -> Result<TokenKind, AllocError>
 
 // The digits as a token, unless the number is too large.
 fn number_kind(digits: &[u8]) -> Option<TokenKind>
-    ensures { MatchOption result (greatest_number < decimal digits.now) (λ k. (kind k ≡ Kind.number (pos (decimal digits.now))) × (decimal digits.now ≤ greatest_number)) }
+    ensures { MatchOption result (greatest_number < decimal digits.now)
+        (λ k. (kind k ≡ Kind.number (pos (decimal digits.now)))
+        × (decimal digits.now ≤ greatest_number)) }
 {
     let value = number(digits)?;
     Some(TokenKind::Number(value))

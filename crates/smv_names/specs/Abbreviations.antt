@@ -45,7 +45,8 @@ abbrev mutual
 
   pub arm_mentions : Program.Arms → List Mention
   arm_mentions Program.Arms.esac = []
-  arm_mentions (Program.Arms.arm guard right rest) = mentions guard ++ mentions right ++ arm_mentions rest
+  arm_mentions (Program.Arms.arm guard right rest)
+      = mentions guard ++ mentions right ++ arm_mentions rest
 
   -- those in its indexes
   pub index_mentions : Path → List Mention
@@ -74,12 +75,16 @@ HasBadIndex p s (Path.Field q x) = HasBadIndex p s q
 HasBadIndex p s (Path.Index q e) = HasBadIndex p s q ⊎ SelectsNothing
   where
     SelectsNothing : Type 0
-    SelectsNothing = (home : Scope) × (x : Name) × (low : ℕ) × (high : ℕ) × (element : Plain) × (indexes : List Bracket)
+    SelectsNothing
+        = (home : Scope) × (x : Name) × (low : ℕ) × (high : ℕ) × (element : Plain)
+        × (indexes : List Bracket)
         × Denotes p s q (Target.Stored home x (Plain.Array low high element) indexes)
         × ((n : ℕ) → IsIndex p (record { low = low; high = high; scope = s; index = e }) n → ⊥)
 
 abbrev pub unknown_path : Program → Scope → Mention → Refusal
-unknown_path p s m = refuse (FlatRefusal.UnknownName (line_of m.path)) ((t : Target) → Denotes p s m.path t → IsTrue (not m.wanted || is_value t) → ⊥)
+unknown_path p s m
+    = refuse (FlatRefusal.UnknownName (line_of m.path))
+    ((t : Target) → Denotes p s m.path t → IsTrue (not m.wanted || is_value t) → ⊥)
 
 abbrev pub bad_index : Program → Scope → Mention → Refusal
 bad_index p s m = refuse (FlatRefusal.BadIndex (line_of m.path)) (HasBadIndex p s m.path)
@@ -118,7 +123,8 @@ Names p s (Path.Index q e) a = ⊥
 
 -- the expression of a names b
 abbrev pub Uses : Program → Abbreviation → Abbreviation → Type 0
-Uses p a b = (home : Scope) × (e : Expr) × (text_of a ≡ Some (home, e)) × Any (λ m. Any (λ q. Names p home q b) (fronts m.path)) (mentions e)
+Uses p a b = (home : Scope) × (e : Expr) × (text_of a ≡ Some (home, e))
+    × Any (λ m. Any (λ q. Names p home q b) (fronts m.path)) (mentions e)
 
 pub data Leads (p : Program) : Abbreviation → Abbreviation → Type 0 where
   one : {a b : Abbreviation} → Uses p a b → Leads p a b
@@ -132,11 +138,13 @@ definition_rows p s e (Entity.Defined body) =
     refuse (FlatRefusal.CircularDefine e.line) (IsCircular p (record { scope = s; name = e.name }))
     then path_rows p s (mentions body)
 definition_rows p s e (Entity.Instance process module_name actuals) =
-    refuse (FlatRefusal.CircularDefine e.line) (Any HasCircularActual (cons_option (child p s e) []))
+    refuse (FlatRefusal.CircularDefine e.line)
+    (Any HasCircularActual (cons_option (child p s e) []))
     then path_rows p s (flat_map actual_mentions actuals)
   where
     HasCircularActual : Scope → Type 0
-    HasCircularActual c = Any (λ f. IsCircular p (record { scope = c; name = f.name })) (module_of c).formals
+    HasCircularActual c
+        = Any (λ f. IsCircular p (record { scope = c; name = f.name })) (module_of c).formals
 definition_rows p s e Entity.Parameter = nothing
 definition_rows p s e (Entity.Stored type) = nothing
 

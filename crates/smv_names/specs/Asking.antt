@@ -11,8 +11,12 @@ use Rattle.smv_names.specs.Ready.{AreTargets}
 
 -- paths can be asked for in the instance with this number, where a table has so many entries
 abbrev pub CanAsk : Instances → Targets → ℕ → ℕ → Type 0
-CanAsk all targets count i = (p : Program) × AreTargets p all targets × (i < length (instances p)) × (count ≡ length (all_entries p))
+CanAsk all targets count i
+    = (p : Program) × AreTargets p all targets × (i < length (instances p))
+    × (count ≡ length (all_entries p))
 
 -- the values of these indexes can be asked for
 abbrev pub CanIndex : Instances → Targets → ℕ → List Held → Type 0
-CanIndex all targets count held = (p : Program) × (bs : List Bracket) × AreTargets p all targets × (count ≡ length (all_entries p)) × AreBrackets p held bs
+CanIndex all targets count held
+    = (p : Program) × (bs : List Bracket) × AreTargets p all targets
+    × (count ≡ length (all_entries p)) × AreBrackets p held bs

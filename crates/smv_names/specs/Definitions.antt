@@ -15,7 +15,8 @@ use Rattle.smv_names.specs.Sound.{AreSound}
 
 -- ---- what is known before they are looked at
 
-pub record AreReady (p : Program) (all : Instances) (targets : Targets) (order : Order) (numbers : List (Option ℤ)) : Type 0 where
+pub record AreReady (p : Program) (all : Instances) (targets : Targets) (order : Order)
+    (numbers : List (Option ℤ)) : Type 0 where
   pub targets_are : AreTargets p all targets
   pub ordered : AreOrdered p order.order.items order.circular.items
   pub numbers_are : AreNumbers p numbers
@@ -23,11 +24,15 @@ pub record AreReady (p : Program) (all : Instances) (targets : Targets) (order :
 
 -- one of the instances has this number
 abbrev pub HasCircles : Instances → Targets → Order → ℕ → Type 0
-HasCircles all targets order number = (p : Program) × (c : Scope) × AreTargets p all targets × AreOrdered p order.order.items order.circular.items × (scope_at p number ≡ Some c)
+HasCircles all targets order number
+    = (p : Program) × (c : Scope) × AreTargets p all targets
+    × AreOrdered p order.order.items order.circular.items × (scope_at p number ≡ Some c)
 
 -- and its module an entry at this place
 abbrev pub HasPlace : Instances → Targets → Order → List (Option ℤ) → ℕ → ℕ → Type 0
-HasPlace all targets order numbers i k = (p : Program) × (s : Scope) × (e : Entry) × AreReady p all targets order numbers × (scope_at p i ≡ Some s) × (slice_get (entries (module_of s)) k ≡ Some e)
+HasPlace all targets order numbers i k
+    = (p : Program) × (s : Scope) × (e : Entry) × AreReady p all targets order numbers
+    × (scope_at p i ≡ Some s) × (slice_get (entries (module_of s)) k ≡ Some e)
 
 -- ---- circular abbreviations
 
@@ -52,11 +57,16 @@ HasCircularBy p c false = AreStraight p c
 
 -- the definition or the actual parameters are not circular, and their paths are sound
 abbrev pub IsDefined : Program → Scope → Entry → Entity → Type 0
-IsDefined p s e (Entity.Defined body) = (IsCircular p (record { scope = s; name = e.name }) → ⊥) × AreSound p s (mentions body)
-IsDefined p s e (Entity.Instance process module_name actuals) = ((c : Scope) → child p s e ≡ Some c → AreStraight p c) × AreSound p s (flat_map actual_mentions actuals)
+IsDefined p s e (Entity.Defined body)
+    = (IsCircular p (record { scope = s; name = e.name }) → ⊥) × AreSound p s (mentions body)
+IsDefined p s e (Entity.Instance process module_name actuals)
+    = ((c : Scope) → child p s e ≡ Some c → AreStraight p c)
+    × AreSound p s (flat_map actual_mentions actuals)
 IsDefined p s e Entity.Parameter = Unit {0}
 IsDefined p s e (Entity.Stored type) = Unit {0}
 
 -- those of the first n entries of all instances
 abbrev pub AreDefinedUpTo : Program → ℕ → Type 0
-AreDefinedUpTo p n = (v : ℕ) (s : Scope) (e : Entry) → v < n → slice_get (all_entries p) v ≡ Some (s, e) → IsDefined p s e e.entity
+AreDefinedUpTo p n
+    = (v : ℕ) (s : Scope) (e : Entry) → v < n → slice_get (all_entries p) v ≡ Some (s, e)
+    → IsDefined p s e e.entity

@@ -17,7 +17,8 @@ pub record IsEnd (p : Program) (s : Scope) (e : Expr) (end : End) : Type 0 where
   pub scope : Scope
   pub home : scope_at p end.home ≡ Some scope
   pub same : (t : Term) → Expands p s e t → Expands p scope (plain_expr end.right.now) t
-  pub last : (q : Path) (h : Scope) (f : Expr) → bare (plain_expr end.right.now) ≡ Expr.At q → Denotes p scope q (Target.Reading h f) → ⊥
+  pub last : (q : Path) (h : Scope) (f : Expr) → bare (plain_expr end.right.now) ≡ Expr.At q
+      → Denotes p scope q (Target.Reading h f) → ⊥
 
 -- b is circular, or leads to an abbreviation that is
 pub record IsStuck (p : Program) (b : Abbreviation) : Type 0 where
@@ -41,8 +42,12 @@ EndOf p a found = (s : Scope) (e : Expr) → text_of a ≡ Some (s, e) → IsEnd
 
 -- those of the abbreviations that the paths name
 abbrev pub AreEndsIn : Program → List (Option End) → Scope → List Mention → Type 0
-AreEndsIn p ends s ms = (v : ℕ) (a : Abbreviation) → abbreviation_at p v ≡ Some a → NamedIn p s ms a → EndOf p a (slice_index_or ends v None)
+AreEndsIn p ends s ms
+    = (v : ℕ) (a : Abbreviation) → abbreviation_at p v ≡ Some a → NamedIn p s ms a
+    → EndOf p a (slice_index_or ends v None)
 
 -- those of all abbreviations
 abbrev pub AreEnds : Program → List (Option End) → Type 0
-AreEnds p ends = (v : ℕ) (a : Abbreviation) → abbreviation_at p v ≡ Some a → EndOf p a (slice_index_or ends v None)
+AreEnds p ends
+    = (v : ℕ) (a : Abbreviation) → abbreviation_at p v ≡ Some a
+    → EndOf p a (slice_index_or ends v None)

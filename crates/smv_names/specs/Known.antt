@@ -17,11 +17,15 @@ NumberOf p a found = IsNumberOf p (text_of a) found
 
 -- those of the abbreviations that the paths name
 abbrev pub AreNumbersIn : Program → List (Option ℤ) → Scope → List Mention → Type 0
-AreNumbersIn p numbers s ms = (v : ℕ) (a : Abbreviation) → abbreviation_at p v ≡ Some a → NamedIn p s ms a → NumberOf p a (slice_index_or numbers v None)
+AreNumbersIn p numbers s ms
+    = (v : ℕ) (a : Abbreviation) → abbreviation_at p v ≡ Some a → NamedIn p s ms a
+    → NumberOf p a (slice_index_or numbers v None)
 
 -- those of all abbreviations
 abbrev pub AreNumbers : Program → List (Option ℤ) → Type 0
-AreNumbers p numbers = (v : ℕ) (a : Abbreviation) → abbreviation_at p v ≡ Some a → NumberOf p a (slice_index_or numbers v None)
+AreNumbers p numbers
+    = (v : ℕ) (a : Abbreviation) → abbreviation_at p v ≡ Some a
+    → NumberOf p a (slice_index_or numbers v None)
 
 abbrev pub leaf : Size
 leaf = record { nodes = 1; nesting = 1 }
@@ -31,10 +35,14 @@ abbrev pub SizeOf : Program → Abbreviation → Size → Type 0
 SizeOf p a size = IsSizeOfText p (text_of a) size
 
 abbrev pub AreSizesIn : Program → List Size → Scope → List Mention → Type 0
-AreSizesIn p sizes s ms = (v : ℕ) (a : Abbreviation) → abbreviation_at p v ≡ Some a → NamedIn p s ms a → SizeOf p a (slice_index_or sizes v leaf)
+AreSizesIn p sizes s ms
+    = (v : ℕ) (a : Abbreviation) → abbreviation_at p v ≡ Some a → NamedIn p s ms a
+    → SizeOf p a (slice_index_or sizes v leaf)
 
 abbrev pub AreSizes : Program → List Size → Type 0
-AreSizes p sizes = (v : ℕ) (a : Abbreviation) → abbreviation_at p v ≡ Some a → SizeOf p a (slice_index_or sizes v leaf)
+AreSizes p sizes
+    = (v : ℕ) (a : Abbreviation) → abbreviation_at p v ≡ Some a
+    → SizeOf p a (slice_index_or sizes v leaf)
 
 -- ---- paths
 

@@ -9,11 +9,14 @@ use Rattle.smv_names.specs.Abbreviations.{Abbreviation}
 
 -- the name of an entry, whatever it stands for
 abbrev pub abbreviation_at : Program → ℕ → Option Abbreviation
-abbreviation_at p node = option_map (λ e. record { scope = e.0; name = e.1.name }) (slice_get (all_entries p) node)
+abbreviation_at p node
+    = option_map (λ e. record { scope = e.0; name = e.1.name }) (slice_get (all_entries p) node)
 
 -- the entry k of the instance s has this number
 abbrev pub IsNode : Program → Scope → ℕ → ℕ → Type 0
-IsNode p s k node = (e : Entry) → slice_get (entries (module_of s)) k ≡ Some e → slice_get (all_entries p) node ≡ Some (s, e)
+IsNode p s k node
+    = (e : Entry) → slice_get (entries (module_of s)) k ≡ Some e
+    → slice_get (all_entries p) node ≡ Some (s, e)
 
 -- the entries of an instance
 abbrev pub placed_entries : Scope → List (Scope × Entry)
@@ -26,7 +29,8 @@ entries_before p i = length (flat_map placed_entries (take i (instances p)))
 pub record AreNodes (p : Program) (nodes : Nodes) : Type 0 where
   pub all : nodes.count ≡ length (all_entries p)
   pub lengths : length nodes.firsts.items ≡ length (instances p)
-  pub firsts : (i : ℕ) → i < length (instances p) → slice_index nodes.firsts.items i ≡ entries_before p i
+  pub firsts : (i : ℕ) → i < length (instances p)
+      → slice_index nodes.firsts.items i ≡ entries_before p i
 
 -- the entry with this number stands in one of the instances from low on, before high
 pub record IsBetween (p : Program) (node low high : ℕ) : Type 0 where

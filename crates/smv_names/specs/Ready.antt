@@ -24,10 +24,12 @@ pub record AreTargets (p : Program) (instances : Instances) (targets : Targets) 
 
 -- one of the instances has this number
 abbrev pub HasStarted : Instances → Targets → ℕ → Type 0
-HasStarted instances targets i = (p : Program) × AreStarted p instances targets × (i < length (tree.instances p))
+HasStarted instances targets i
+    = (p : Program) × AreStarted p instances targets × (i < length (tree.instances p))
 
 abbrev pub HasTargets : Instances → Targets → ℕ → Type 0
-HasTargets instances targets i = (p : Program) × AreTargets p instances targets × (i < length (tree.instances p))
+HasTargets instances targets i
+    = (p : Program) × AreTargets p instances targets × (i < length (tree.instances p))
 
 -- the name stands for something
 abbrev pub HasMeaning : Program → tree.Scope → Name → Type 0
@@ -35,7 +37,8 @@ HasMeaning p s x = (m : Meaning) × (meaning p s x ≡ Some m)
 
 -- the path denotes the instance with this number, or none
 abbrev pub LeadsInto : Program → tree.Scope → Path → Option ℕ → Type 0
-LeadsInto p s q (Some number) = (i : tree.Scope) × (scope_at p number ≡ Some i) × Denotes p s q (Target.Instance i)
+LeadsInto p s q (Some number)
+    = (i : tree.Scope) × (scope_at p number ≡ Some i) × Denotes p s q (Target.Instance i)
 LeadsInto p s q None = (i : tree.Scope) → Denotes p s q (Target.Instance i) → ⊥
 
 -- the name x of s, with its number where it is declared

@@ -30,11 +30,13 @@ AreSound p s ms = All (IsSound p s) ms
 
 -- the paths in the text e of an abbreviation whose name means m: an actual parameter that is a path may denote an instance or an array
 abbrev pub text_mentions : Option Meaning → Expr → List Mention
-text_mentions (Some (Meaning.Passed around q)) e = record { path = q; wanted = false } ∷ index_mentions q
+text_mentions (Some (Meaning.Passed around q)) e
+    = record { path = q; wanted = false } ∷ index_mentions q
 text_mentions (Some (Meaning.Direct t)) e = mentions e
 text_mentions None e = []
 
 -- no definition and no actual parameter is circular, and their paths are sound
 pub record AreDefined (p : Program) : Type 0 where
   pub straight : (v : ℕ) (a : Abbreviation) → abbreviation_at p v ≡ Some a → IsCircular p a → ⊥
-  pub sound : (v : ℕ) (a : Abbreviation) (h : Scope) (e : Expr) → abbreviation_at p v ≡ Some a → text_of a ≡ Some (h, e) → AreSound p h (text_mentions (meaning p a.scope a.name) e)
+  pub sound : (v : ℕ) (a : Abbreviation) (h : Scope) (e : Expr) → abbreviation_at p v ≡ Some a
+      → text_of a ≡ Some (h, e) → AreSound p h (text_mentions (meaning p a.scope a.name) e)

@@ -31,8 +31,11 @@ pub record IsText (p : Program) (node : ℕ) (s : Scope) (e : Expr) : Type 0 whe
   pub text : text_of abbreviation ≡ Some (s, e)
 
 abbrev pub IsTarget : Program → Code → Target → Type 0
-IsTarget p (held.Stored home name plain indexes) (Target.Stored s x type brackets) = (scope_at p home ≡ Some s) × (name.now ≡ x) × (plain_type plain.now ≡ type) × AreBrackets p indexes.items brackets
-IsTarget p (held.Reading home right node) (Target.Reading s e) = (scope_at p home ≡ Some s) × (plain_expr right.now ≡ e) × IsText p node s e
+IsTarget p (held.Stored home name plain indexes) (Target.Stored s x type brackets)
+    = (scope_at p home ≡ Some s) × (name.now ≡ x) × (plain_type plain.now ≡ type)
+    × AreBrackets p indexes.items brackets
+IsTarget p (held.Reading home right node) (Target.Reading s e)
+    = (scope_at p home ≡ Some s) × (plain_expr right.now ≡ e) × IsText p node s e
 IsTarget p (held.Instance number) (Target.Instance i) = scope_at p number ≡ Some i
 IsTarget p (held.Constant place) (Target.Constant x) = place ≡ place_of (symbols p) x
 IsTarget p t u = ⊥

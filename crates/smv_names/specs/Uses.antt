@@ -18,9 +18,12 @@ IsPushed None old new = new ≡ old
 IsPushed (Some n) old new = new ≡ old ++ (n ∷ [])
 
 -- numbers of abbreviations that have the property, among them all of those with an expression
-pub record AreNumbersOf (p : Program) (property : Abbreviation → Type 0) (numbers : List ℕ) : Type 0 where
-  pub each : (k : ℕ) → k < length numbers → (b : Abbreviation) × (abbreviation_at p (slice_index numbers k) ≡ Some b) × property b
-  pub all : (b : Abbreviation) (text : Scope × Expr) → property b → text_of b ≡ Some text → (k : ℕ) × (k < length numbers) × (abbreviation_at p (slice_index numbers k) ≡ Some b)
+pub record AreNumbersOf (p : Program) (property : Abbreviation → Type 0)
+    (numbers : List ℕ) : Type 0 where
+  pub each : (k : ℕ) → k < length numbers → (b : Abbreviation)
+      × (abbreviation_at p (slice_index numbers k) ≡ Some b) × property b
+  pub all : (b : Abbreviation) (text : Scope × Expr) → property b → text_of b ≡ Some text → (k : ℕ)
+      × (k < length numbers) × (abbreviation_at p (slice_index numbers k) ≡ Some b)
 
 -- those that the paths, read in s, name
 abbrev pub AreNamed : Program → Scope → List Mention → List ℕ → Type 0
@@ -35,5 +38,8 @@ pub record AreUses (p : Program) (firsts targets : List ℕ) (n : ℕ) : Type 0 
   pub nodes : length firsts ≡ n + 1
   pub last : slice_index firsts n ≡ length targets
   pub are_numbers : (k : ℕ) → k < length targets → slice_index targets k < length (all_entries p)
-  pub each : (v w : ℕ) (a : Abbreviation) → v < n → abbreviation_at p v ≡ Some a → HasEdge firsts targets v w → (b : Abbreviation) × (abbreviation_at p w ≡ Some b) × Uses p a b
-  pub all : (v : ℕ) (a b : Abbreviation) (text : Scope × Expr) → v < n → abbreviation_at p v ≡ Some a → Uses p a b → text_of b ≡ Some text → (w : ℕ) × HasEdge firsts targets v w × (abbreviation_at p w ≡ Some b)
+  pub each : (v w : ℕ) (a : Abbreviation) → v < n → abbreviation_at p v ≡ Some a
+      → HasEdge firsts targets v w → (b : Abbreviation) × (abbreviation_at p w ≡ Some b) × Uses p a b
+  pub all : (v : ℕ) (a b : Abbreviation) (text : Scope × Expr) → v < n
+      → abbreviation_at p v ≡ Some a → Uses p a b → text_of b ≡ Some text → (w : ℕ)
+      × HasEdge firsts targets v w × (abbreviation_at p w ≡ Some b)

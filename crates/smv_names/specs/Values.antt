@@ -28,22 +28,27 @@ IsNumber p s e found = MatchOption found ((n : ℤ) → HasNumber p s e n → �
 
 -- an operation on two numbers comes to n
 abbrev pub Gives : BinOp → ℤ → ℤ → ℤ → Type 0
-Gives op i j n = IsTrue (is_sum_or_product op) × (binary op (Ok (Number i ∷ [])) (Ok (Number j ∷ [])) ≡ Ok (Number n ∷ []))
+Gives op i j n
+    = IsTrue (is_sum_or_product op)
+    × (binary op (Ok (Number i ∷ [])) (Ok (Number j ∷ [])) ≡ Ok (Number n ∷ []))
 
 -- what a computation's one number is, or none where it has none
 abbrev pub ComesTo : Checked (List Value) → Option ℤ → Type 0
-ComesTo c found = MatchOption found ((n : ℤ) → c ≡ Ok (Number n ∷ []) → ⊥) (λ n. c ≡ Ok (Number n ∷ []))
+ComesTo c found
+    = MatchOption found ((n : ℤ) → c ≡ Ok (Number n ∷ []) → ⊥) (λ n. c ≡ Ok (Number n ∷ []))
 
 -- the number, if it lies in 32 bits
 abbrev pub bounded_number : ℤ → Option ℤ
-bounded_number z = if int_le (negsuc 2147483647) z && int_le z (pos 2147483647) then Some z else None
+bounded_number z
+    = if int_le (negsuc 2147483647) z && int_le z (pos 2147483647) then Some z else None
 
 -- the quotient or the remainder, if it lies in 32 bits
 abbrev pub quotient_number : (ℤ → ℤ → ℤ) → ℤ → ℤ → Option ℤ
 quotient_number f i j = if int_eq j (pos 0) then None else bounded_number (f i j)
 
 abbrev pub OperationComesTo : BinOp → ℤ → ℤ → Option ℤ → Type 0
-OperationComesTo op i j found = MatchOption found ((n : ℤ) → Gives op i j n → ⊥) (λ n. Gives op i j n)
+OperationComesTo op i j found
+    = MatchOption found ((n : ℤ) → Gives op i j n → ⊥) (λ n. Gives op i j n)
 
 -- the number of an abbreviation with this text
 abbrev pub IsNumberOf : Program → Option (Scope × Expr) → Option ℤ → Type 0
@@ -69,13 +74,17 @@ IsSizeOf p s e size = (t : Term) → Expands p s e t → IsSize size (node_count
 
 -- that of an expression with these two parts
 abbrev pub BothSizeOf : Program → Scope → Expr → Expr → Size → Type 0
-BothSizeOf p s a b size = (t u : Term) → Expands p s a t → Expands p s b u → IsSize size (1 + node_count t + node_count u) (1 + max (nesting t) (nesting u))
+BothSizeOf p s a b size
+    = (t u : Term) → Expands p s a t → Expands p s b u
+    → IsSize size (1 + node_count t + node_count u) (1 + max (nesting t) (nesting u))
 
 abbrev pub AreSizesOf : Program → Scope → Exprs → Size → Type 0
-AreSizesOf p s es size = (ts : Terms) → ExpandElements p s es ts → IsSize size (element_nodes ts) (element_nesting ts)
+AreSizesOf p s es size
+    = (ts : Terms) → ExpandElements p s es ts → IsSize size (element_nodes ts) (element_nesting ts)
 
 abbrev pub AreArmSizesOf : Program → Scope → Program.Arms → Size → Type 0
-AreArmSizesOf p s arms size = (ts : Arms) → ExpandArms p s arms ts → IsSize size (arm_nodes ts) (arm_nesting ts)
+AreArmSizesOf p s arms size
+    = (ts : Arms) → ExpandArms p s arms ts → IsSize size (arm_nodes ts) (arm_nesting ts)
 
 -- that of an abbreviation with this text; what has none is a variable or a constant
 abbrev pub IsSizeOfText : Program → Option (Scope × Expr) → Size → Type 0

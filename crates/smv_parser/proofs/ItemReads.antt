@@ -8,7 +8,7 @@ use Rattle.smv_lexer.specs.declared.sign.Sign.{Sign}
 use Rattle.smv_lexer.specs.Text.{Kind, Placed}
 use Rattle.smv_lexer.specs.Text.Kind.{word, key, mark}
 use Rattle.smv_parser.specs.declared.program.LeftKind.{LeftKind}
-use Rattle.smv_parser.specs.Tree.{Tree, PathTree, Parts, path_on, depth, path_depth, parts_depth}
+use Rattle.smv_parser.specs.Tree.{Tree, PathTree, PathTail, path_on, depth, path_depth, parts_depth}
 use Rattle.smv_parser.specs.Words.{Is, BeginsOn}
 use Rattle.smv_parser.specs.Grammar.{DerivesPath}
 use Rattle.smv_parser.specs.Program.{Lined, TypeForm, Declaration, Left, Assignment, Definition, type_depth, assignment_depth}
@@ -150,9 +150,9 @@ path_first ts (path_on line first parts) (t, a, q, i, ln, d) = (t, a, q, ap kind
 ends_part : (s : Sign) → (cond (sign_is Sign.Dot (mark s)) true (sign_is Sign.OpenBracket (mark s)) ≡ false) → (c : Placed) → is_sign s c ≡ true → begins_part c ≡ false
 ends_part s e c h = subst (λ (k : Kind). cond (sign_is Sign.Dot k) true (sign_is Sign.OpenBracket k) ≡ false) (sym (sign_is-kind s c.kind h)) e
 
-some_left : AnyOf LeftLed (some_name ∷ []) (lined 0 (record { kind = LeftKind.Current; path = path_on 0 [] Parts.no_parts }))
+some_left : AnyOf LeftLed (some_name ∷ []) (lined 0 (record { kind = LeftKind.Current; path = path_on 0 [] PathTail.no_parts }))
 unfolding LeftTail
-some_left = (Some LeftKind.Current, (some_name, [], refl, refl, (path_on 0 [] Parts.no_parts, refl, (some_name, [], refl, refl, refl, refl))))
+some_left = (Some LeftKind.Current, (some_name, [], refl, refl, (path_on 0 [] PathTail.no_parts, refl, (some_name, [], refl, refl, refl, refl))))
 
 module _ (b : ℕ) (pos : 1 ≤ b) where
   abbrev LeftFits : Lined Left → Type 0
@@ -186,13 +186,13 @@ module _ (b : ℕ) (pos : 1 ≤ b) where
 
   left_alternative : (i : Option LeftKind) → Alternative left_of LeftLed LeftFits LeftEnds (left_by b) i
   unfolding left_by LeftTail
-  left_alternative None = no_alternative left_of LeftLed LeftFits LeftEnds (left_by b) (some_name ∷ [], lined 0 (record { kind = LeftKind.Current; path = path_on 0 [] Parts.no_parts }), some_left, pos)
+  left_alternative None = no_alternative left_of LeftLed LeftFits LeftEnds (left_by b) (some_name ∷ [], lined 0 (record { kind = LeftKind.Current; path = path_on 0 [] PathTail.no_parts }), some_left, pos)
       None (λ a x d. d.4) (λ s. refl)
-  left_alternative (Some LeftKind.Current) = reads_alternative left_of LeftLed LeftFits LeftEnds (left_by b) (some_name ∷ [], lined 0 (record { kind = LeftKind.Current; path = path_on 0 [] Parts.no_parts }), some_left, pos)
+  left_alternative (Some LeftKind.Current) = reads_alternative left_of LeftLed LeftFits LeftEnds (left_by b) (some_name ∷ [], lined 0 (record { kind = LeftKind.Current; path = path_on 0 [] PathTail.no_parts }), some_left, pos)
       (Some LeftKind.Current) (λ a x d. (d.0, d.1, d.2, d.3)) current_reads
-  left_alternative (Some LeftKind.Init) = open_alternative b left_of LeftTail LeftFits LeftEnds (left_by b) (some_name ∷ [], lined 0 (record { kind = LeftKind.Current; path = path_on 0 [] Parts.no_parts }), some_left, pos)
+  left_alternative (Some LeftKind.Init) = open_alternative b left_of LeftTail LeftFits LeftEnds (left_by b) (some_name ∷ [], lined 0 (record { kind = LeftKind.Current; path = path_on 0 [] PathTail.no_parts }), some_left, pos)
       (Some LeftKind.Init) (λ t. left_tail b LeftKind.Init t.line) init_reads (λ s. refl)
-  left_alternative (Some LeftKind.Next) = open_alternative b left_of LeftTail LeftFits LeftEnds (left_by b) (some_name ∷ [], lined 0 (record { kind = LeftKind.Current; path = path_on 0 [] Parts.no_parts }), some_left, pos)
+  left_alternative (Some LeftKind.Next) = open_alternative b left_of LeftTail LeftFits LeftEnds (left_by b) (some_name ∷ [], lined 0 (record { kind = LeftKind.Current; path = path_on 0 [] PathTail.no_parts }), some_left, pos)
       (Some LeftKind.Next) (λ t. left_tail b LeftKind.Next t.line) next_reads (λ s. refl)
 
 left_word : (t : Placed) (o : Option LeftKind) → left_of t ≡ o → LeftIs t.kind o
@@ -313,7 +313,7 @@ module _ (b : ℕ) (pos : 1 ≤ b) where
   left_reads : Reads (OnLine DerivesLeft) (λ x. path_depth x.form.path ≤ b) LeftEnds (read_left b)
   unfolding read_left
   left_reads = renamed_reads (AnyOf LeftLed) (λ x. path_depth x.form.path ≤ b) LeftEnds (switch left_of (left_by b))
-      (switch_reads left_of LeftLed (λ x. path_depth x.form.path ≤ b) LeftEnds (left_by b) (some_name ∷ [], lined 0 (record { kind = LeftKind.Current; path = path_on 0 [] Parts.no_parts }), some_left, pos) (left_alternative b pos))
+      (switch_reads left_of LeftLed (λ x. path_depth x.form.path ≤ b) LeftEnds (left_by b) (some_name ∷ [], lined 0 (record { kind = LeftKind.Current; path = path_on 0 [] PathTail.no_parts }), some_left, pos) (left_alternative b pos))
       (OnLine DerivesLeft) LeftEnds left_to left_from (λ a x r d e. e) (λ a x r d e. e)
 
   pub assignment_reads : Reads (OnLine DerivesAssignment) (λ x. assignment_depth x ≤ b) Free (read_assignment b)

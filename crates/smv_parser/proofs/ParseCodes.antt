@@ -9,7 +9,7 @@ use Rattle.smv_parser.specs.Gives.{IsSyntaxError, IsTooDeep}
 use Rattle.smv_parser.specs.Openings.{begins_module}
 use Rattle.smv_parser.specs.Program.{Program, program_depth}
 use Rattle.smv_parser.specs.ProgramReading.{read_module, read_program}
-use Rattle.smv_parser.specs.Programs.{DerivesProgram, IsSyntaxPlace, IsTooDeepPlace, IsWithin, greatest_depth}
+use Rattle.smv_parser.specs.Programs.{DerivesProgram, IsSyntaxPlace, IsTooDeepPlace, IsShallow, greatest_depth}
 use Rattle.reader_laws.proofs.OnePlace as one
 use Rattle.smv_parser.proofs.ModuleReads.{program_deep, program_deep_short, program_derived, program_found, program_leftover, program_short, program_syntax}
 
@@ -83,16 +83,16 @@ one_program s p q d e =
     let r : found p [] ≡ found q [] = sym i ∙ j in cc
 
 pub syntax_or_program : (at : ℕ) (s : List Placed) (p : Program) → IsSyntaxPlace s at → DerivesProgram s p → ⊥
-syntax_or_program = one.syntax_or_tree DerivesProgram IsWithin
+syntax_or_program = one.syntax_or_tree DerivesProgram IsShallow
 
 pub deep_or_program : (at : ℕ) (s : List Placed) (p : Program) → IsTooDeepPlace s at → DerivesProgram s p → program_depth p ≤ greatest_depth → ⊥
-deep_or_program = one.deep_or_tree DerivesProgram IsWithin
+deep_or_program = one.deep_or_tree DerivesProgram IsShallow
 
 pub one_syntax_place : (at other : ℕ) (s : List Placed) → IsSyntaxPlace s at → IsSyntaxPlace s other → at ≡ other
-one_syntax_place = one.one_syntax DerivesProgram IsWithin
+one_syntax_place = one.one_syntax DerivesProgram IsShallow
 
 pub one_deep_place : (at other : ℕ) (s : List Placed) → IsTooDeepPlace s at → IsTooDeepPlace s other → at ≡ other
-one_deep_place = one.one_deep DerivesProgram IsWithin
+one_deep_place = one.one_deep DerivesProgram IsShallow
 
 pub one_kind_of_place : (at other : ℕ) (s : List Placed) → IsSyntaxPlace s at → IsTooDeepPlace s other → ⊥
-one_kind_of_place = one.syntax_or_deep DerivesProgram IsWithin
+one_kind_of_place = one.syntax_or_deep DerivesProgram IsShallow

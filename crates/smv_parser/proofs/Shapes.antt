@@ -9,7 +9,7 @@ use Rattle.smv_lexer.specs.Text.{Kind, Placed}
 use Rattle.smv_lexer.specs.Text.Kind.{word, key, mark}
 use Rattle.smv_parser.specs.declared.expressions.BinaryOperator.{BinaryOperator}
 use Rattle.smv_parser.specs.declared.tokens.Lead.{Lead}
-use Rattle.smv_parser.specs.Tree.{Tree, Form, PathTree, path_depth, Trees, Arms, Parts, on_line, path_on, no_parts, no_trees, no_arms, depth, trees_of, Part, field_part, index_part, parts_of, arms_of}
+use Rattle.smv_parser.specs.Tree.{Tree, Form, PathTree, path_depth, Trees, Arms, PathTail, on_line, path_on, no_parts, no_trees, no_arms, depth, trees_of, Part, field_part, index_part, parts_of, arms_of}
 use Rattle.smv_parser.specs.Words.{level_of, prefix_word, quantifier_word, truth_word, Is, BeginsOn}
 use Rattle.smv_parser.specs.Tests.{is_sign, sign_is, sign_number, word_in, number_in, kind_lead, lead_of}
 use Rattle.smv_parser.specs.Grammar.{Derives, DerivesPath, DerivesParts, DerivesOthers, DerivesArms}
@@ -44,19 +44,19 @@ lead_tells true y = refl
 lead_tells false true = refl
 lead_tells false false = tt
 
-pub parts_to : (u : List Placed) (ps : Parts) → DerivesParts u ps → (l : List Part) × (ps ≡ parts_of l) × EachOf (AnyOf PartIs) u l
+pub parts_to : (u : List Placed) (ps : PathTail) → DerivesParts u ps → (l : List Part) × (ps ≡ parts_of l) × EachOf (AnyOf PartIs) u l
 unfolding PartTail
 parts_to u no_parts d = ([], refl, d)
-parts_to u (Parts.field n ps) (d, t, a, q, i, j, rest) =
+parts_to u (PathTail.field n ps) (d, t, a, q, i, j, rest) =
     let w = parts_to a ps rest in (
       field_part n ∷ w.0,
-      ap (Parts.field n) w.1,
+      ap (PathTail.field n) w.1,
       (d ∷ t ∷ [], a, q, (dot, (d, t ∷ [], refl, dot_lead d i, (n, refl, (t, refl, ap word_in j)))), w.2),
     )
-parts_to u (Parts.index e ps) (o, c, x, y, q, i, j, d, rest) =
+parts_to u (PathTail.index e ps) (o, c, x, y, q, i, j, d, rest) =
     let w = parts_to y ps rest in (
       index_part e ∷ w.0,
-      ap (Parts.index e) w.1,
+      ap (PathTail.index e) w.1,
       (
         o ∷ (x ++ c ∷ []),
         y,
@@ -192,7 +192,7 @@ shape ts (on_line l (Form.path (path_on m n ps))) (b, (t, u, q, i, j, d)) =
         (
           w.0,
           lined l (Form.path (path_on m n ps)) (Form.path (path_on t.line (text_of t) (parts_of w.0))) t (first l ts t u b q)
-              (ap (λ (k : ℕ). Form.path (path_on k n ps)) (sym j) ∙ ap (λ (k : List ℕ). Form.path (path_on t.line k ps)) (some_word t n i) ∙ ap (λ (k : Parts). Form.path (path_on t.line (text_of t) k)) w.1),
+              (ap (λ (k : ℕ). Form.path (path_on k n ps)) (sym j) ∙ ap (λ (k : List ℕ). Form.path (path_on t.line k ps)) (some_word t n i) ∙ ap (λ (k : PathTail). Form.path (path_on t.line (text_of t) k)) w.1),
           w.2,
         ),
       ),

@@ -22,11 +22,13 @@ Fails (failures.Syntax left) reading = IsSyntaxError left reading
 Fails (failures.TooDeep left) reading = IsTooDeep left reading
 Fails failures.Memory reading = Unit {0}
 
-abbrev pub Gives : {X A : Type 0} → (X → A) → (X → List Placed) → Result X Failure → Reading Placed A → Type 0
+abbrev pub Gives : {X A : Type 0} → (X → A) → (X → List Placed) → Result X Failure
+    → Reading Placed A → Type 0
 Gives what rest (Ok x) reading = reading ≡ Reading.found (what x) (rest x)
 Gives what rest (Err e) reading = Fails e reading
 
 -- the same where the token that was read doesn't matter
-abbrev pub GivesRest : {X : Type 0} → (X → List Placed) → Result X Failure → Reading Placed Placed → Type 0
+abbrev pub GivesRest : {X : Type 0} → (X → List Placed) → Result X Failure → Reading Placed Placed
+    → Type 0
 GivesRest rest (Ok x) reading = (t : Placed) × (reading ≡ Reading.found t (rest x))
 GivesRest rest (Err e) reading = Fails e reading

@@ -89,7 +89,8 @@ abbrev pub Stops : ℕ → List Placed → Type 0
 Stops k r = (o : BinaryOperator) → operator_at r ≡ Some o → level_of o < k
 
 -- where there is room for one level more
-unfoldable pub with_room : {A : Type 0} → ℕ → (List Placed → Reading Placed A) → List Placed → Reading Placed A
+unfoldable pub with_room : {A : Type 0} → ℕ → (List Placed → Reading Placed A) → List Placed
+    → Reading Placed A
 with_room b run s = cond (nat_le 1 b) (run s) (too_deep s)
 
 -- reader reads the expressions inside, which have at most depth b
@@ -113,7 +114,8 @@ module _ (reader : ℕ → List Placed → Reading Placed Tree) (b : ℕ) where
 
   -- a path whose indexes are read by reader
   unfoldable pub read_path : List Placed → Reading Placed PathTree
-  read_path s = both (accept name_of) read_parts s >>= λ z r. found (path_on (front_line s) z.0 (parts_of z.1)) r
+  read_path s = both (accept name_of) read_parts s >>= λ z r. found
+      (path_on (front_line s) z.0 (parts_of z.1)) r
 
   unfoldable pub read_others : List Placed → Reading Placed (List Tree)
   read_others s = many (is_sign Sign.Comma) (headed (is_sign Sign.Comma) (reader 1)) (length s) s
@@ -122,26 +124,43 @@ module _ (reader : ℕ → List Placed → Reading Placed Tree) (b : ℕ) where
   read_list s = both (reader 1) read_others s
 
   unfoldable pub read_arm : List Placed → Reading Placed (Tree × Tree)
-  read_arm s = both (enclosed (is_sign Sign.Colon) (reader 1)) (enclosed (is_sign Sign.Semicolon) (reader 1)) s
+  read_arm s = both (enclosed (is_sign Sign.Colon) (reader 1))
+      (enclosed (is_sign Sign.Semicolon) (reader 1)) s
 
   unfoldable pub read_arms : List Placed → Reading Placed (List (Tree × Tree))
   read_arms s = many begins_expression read_arm (length s) s
 
   unfoldable pub read_until : List Placed → Reading Placed (Tree × Tree)
-  read_until s = both (enclosed (is_key Keyword.Until) (reader 1)) (enclosed (is_sign Sign.CloseBracket) (reader 1)) s
+  read_until s
+      = both (enclosed (is_key Keyword.Until) (reader 1))
+      (enclosed (is_sign Sign.CloseBracket) (reader 1)) s
 
   -- what stands after the first token of an operand
   unfoldable pub tail : Lead → Placed → List Placed → Reading Placed Tree
-  tail Lead.Name t s = read_parts s >>= λ ps r. found (on_line t.line (Form.path (path_on t.line (text_of t) (parts_of ps)))) r
+  tail Lead.Name t s
+      = read_parts s >>= λ ps r. found
+      (on_line t.line (Form.path (path_on t.line (text_of t) (parts_of ps)))) r
   tail Lead.Number t s = found (on_line t.line (Form.number (value_of t))) s
   tail (Lead.Truth v) t s = found (on_line t.line (Form.truth v)) s
   tail Lead.Running t s = found (on_line t.line Form.running) s
-  tail Lead.Next t s = headed (is_sign Sign.OpenParen) (enclosed (is_sign Sign.CloseParen) (reader 1)) s >>= λ e r. found (on_line t.line (Form.next e)) r
-  tail Lead.Parens t s = enclosed (is_sign Sign.CloseParen) (reader 1) s >>= λ e r. found (on_line t.line (Form.parens e)) r
-  tail Lead.Braces t s = enclosed (is_sign Sign.CloseBrace) read_list s >>= λ es r. found (on_line t.line (Form.braces (trees_of (es.0 ∷ es.1)))) r
-  tail Lead.Case t s = enclosed (is_key Keyword.Esac) (both read_arm read_arms) s >>= λ arms r. found (on_line t.line (Form.cases (arms_of (arms.0 ∷ arms.1)))) r
-  tail (Lead.Until q) t s = headed (is_sign Sign.OpenBracket) read_until s >>= λ es r. found (on_line t.line (Form.until q es.0 es.1)) r
-  tail (Lead.Prefix o) t s = reader prefix_level s >>= λ e r. found (on_line t.line (Form.prefix o e)) r
+  tail Lead.Next t s
+      = headed (is_sign Sign.OpenParen)
+      (enclosed (is_sign Sign.CloseParen) (reader 1)) s >>= λ e r. found
+      (on_line t.line (Form.next e)) r
+  tail Lead.Parens t s
+      = enclosed (is_sign Sign.CloseParen) (reader 1) s >>= λ e r. found
+      (on_line t.line (Form.parens e)) r
+  tail Lead.Braces t s
+      = enclosed (is_sign Sign.CloseBrace) read_list s >>= λ es r. found
+      (on_line t.line (Form.braces (trees_of (es.0 ∷ es.1)))) r
+  tail Lead.Case t s
+      = enclosed (is_key Keyword.Esac) (both read_arm read_arms) s >>= λ arms r. found
+      (on_line t.line (Form.cases (arms_of (arms.0 ∷ arms.1)))) r
+  tail (Lead.Until q) t s
+      = headed (is_sign Sign.OpenBracket) read_until s >>= λ es r. found
+      (on_line t.line (Form.until q es.0 es.1)) r
+  tail (Lead.Prefix o) t s
+      = reader prefix_level s >>= λ e r. found (on_line t.line (Form.prefix o e)) r
   tail Lead.Other t s = syntax_error (t ∷ s)
 
   unfoldable pub operand_by : Lead → List Placed → Reading Placed Tree
@@ -156,11 +175,13 @@ module _ (reader : ℕ → List Placed → Reading Placed Tree) (b : ℕ) where
   operand s = switch lead_of operand_by s
 
   -- the next token t is the operator, or is none; next reads on after the operator's node
-  unfoldable pub operator_step : ℕ → Tree → Placed → List Placed → (Tree → List Placed → Reading Placed Tree) → Option BinaryOperator → Reading Placed Tree
+  unfoldable pub operator_step : ℕ → Tree → Placed → List Placed
+      → (Tree → List Placed → Reading Placed Tree) → Option BinaryOperator → Reading Placed Tree
   operator_step k e t s next None = found e (t ∷ s)
   operator_step k e t s next (Some o) =
       cond (nat_le k (level_of o))
-      (cond (nat_le (depth e) b) (reader (level_of o + 1) s >>= λ f r. next (binary o e f) r) (too_deep (t ∷ s)))
+      (cond (nat_le (depth e) b) (reader (level_of o + 1) s >>= λ f r. next (binary o e f) r)
+      (too_deep (t ∷ s)))
       (found e (t ∷ s))
 
   -- the operators of level k and above after the left operand e; fuel is at least the number of tokens

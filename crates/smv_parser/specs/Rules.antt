@@ -9,7 +9,8 @@ use Rattle.smv_parser.specs.Tree.{Tree, Form, on_line}
 use Rattle.smv_parser.specs.Words.{binary_word, level_of, prefix_word, Is, BeginsOn}
 
 -- the tree x of an operator of level k, with what stands left and right of it
-pub record IsNode (k : ℕ) (ts a : List Placed) (e : Tree) (b : List Placed) (f x : Tree) : Type 0 where
+pub record IsNode (k : ℕ) (ts a : List Placed) (e : Tree) (b : List Placed)
+    (f x : Tree) : Type 0 where
   pub operator : BinaryOperator
   pub token : Placed
   pub line : ℕ

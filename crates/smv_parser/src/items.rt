@@ -23,7 +23,8 @@ pub trait Item: Drop {
 
     /// It, with the tokens after it.
     fn read(alloc: Global, tokens: &[Token]) -> Result<(Self, &[Token]), Failure>
-        ensures reads { Gives (λ x. tree x.0) (λ x. views x.1.now) result (reading (views tokens.now)) }
+        ensures reads { Gives (λ x. tree x.0) (λ x. views x.1.now) result
+            (reading (views tokens.now)) }
         ensures shorter { IfOk result (λ x. length x.1.now < length tokens.now) };
 }
 
@@ -47,7 +48,8 @@ fn begins<T: Led>(tokens: &[Token]) -> bool
 
 /// Items as long as the next token begins one.
 pub fn read_items<T: Led>(alloc: Global, tokens: &[Token]) -> Result<(Vec<T>, &[Token]), Failure>
-    ensures reads { Gives (λ x. map T.tree x.0.items) (λ x. views x.1.now) result (many T.begins T.reading (length (views tokens.now)) (views tokens.now)) }
+    ensures reads { Gives (λ x. map T.tree x.0.items) (λ x. views x.1.now) result
+        (many T.begins T.reading (length (views tokens.now)) (views tokens.now)) }
     ensures within { IfOk result (λ x. length x.1.now ≤ length tokens.now) }
 {
     let mut items = Vec::new(alloc);
@@ -62,7 +64,8 @@ pub fn read_items<T: Led>(alloc: Global, tokens: &[Token]) -> Result<(Vec<T>, &[
 
 /// One item, and then any number with a comma before each.
 pub fn read_commas<T: Item>(alloc: Global, tokens: &[Token]) -> Result<(Vec<T>, &[Token]), Failure>
-    ensures reads { Gives (λ x. map T.tree x.0.items) (λ x. views x.1.now) result (commas T.reading (views tokens.now)) }
+    ensures reads { Gives (λ x. map T.tree x.0.items) (λ x. views x.1.now) result
+        (commas T.reading (views tokens.now)) }
     ensures shorter { IfOk result (λ x. length x.1.now < length tokens.now) }
 {
     let (first, mut rest) = T::read(alloc, tokens)?;
@@ -79,7 +82,8 @@ pub fn read_commas<T: Item>(alloc: Global, tokens: &[Token]) -> Result<(Vec<T>, 
 
 /// What stands behind an opening parenthesis, up to the one that closes it.
 fn read_inside<T: Item>(alloc: Global, tokens: &[Token]) -> Result<(Vec<T>, &[Token]), Failure>
-    ensures reads { Gives (λ x. map T.tree x.0.items) (λ x. views x.1.now) result (inside T.reading (views tokens.now)) }
+    ensures reads { Gives (λ x. map T.tree x.0.items) (λ x. views x.1.now) result
+        (inside T.reading (views tokens.now)) }
     ensures shorter { IfOk result (λ x. length x.1.now < length tokens.now) }
 {
     if begins_with_sign(tokens, Sign::CloseParen) {
@@ -96,7 +100,8 @@ pub fn read_parameters<T: Item>(
     alloc: Global,
     tokens: &[Token],
 ) -> Result<(Vec<T>, &[Token]), Failure>
-    ensures reads { Gives (λ x. map T.tree x.0.items) (λ x. views x.1.now) result (parameters T.reading (views tokens.now)) }
+    ensures reads { Gives (λ x. map T.tree x.0.items) (λ x. views x.1.now) result
+        (parameters T.reading (views tokens.now)) }
     ensures within { IfOk result (λ x. length x.1.now ≤ length tokens.now) }
 {
     if begins_with_sign(tokens, Sign::OpenParen) {
@@ -113,7 +118,9 @@ pub fn read_both<A: Item, B: Item>(
     tokens: &[Token],
     middle: Sign,
 ) -> Result<(A, B, &[Token]), Failure>
-    ensures reads { Gives (λ x. (A.tree x.0, B.tree x.1)) (λ x. views x.2.now) result (both (enclosed (is_sign middle) A.reading) (enclosed (is_sign Sign.Semicolon) B.reading) (views tokens.now)) }
+    ensures reads { Gives (λ x. (A.tree x.0, B.tree x.1)) (λ x. views x.2.now) result
+        (both (enclosed (is_sign middle) A.reading) (enclosed (is_sign Sign.Semicolon) B.reading)
+        (views tokens.now)) }
     ensures shorter { IfOk result (λ x. length x.2.now < length tokens.now) }
 {
     let (first, rest) = A::read(alloc, tokens)?;

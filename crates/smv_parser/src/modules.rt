@@ -21,7 +21,8 @@ use std::alloc::Global;
 
 /// A module: its name, its formal parameters and its sections.
 fn read_module(alloc: Global, tokens: &[Token]) -> Result<(Module, &[Token]), Failure>
-    ensures reads { Gives (λ x. view.module_of x.0) (λ x. views x.1.now) result (reading.read_module greatest_depth (views tokens.now)) }
+    ensures reads { Gives (λ x. view.module_of x.0) (λ x. views x.1.now) result
+        (reading.read_module greatest_depth (views tokens.now)) }
     ensures shorter { IfOk result (λ x. length x.1.now < length tokens.now) }
 {
     let line = first_line(tokens);

@@ -101,7 +101,8 @@ pub fn after_key(tokens: &[Token], key: Keyword) -> Result<&[Token], Failure>
 /// The name that comes first, with the tokens after it.
 #[tactic(auto, unfolding(reader_laws::specs::Reading::accept, reader_laws::specs::Reading::accepted))]
 pub fn after_name(alloc: Global, tokens: &[Token]) -> Result<(Name, &[Token]), Failure>
-    ensures reads { Gives (λ x. x.0) (λ x. views x.1.now) result (accept name_of (views tokens.now)) }
+    ensures reads { Gives (λ x. x.0) (λ x. views x.1.now) result
+        (accept name_of (views tokens.now)) }
     ensures shorter { IfOk result (λ x. length x.1.now < length tokens.now) }
 {
     match tokens.split_first() {

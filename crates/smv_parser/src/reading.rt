@@ -151,7 +151,9 @@ fn constant(token: &Token) -> Option<ExprKind>
 
 /// The operator that comes next, if it has at least this level, with the tokens after it.
 fn next_operator(tokens: &[Token], least: u32) -> Option<(BinaryOperator, &[Token])>
-    ensures some { IfSome result (λ x. (t : Placed) × (views tokens.now ≡ t ∷ views x.1.now) × (operator_of t ≡ Some x.0) × (least ≤ level_of x.0)) }
+    ensures some { IfSome result
+        (λ x. (t : Placed) × (views tokens.now ≡ t ∷ views x.1.now) × (operator_of t ≡ Some x.0)
+        × (least ≤ level_of x.0)) }
     ensures none { IfNone result (Stops least (views tokens.now)) }
 {
     let (token, rest) = tokens.split_first()?;
@@ -173,7 +175,8 @@ fn read_closed(
 ) -> Result<(Part, &[Token]), Failure>
     requires some { 1 ≤ most }
     requires bounded { most < 1000 }
-    ensures reads { Gives (λ x. tree_of x.0.expr) (λ x. views x.1.now) result (enclosed (is_sign sign) (read most 1) (views tokens.now)) }
+    ensures reads { Gives (λ x. tree_of x.0.expr) (λ x. views x.1.now) result
+        (enclosed (is_sign sign) (read most 1) (views tokens.now)) }
     ensures depth { IfOk result (λ x. x.0.depth ≤ most) }
     ensures shorter { IfOk result (λ x. length x.1.now < length tokens.now) }
 {
@@ -187,7 +190,8 @@ fn read_closed(
 fn read_list(alloc: Global, tokens: &[Token], most: u32) -> Result<(Parts, &[Token]), Failure>
     requires some { 1 ≤ most }
     requires bounded { most < 1000 }
-    ensures reads { Gives (λ x. pair_of (map tree_of x.0.items.items)) (λ x. views x.1.now) result (reading.read_list (read most) most (views tokens.now)) }
+    ensures reads { Gives (λ x. pair_of (map tree_of x.0.items.items)) (λ x. views x.1.now) result
+        (reading.read_list (read most) most (views tokens.now)) }
     ensures some { IfOk result (λ x. 1 ≤ length x.0.items.items) }
     ensures depth { IfOk result (λ x. x.0.depth ≤ most) }
     ensures shorter { IfOk result (λ x. length x.1.now < length tokens.now) }
@@ -211,7 +215,8 @@ fn read_list(alloc: Global, tokens: &[Token], most: u32) -> Result<(Parts, &[Tok
 fn read_arm(alloc: Global, tokens: &[Token], most: u32) -> Result<(Part, Part, &[Token]), Failure>
     requires some { 1 ≤ most }
     requires bounded { most < 1000 }
-    ensures reads { Gives (λ x. (tree_of x.0.expr, tree_of x.1.expr)) (λ x. views x.2.now) result (reading.read_arm (read most) most (views tokens.now)) }
+    ensures reads { Gives (λ x. (tree_of x.0.expr, tree_of x.1.expr)) (λ x. views x.2.now) result
+        (reading.read_arm (read most) most (views tokens.now)) }
     ensures depth { IfOk result (λ x. (x.0.depth ≤ most) × (x.1.depth ≤ most)) }
     ensures shorter { IfOk result (λ x. length x.2.now < length tokens.now) }
 {
@@ -225,7 +230,10 @@ fn read_arm(alloc: Global, tokens: &[Token], most: u32) -> Result<(Part, Part, &
 fn read_arms(alloc: Global, tokens: &[Token], most: u32) -> Result<(ArmParts, &[Token]), Failure>
     requires some { 1 ≤ most }
     requires bounded { most < 1000 }
-    ensures reads { Gives (λ x. arms_pair_of (map arm_pair x.0.items.items)) (λ x. views x.1.now) result (both (reading.read_arm (read most) most) (reading.read_arms (read most) most) (views tokens.now)) }
+    ensures reads { Gives (λ x. arms_pair_of (map arm_pair x.0.items.items))
+        (λ x. views x.1.now) result
+        (both (reading.read_arm (read most) most) (reading.read_arms (read most) most)
+        (views tokens.now)) }
     ensures some { IfOk result (λ x. 1 ≤ length x.0.items.items) }
     ensures depth { IfOk result (λ x. x.0.depth ≤ most) }
     ensures shorter { IfOk result (λ x. length x.1.now < length tokens.now) }
@@ -254,7 +262,8 @@ fn read_arms(alloc: Global, tokens: &[Token], most: u32) -> Result<(ArmParts, &[
 fn read_until(alloc: Global, tokens: &[Token], most: u32) -> Result<(Part, Part, &[Token]), Failure>
     requires some { 1 ≤ most }
     requires bounded { most < 1000 }
-    ensures reads { Gives (λ x. (tree_of x.0.expr, tree_of x.1.expr)) (λ x. views x.2.now) result (reading.read_until (read most) most (views tokens.now)) }
+    ensures reads { Gives (λ x. (tree_of x.0.expr, tree_of x.1.expr)) (λ x. views x.2.now) result
+        (reading.read_until (read most) most (views tokens.now)) }
     ensures depth { IfOk result (λ x. (x.0.depth ≤ most) × (x.1.depth ≤ most)) }
     ensures shorter { IfOk result (λ x. length x.2.now < length tokens.now) }
 {
@@ -272,7 +281,8 @@ fn read_part(
     most: u32,
 ) -> Result<(PathPart, u32, &[Token]), Failure>
     requires { most < 1000 }
-    ensures reads { Gives (λ x. part_of x.0) (λ x. views x.2.now) result (reading.read_part (read most) most (views tokens.now)) }
+    ensures reads { Gives (λ x. part_of x.0) (λ x. views x.2.now) result
+        (reading.read_part (read most) most (views tokens.now)) }
     ensures depth { IfOk result (λ x. (x.1 ≡ part_depth (part_of x.0)) × (x.1 ≤ most)) }
     ensures shorter { IfOk result (λ x. length x.2.now < length tokens.now) }
 {
@@ -297,7 +307,8 @@ fn read_part(
 #[cycle(reading)]
 fn read_parts(alloc: Global, tokens: &[Token], most: u32) -> Result<(PathParts, &[Token]), Failure>
     requires { most < 1000 }
-    ensures reads { Gives (λ x. map part_of x.0.items.items) (λ x. views x.1.now) result (reading.read_parts (read most) most (views tokens.now)) }
+    ensures reads { Gives (λ x. map part_of x.0.items.items) (λ x. views x.1.now) result
+        (reading.read_parts (read most) most (views tokens.now)) }
     ensures depth { IfOk result (λ x. x.0.depth ≤ most) }
     ensures within { IfOk result (λ x. length x.1.now ≤ length tokens.now) }
 {
@@ -321,7 +332,8 @@ pub fn read_path(
     most: u32,
 ) -> Result<(WholePath, &[Token]), Failure>
     requires { most < 1000 }
-    ensures reads { Gives (λ x. path_of x.0.path) (λ x. views x.1.now) result (reading.read_path (read most) most (views tokens.now)) }
+    ensures reads { Gives (λ x. path_of x.0.path) (λ x. views x.1.now) result
+        (reading.read_path (read most) most (views tokens.now)) }
     ensures depth { IfOk result (λ x. x.0.depth ≤ most + 1) }
     ensures shorter { IfOk result (λ x. length x.1.now < length tokens.now) }
 {
@@ -348,7 +360,9 @@ fn read_opened<'t>(
     requires opening { opens (lead_of (tokens.view token.now)) ≡ true }
     requires some { 1 ≤ most }
     requires bounded { most < 1000 }
-    ensures reads { Gives (λ x. tree_of x.0.expr) (λ x. views x.1.now) result (tail (read most) most (lead_of (tokens.view token.now)) (tokens.view token.now) (views rest.now)) }
+    ensures reads { Gives (λ x. tree_of x.0.expr) (λ x. views x.1.now) result
+        (tail (read most) most (lead_of (tokens.view token.now)) (tokens.view token.now)
+        (views rest.now)) }
     ensures depth { IfOk result (λ x. x.0.depth ≤ most + 1) }
     ensures shorter { IfOk result (λ x. length x.1.now < length rest.now) }
 {
@@ -409,7 +423,8 @@ fn read_opened<'t>(
 #[cycle(reading)]
 fn read_operand(alloc: Global, tokens: &[Token], most: u32) -> Result<(Part, &[Token]), Failure>
     requires { most < 1000 }
-    ensures reads { Gives (λ x. tree_of x.0.expr) (λ x. views x.1.now) result (operand (read most) most (views tokens.now)) }
+    ensures reads { Gives (λ x. tree_of x.0.expr) (λ x. views x.1.now) result
+        (operand (read most) most (views tokens.now)) }
     ensures depth { IfOk result (λ x. x.0.depth ≤ most + 1) }
     ensures shorter { IfOk result (λ x. length x.1.now < length tokens.now) }
 {
@@ -450,7 +465,8 @@ pub fn read_expression(
 ) -> Result<(Part, &[Token]), Failure>
     requires some { 1 ≤ most }
     requires bounded { most < 1000 }
-    ensures reads { Gives (λ x. tree_of x.0.expr) (λ x. views x.1.now) result (read most least (views tokens.now)) }
+    ensures reads { Gives (λ x. tree_of x.0.expr) (λ x. views x.1.now) result
+        (read most least (views tokens.now)) }
     ensures depth { IfOk result (λ x. x.0.depth ≤ most) }
     ensures shorter { IfOk result (λ x. length x.1.now < length tokens.now) }
 {

@@ -30,7 +30,8 @@ use std::alloc::Global;
 
 /// `name : form ;`
 fn read_declaration(alloc: Global, tokens: &[Token]) -> Result<(Declaration, &[Token]), Failure>
-    ensures reads { Gives (λ x. view.declaration x.0) (λ x. views x.1.now) result (reading.read_declaration greatest_depth (views tokens.now)) }
+    ensures reads { Gives (λ x. view.declaration x.0) (λ x. views x.1.now) result
+        (reading.read_declaration greatest_depth (views tokens.now)) }
     ensures shorter { IfOk result (λ x. length x.1.now < length tokens.now) }
 {
     let (formal, form, rest) = read_both::<Formal, TypeForm>(alloc, tokens, Sign::Colon)?;
@@ -69,7 +70,8 @@ fn read_left_in_parens(
     kind: LeftKind,
     line: u32,
 ) -> Result<(Left, &[Token]), Failure>
-    ensures reads { Gives (λ x. view.left x.0) (λ x. views x.1.now) result (reading.left_tail greatest_depth kind line (views tokens.now)) }
+    ensures reads { Gives (λ x. view.left x.0) (λ x. views x.1.now) result
+        (reading.left_tail greatest_depth kind line (views tokens.now)) }
     ensures shorter { IfOk result (λ x. length x.1.now < length tokens.now) }
 {
     let rest = after_sign(tokens, Sign::OpenParen)?;
@@ -81,7 +83,8 @@ fn read_left_in_parens(
 
 /// The left side of an assignment.
 fn read_left(alloc: Global, tokens: &[Token]) -> Result<(Left, &[Token]), Failure>
-    ensures reads { Gives (λ x. view.left x.0) (λ x. views x.1.now) result (reading.read_left greatest_depth (views tokens.now)) }
+    ensures reads { Gives (λ x. view.left x.0) (λ x. views x.1.now) result
+        (reading.read_left greatest_depth (views tokens.now)) }
     ensures shorter { IfOk result (λ x. length x.1.now < length tokens.now) }
 {
     let Some((token, rest)) = tokens.split_first() else {
@@ -115,7 +118,8 @@ impl Item for Left {
 
 /// `left := right ;`
 fn read_assignment(alloc: Global, tokens: &[Token]) -> Result<(Assignment, &[Token]), Failure>
-    ensures reads { Gives (λ x. view.assignment x.0) (λ x. views x.1.now) result (reading.read_assignment greatest_depth (views tokens.now)) }
+    ensures reads { Gives (λ x. view.assignment x.0) (λ x. views x.1.now) result
+        (reading.read_assignment greatest_depth (views tokens.now)) }
     ensures shorter { IfOk result (λ x. length x.1.now < length tokens.now) }
 {
     let (left, right, rest) = read_both::<Left, Expr>(alloc, tokens, Sign::Becomes)?;
@@ -145,7 +149,8 @@ impl Led for Assignment {
 
 /// `name := right ;`
 fn read_definition(alloc: Global, tokens: &[Token]) -> Result<(Definition, &[Token]), Failure>
-    ensures reads { Gives (λ x. view.definition x.0) (λ x. views x.1.now) result (reading.read_definition greatest_depth (views tokens.now)) }
+    ensures reads { Gives (λ x. view.definition x.0) (λ x. views x.1.now) result
+        (reading.read_definition greatest_depth (views tokens.now)) }
     ensures shorter { IfOk result (λ x. length x.1.now < length tokens.now) }
 {
     let (formal, right, rest) = read_both::<Formal, Expr>(alloc, tokens, Sign::Becomes)?;
@@ -179,7 +184,8 @@ impl Led for Definition {
 
 /// An expression, after which a semicolon may stand.
 fn read_condition(alloc: Global, tokens: &[Token]) -> Result<(Expr, &[Token]), Failure>
-    ensures reads { Gives (λ x. tree_of x.0) (λ x. views x.1.now) result (reading.read_condition greatest_depth (views tokens.now)) }
+    ensures reads { Gives (λ x. tree_of x.0) (λ x. views x.1.now) result
+        (reading.read_condition greatest_depth (views tokens.now)) }
     ensures shorter { IfOk result (λ x. length x.1.now < length tokens.now) }
 {
     let (part, rest) = read_expression(alloc, tokens, 1, GREATEST_DEPTH)?;
@@ -192,7 +198,8 @@ fn read_condition(alloc: Global, tokens: &[Token]) -> Result<(Expr, &[Token]), F
 
 /// A section, by its first word.
 fn read_section(alloc: Global, tokens: &[Token]) -> Result<(Section, &[Token]), Failure>
-    ensures reads { Gives (λ x. view.section x.0) (λ x. views x.1.now) result (reading.read_section greatest_depth (views tokens.now)) }
+    ensures reads { Gives (λ x. view.section x.0) (λ x. views x.1.now) result
+        (reading.read_section greatest_depth (views tokens.now)) }
     ensures shorter { IfOk result (λ x. length x.1.now < length tokens.now) }
 {
     let Some((token, rest)) = tokens.split_first() else {

@@ -32,7 +32,8 @@ pub const GREATEST_DEPTH: u32 = 256;
 
 /// A name with its line.
 pub fn read_formal(alloc: Global, tokens: &[Token]) -> Result<(Formal, &[Token]), Failure>
-    ensures reads { Gives (λ x. view.formal x.0) (λ x. views x.1.now) result (accept formal_of (views tokens.now)) }
+    ensures reads { Gives (λ x. view.formal x.0) (λ x. views x.1.now) result
+        (accept formal_of (views tokens.now)) }
     ensures shorter { IfOk result (λ x. length x.1.now < length tokens.now) }
 {
     let line = first_line(tokens);
@@ -77,7 +78,8 @@ fn key_truth(key: Keyword) -> Option<bool>
 
 /// A name, a number, `TRUE` or `FALSE`.
 fn read_constant(alloc: Global, tokens: &[Token]) -> Result<(Constant, &[Token]), Failure>
-    ensures reads { Gives (λ x. view.constant x.0) (λ x. views x.1.now) result (accept constant_of (views tokens.now)) }
+    ensures reads { Gives (λ x. view.constant x.0) (λ x. views x.1.now) result
+        (accept constant_of (views tokens.now)) }
     ensures shorter { IfOk result (λ x. length x.1.now < length tokens.now) }
 {
     let Some((token, rest)) = tokens.split_first() else {
@@ -122,7 +124,8 @@ impl Item for Constant {
 /// The number that comes first, with the tokens after it.
 #[tactic(auto, unfolding(reader_laws::specs::Reading::accept, reader_laws::specs::Reading::accepted))]
 fn after_number(tokens: &[Token]) -> Result<(u32, &[Token]), Failure>
-    ensures reads { Gives (λ x. x.0) (λ x. views x.1.now) result (accept number_of (views tokens.now)) }
+    ensures reads { Gives (λ x. x.0) (λ x. views x.1.now) result
+        (accept number_of (views tokens.now)) }
     ensures small { IfOk result (λ x. x.0 ≤ 2147483647) }
     ensures shorter { IfOk result (λ x. length x.1.now < length tokens.now) }
 {
@@ -137,7 +140,8 @@ fn after_number(tokens: &[Token]) -> Result<(u32, &[Token]), Failure>
 
 /// An end of a range of values: a number, or a minus sign and a number.
 fn read_end(tokens: &[Token]) -> Result<(i32, &[Token]), Failure>
-    ensures reads { Gives (λ x. x.0) (λ x. views x.1.now) result (reading.read_end (views tokens.now)) }
+    ensures reads { Gives (λ x. x.0) (λ x. views x.1.now) result
+        (reading.read_end (views tokens.now)) }
     ensures shorter { IfOk result (λ x. length x.1.now < length tokens.now) }
 {
     if begins_with_sign(tokens, Sign::Minus) {
@@ -151,7 +155,8 @@ fn read_end(tokens: &[Token]) -> Result<(i32, &[Token]), Failure>
 
 /// The two ends of a range of values.
 fn read_ends(tokens: &[Token]) -> Result<(i32, i32, &[Token]), Failure>
-    ensures reads { Gives (λ x. (x.0, x.1)) (λ x. views x.2.now) result (reading.read_ends (views tokens.now)) }
+    ensures reads { Gives (λ x. (x.0, x.1)) (λ x. views x.2.now) result
+        (reading.read_ends (views tokens.now)) }
     ensures shorter { IfOk result (λ x. length x.2.now < length tokens.now) }
 {
     let (low, rest) = read_end(tokens)?;
@@ -162,7 +167,8 @@ fn read_ends(tokens: &[Token]) -> Result<(i32, i32, &[Token]), Failure>
 
 /// The two ends of an array.
 fn read_range(tokens: &[Token]) -> Result<(u32, u32, &[Token]), Failure>
-    ensures reads { Gives (λ x. (x.0, x.1)) (λ x. views x.2.now) result (reading.read_range (views tokens.now)) }
+    ensures reads { Gives (λ x. (x.0, x.1)) (λ x. views x.2.now) result
+        (reading.read_range (views tokens.now)) }
     ensures shorter { IfOk result (λ x. length x.2.now < length tokens.now) }
 {
     let (low, rest) = after_number(tokens)?;
@@ -174,7 +180,8 @@ fn read_range(tokens: &[Token]) -> Result<(u32, u32, &[Token]), Failure>
 /// A type without instances, of at most depth `most`. It recurses once for each `array`.
 fn read_plain(alloc: Global, tokens: &[Token], most: u32) -> Result<(Plain, &[Token]), Failure>
     requires { 1 ≤ most }
-    ensures reads { Gives (λ x. view.plain x.0) (λ x. views x.1.now) result (reading.read_plain most (views tokens.now)) }
+    ensures reads { Gives (λ x. view.plain x.0) (λ x. views x.1.now) result
+        (reading.read_plain most (views tokens.now)) }
     ensures shorter { IfOk result (λ x. length x.1.now < length tokens.now) }
 {
     let Some((token, rest)) = tokens.split_first() else {
@@ -221,7 +228,8 @@ fn read_instance(
     process: bool,
     line: u32,
 ) -> Result<(TypeForm, &[Token]), Failure>
-    ensures reads { Gives (λ x. view.type_form x.0) (λ x. views x.1.now) result (reading.read_instance greatest_depth process line (views tokens.now)) }
+    ensures reads { Gives (λ x. view.type_form x.0) (λ x. views x.1.now) result
+        (reading.read_instance greatest_depth process line (views tokens.now)) }
     ensures shorter { IfOk result (λ x. length x.1.now < length tokens.now) }
 {
     let (module, rest) = after_name(alloc, tokens)?;
@@ -236,7 +244,8 @@ fn read_instance(
 
 /// The type of a variable.
 fn read_type(alloc: Global, tokens: &[Token]) -> Result<(TypeForm, &[Token]), Failure>
-    ensures reads { Gives (λ x. view.type_form x.0) (λ x. views x.1.now) result (reading.read_type greatest_depth (views tokens.now)) }
+    ensures reads { Gives (λ x. view.type_form x.0) (λ x. views x.1.now) result
+        (reading.read_type greatest_depth (views tokens.now)) }
     ensures shorter { IfOk result (λ x. length x.1.now < length tokens.now) }
 {
     let Some((token, rest)) = tokens.split_first() else {

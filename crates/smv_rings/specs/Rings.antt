@@ -19,7 +19,9 @@ process_name i = codes "g" ++ decimal i
 
 -- the line that declares process i of n
 abbrev pub process_line : (n i : ℕ) → List ℕ
-process_line n i = codes "  " ++ process_name i ++ codes " : process inverter(" ++ process_name (feeder n i) ++ codes ".output);"
+process_line n i
+    = codes "  " ++ process_name i
+    ++ codes " : process inverter(" ++ process_name (feeder n i) ++ codes ".output);"
 
 -- the lines behind the processes
 abbrev pub last_lines : List (List ℕ)
@@ -36,7 +38,8 @@ last_lines = codes "SPEC AG AF g1.output"
 
 -- the n + 11 lines of the ring of n processes
 abbrev pub ring_lines : ℕ → List (List ℕ)
-ring_lines n = codes "MODULE main" ∷ codes "VAR" ∷ map (process_line n) (range_with_len 1 n) ++ last_lines
+ring_lines n
+    = codes "MODULE main" ∷ codes "VAR" ∷ map (process_line n) (range_with_len 1 n) ++ last_lines
 
 abbrev pub ring_text : ℕ → List ℕ
 ring_text n = text_of (ring_lines n)

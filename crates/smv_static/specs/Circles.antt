@@ -16,7 +16,8 @@ abbrev pub HoldsOf : (Assignment → Type 0) → List Assignment → ℕ → Typ
 HoldsOf P assigns k = (d : Assignment) → P (slice_index_or assigns k d)
 
 -- least is at most bound; if it is less it is one of these places, and P there; and P is at no smaller one of these places
-pub record IsLeastAmong (P : Assignment → Type 0) (assigns : List Assignment) (places : List ℕ) (bound least : ℕ) : Type 0 where
+pub record IsLeastAmong (P : Assignment → Type 0) (assigns : List Assignment) (places : List ℕ)
+    (bound least : ℕ) : Type 0 where
   pub at_most : least ≤ bound
   pub holds : (least ≡ bound) ⊎ Contains places least × HoldsOf P assigns least
   pub none : (k : ℕ) → Contains places k → k < least → HoldsOf (λ a. P a → ⊥) assigns k
@@ -42,10 +43,12 @@ IsClear m g least = (k : ℕ) → k < least → HoldsOf (λ a. IsOnCycleOf m g a
 
 -- least is the bound, or the place of an assignment that lies on a cycle
 abbrev pub IsFound : System → ℕ → ℕ → Type 0
-IsFound m bound least = (least ≡ bound) ⊎ (least < length m.assigns) × HoldsOf (IsOnCycle m) m.assigns least
+IsFound m bound least
+    = (least ≡ bound) ⊎ (least < length m.assigns) × HoldsOf (IsOnCycle m) m.assigns least
 
 -- the tables that the graphs of the model are read from
-pub record HasTables (m : System) (groups base : List (List ℕ)) (processes variables : ℕ) : Type 0 where
+pub record HasTables (m : System) (groups base : List (List ℕ))
+    (processes variables : ℕ) : Type 0 where
   pub processes_are : processes ≡ length m.processes
   pub variables_are : variables ≡ length m.vars
   pub grouped : IsGrouped processes m.assigns groups

@@ -17,13 +17,20 @@ abbrev pub group_of : ℕ → Assignment → ℕ
 group_of processes a = group_by processes a.part a.process
 
 -- row g has the places of the assignments of group g
-pub record IsGrouped (processes : ℕ) (assigns : List Assignment) (rows : List (List ℕ)) : Type 0 where
+pub record IsGrouped (processes : ℕ) (assigns : List Assignment)
+    (rows : List (List ℕ)) : Type 0 where
   pub known : (g k : ℕ) → Contains (row rows g) k → k < length assigns
-  pub sound : (g k : ℕ) (d : Assignment) → Contains (row rows g) k → group_of processes (slice_index_or assigns k d) ≡ g
-  pub complete : (k : ℕ) (d : Assignment) → k < length assigns → Contains (row rows (group_of processes (slice_index_or assigns k d))) k
+  pub sound : (g k : ℕ) (d : Assignment) → Contains (row rows g) k
+      → group_of processes (slice_index_or assigns k d) ≡ g
+  pub complete : (k : ℕ) (d : Assignment) → k < length assigns
+      → Contains (row rows (group_of processes (slice_index_or assigns k d))) k
 
 -- row x has what the assignments of variable x at these places depend on
-pub record IsTable (assigns : List Assignment) (places : List ℕ) (rows : List (List ℕ)) : Type 0 where
+pub record IsTable (assigns : List Assignment) (places : List ℕ)
+    (rows : List (List ℕ)) : Type 0 where
   pub sound : (x y : ℕ) → Contains (row rows x) y → (k : ℕ) × Contains places k
-      × ((d : Assignment) → (slice_index_or assigns k d).var ≡ x) × ((d : Assignment) → Contains (targets_of (slice_index_or assigns k d)) y)
-  pub complete : (k y : ℕ) (d : Assignment) → Contains places k → Contains (targets_of (slice_index_or assigns k d)) y → Contains (row rows (slice_index_or assigns k d).var) y
+      × ((d : Assignment) → (slice_index_or assigns k d).var ≡ x)
+      × ((d : Assignment) → Contains (targets_of (slice_index_or assigns k d)) y)
+  pub complete : (k y : ℕ) (d : Assignment) → Contains places k
+      → Contains (targets_of (slice_index_or assigns k d)) y
+      → Contains (row rows (slice_index_or assigns k d).var) y

@@ -22,4 +22,5 @@ abbrev mutual
 
   pub arm_has_inner_next : Arms → Bool
   arm_has_inner_next esac = false
-  arm_has_inner_next (arm guard right rest) = has_inner_next guard || has_inner_next right || arm_has_inner_next rest
+  arm_has_inner_next (arm guard right rest)
+      = has_inner_next guard || has_inner_next right || arm_has_inner_next rest

@@ -14,7 +14,8 @@ boolean name = record { name = name; values = Number (pos 0) ∷ Number (pos 1) 
 
 -- the selector `running`, a and b
 abbrev pub variables : List Variable
-variables = boolean (114 ∷ 117 ∷ 110 ∷ 110 ∷ 105 ∷ 110 ∷ 103 ∷ []) ∷ boolean (97 ∷ []) ∷ boolean (98 ∷ []) ∷ []
+variables = boolean (114 ∷ 117 ∷ 110 ∷ 110 ∷ 105 ∷ 110 ∷ 103 ∷ []) ∷ boolean (97 ∷ [])
+    ∷ boolean (98 ∷ []) ∷ []
 
 -- two processes, main and p
 abbrev pub two_processes : List Assignment → List Condition → System
@@ -32,17 +33,24 @@ two_processes assigns specs = record {
 }
 
 abbrev pub assigned : Part → ℕ → ℕ → Term → ℕ → Assignment
-assigned part var process right line = record { part = part; var = var; process = process; right = right; line = line }
+assigned part var process right line
+    = record { part = part; var = var; process = process; right = right; line = line }
 
 -- a := 1; init(a) := b;
 abbrev pub beside_row : System
-beside_row = two_processes (assigned Part.Now 1 0 (Term.Const (Number (pos 1))) 3 ∷ assigned Part.Init 1 0 (Term.Var 2) 4 ∷ []) []
+beside_row = two_processes
+    (assigned Part.Now 1 0 (Term.Const (Number (pos 1))) 3 ∷ assigned Part.Init 1 0 (Term.Var 2) 4
+    ∷ []) []
 
 -- a := b; and in main next(b) := next(a);
 abbrev pub circular_row : System
-circular_row = two_processes (assigned Part.Now 1 0 (Term.Var 2) 3 ∷ assigned Part.Next 2 0 (Term.Next (Term.Var 1)) 4 ∷ []) []
+circular_row
+    = two_processes
+    (assigned Part.Now 1 0 (Term.Var 2) 3 ∷ assigned Part.Next 2 0 (Term.Next (Term.Var 1)) 4 ∷ []) []
 
 -- next(a) := next(b); in main and next(b) := next(a); in p; AX a & !b
 abbrev pub apart_row : System
-apart_row = two_processes (assigned Part.Next 1 0 (Term.Next (Term.Var 2)) 3 ∷ assigned Part.Next 2 1 (Term.Next (Term.Var 1)) 4 ∷ [])
+apart_row = two_processes
+    (assigned Part.Next 1 0 (Term.Next (Term.Var 2)) 3
+    ∷ assigned Part.Next 2 1 (Term.Next (Term.Var 1)) 4 ∷ [])
     (record { expr = Term.Binary BinOp.And (Term.Quant PathOp.AX (Term.Var 1)) (Term.Not (Term.Var 2)); line = 5 } ∷ [])

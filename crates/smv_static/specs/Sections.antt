@@ -27,7 +27,8 @@ refusal ItemRule.Next line = StaticRefusal.NextNotAllowed line
 refusal ItemRule.Formula line = StaticRefusal.FormulaNotAllowed line
 
 abbrev pub assignments_rule : ItemRule → List Assignment → StaticRule
-assignments_rule rule assigns = first_of assigns (λ a. refuse (refusal rule a.line) (IsWrongIn rule a))
+assignments_rule rule assigns
+    = first_of assigns (λ a. refuse (refusal rule a.line) (IsWrongIn rule a))
 
 abbrev pub conditions_rule : ItemRule → Section → List Condition → StaticRule
 conditions_rule rule section cs = refused_condition (refusal rule) (IsWrong rule section) cs

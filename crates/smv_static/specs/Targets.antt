@@ -25,7 +25,8 @@ abbrev mutual
 
   pub next_variables_in_arms : Arms → List ℕ
   next_variables_in_arms esac = []
-  next_variables_in_arms (arm guard right rest) = next_variables_in guard ++ next_variables_in right ++ next_variables_in_arms rest
+  next_variables_in_arms (arm guard right rest)
+      = next_variables_in guard ++ next_variables_in right ++ next_variables_in_arms rest
 
 -- for `next` those under `next` alone
 abbrev pub targets_by : Part → Term → List ℕ

@@ -18,10 +18,12 @@ LiesOnCycle base extra x = (y : ℕ) × Edge base extra x y × Way base extra y 
 
 -- the flag of x is set exactly where x lies on a cycle
 abbrev pub AreCycleFlags : List (List ℕ) → List (List ℕ) → List Bool → Type 0
-AreCycleFlags base extra flags = (x : ℕ) → IsTrue (slice_index_or flags x false) ↔ LiesOnCycle base extra x
+AreCycleFlags base extra flags
+    = (x : ℕ) → IsTrue (slice_index_or flags x false) ↔ LiesOnCycle base extra x
 
 -- a list of targets with the first of each node, in which the nodes below count have the edges of the two tables
-pub record HasRows (base extra : List (List ℕ)) (variables count : ℕ) (firsts targets : List ℕ) : Type 0 where
+pub record HasRows (base extra : List (List ℕ)) (variables count : ℕ)
+    (firsts targets : List ℕ) : Type 0 where
   pub nodes : length firsts ≡ count + 1
   pub full : slice_index firsts count ≡ length targets
   pub below : (k : ℕ) → k < length targets → slice_index targets k < variables

@@ -61,7 +61,10 @@ pub fn is_flagged(flags: &[bool], assign: &Assign) -> bool
 fn flag_other(flags: &mut Vec<bool>, assign: &Assign)
     requires { assign.now.var < length flags.old.items }
     ensures count { length flags.new.items ≡ length flags.old.items }
-    ensures flags { (x : ℕ) → IsTrue (slice_index_or flags.new.items x false) ↔ IsTrue (slice_index_or flags.old.items x false) ⊎ (x ≡ assign.now.var) × (assign.now.part ≢ Parts.Now) }
+    ensures flags { (x : ℕ)
+        → IsTrue (slice_index_or flags.new.items x false)
+        ↔ IsTrue (slice_index_or flags.old.items x false) ⊎ (x ≡ assign.now.var)
+        × (assign.now.part ≢ Parts.Now) }
 {
     if assign.part == Part::Now {
         return;

@@ -27,7 +27,8 @@ use std::alloc::{AllocError, Global};
 
 /// The lesser of `least` and the place k of the assignment, if its variable is flagged.
 fn lesser(assign: &Assign, k: usize, flags: &[bool], least: usize) -> usize
-    ensures { (result ≡ least) × (k < least → IsFlagged flags.now assign.now → ⊥) ⊎ (result ≡ k) × (k < least) × IsFlagged flags.now assign.now }
+    ensures { (result ≡ least) × (k < least → IsFlagged flags.now assign.now → ⊥) ⊎ (result ≡ k)
+        × (k < least) × IsFlagged flags.now assign.now }
 {
     if k >= least {
         return least;
@@ -59,7 +60,8 @@ struct Tables {
 
 fn make_tables(alloc: Global, flat: &FlatModel) -> Result<Tables, AllocError>
     requires { IsFlat flat.now }
-    ensures { IfOk result (λ t. HasTables flat.now t.groups.items t.base.items t.processes t.variables) }
+    ensures { IfOk result
+        (λ t. HasTables flat.now t.groups.items t.base.items t.processes t.variables) }
 {
     let processes = process_count(flat);
     let variables = variable_count(flat);
@@ -84,7 +86,8 @@ fn least_of_group(
 ) -> usize
     requires flat { IsFlat flat.now }
     requires tables { HasTables flat.now tables.now.groups.items tables.now.base.items tables.now.processes tables.now.variables }
-    ensures { IsLeastAmong (IsFlagged flags.now) flat.now.assigns (row tables.now.groups.items group) bound result }
+    ensures { IsLeastAmong (IsFlagged flags.now) flat.now.assigns
+        (row tables.now.groups.items group) bound result }
 {
     let places = row_at(&tables.groups, group);
     least_flagged(assigns_of(flat), places, flags, bound)
@@ -99,7 +102,8 @@ fn edges_of(
 ) -> Result<Vec<Row>, AllocError>
     requires flat { IsFlat flat.now }
     requires tables { HasTables flat.now tables.now.groups.items tables.now.base.items tables.now.processes tables.now.variables }
-    ensures table { IfOk result (λ rows. IsTable flat.now.assigns (row tables.now.groups.items group) rows.items) }
+    ensures table { IfOk result
+        (λ rows. IsTable flat.now.assigns (row tables.now.groups.items group) rows.items) }
     ensures below { IfOk result (λ rows. IsBelow tables.now.variables rows.items) }
 {
     let places = row_at(&tables.groups, group);

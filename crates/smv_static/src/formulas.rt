@@ -14,8 +14,10 @@ use std::alloc::{AllocError, Global};
 
 /// The leaf that the formula is, or else the formula.
 fn as_leaf(f: Formula) -> Result<Expr, Formula>
-    ensures leaf { MatchResult result (λ e. ctl_of f ≡ Ctl.Leaf (term_of e)) (λ g. ctl_of g ≡ ctl_of f) }
-    ensures other { MatchResult result (λ e. is_leaf (ctl_of f) ≡ true) (λ g. is_leaf (ctl_of f) ≡ false) }
+    ensures leaf { MatchResult result (λ e. ctl_of f ≡ Ctl.Leaf (term_of e))
+        (λ g. ctl_of g ≡ ctl_of f) }
+    ensures other { MatchResult result (λ e. is_leaf (ctl_of f) ≡ true)
+        (λ g. is_leaf (ctl_of f) ≡ false) }
 {
     match f {
         Formula::Leaf(e) => Ok(e),

@@ -41,7 +41,10 @@ pub fn grouped(alloc: Global, assigns: &[Assign], processes: usize) -> Result<Ve
 /// Appends what the assignment's variable depends on to that variable's row.
 fn add_targets(rows: &mut Vec<Row>, assign: &Assign) -> Result<(), AllocError>
     requires { assign.now.var < length rows.old.items }
-    ensures added { OnOk result (rows.new.items ≡ slice_set rows.old.items assign.now.var (row rows.old.items assign.now.var ++ targets_of assign.now)) }
+    ensures added { OnOk result
+        (rows.new.items
+        ≡ slice_set rows.old.items assign.now.var
+        (row rows.old.items assign.now.var ++ targets_of assign.now)) }
     ensures count { length rows.new.items ≡ length rows.old.items }
 {
     push_targets(assign, &mut rows[assign.var as usize])

@@ -68,7 +68,8 @@ pub fn row_at(rows: &[Row], x: usize) -> &[u32]
 /// Puts y at the end of row x.
 pub fn push_at(rows: &mut Vec<Row>, x: usize, y: u32) -> Result<(), AllocError>
     requires { x < length rows.old.items }
-    ensures pushed { OnOk result (rows.new.items ≡ slice_set rows.old.items x (row rows.old.items x ++ y ∷ [])) }
+    ensures pushed { OnOk result
+        (rows.new.items ≡ slice_set rows.old.items x (row rows.old.items x ++ y ∷ [])) }
     ensures count { length rows.new.items ≡ length rows.old.items }
 {
     rows[x].push(y)

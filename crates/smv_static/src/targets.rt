@@ -80,7 +80,8 @@ fn push_next_variables(expr: &Expr, row: &mut Row) -> Result<(), AllocError>
 
 #[cycle(next_variables)]
 fn push_next_element_variables(elements: &[Expr], row: &mut Row) -> Result<(), AllocError>
-    ensures { OnOk result (row.new ≡ row.old ++ next_variables_in_elements (terms_in elements.now)) }
+    ensures { OnOk result
+        (row.new ≡ row.old ++ next_variables_in_elements (terms_in elements.now)) }
 {
     for e in elements {
         push_next_variables(e, row)?;

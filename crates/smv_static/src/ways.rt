@@ -26,8 +26,10 @@ fn add_edges(graph: &mut Graph, row: &[u32]) -> Result<(), AllocError>
 fn add_node(graph: &mut Graph, base: &[u32], extra: &[u32]) -> Result<(), AllocError>
     requires { IsStarted graph.old.firsts.items graph.old.targets.items }
     ensures started { OnOk result (IsStarted graph.new.firsts.items graph.new.targets.items) }
-    ensures firsts { OnOk result (graph.new.firsts.items ≡ graph.old.firsts.items ++ length graph.new.targets.items ∷ []) }
-    ensures targets { OnOk result (graph.new.targets.items ≡ graph.old.targets.items ++ (base.now ++ extra.now)) }
+    ensures firsts { OnOk result
+        (graph.new.firsts.items ≡ graph.old.firsts.items ++ length graph.new.targets.items ∷ []) }
+    ensures targets { OnOk result
+        (graph.new.targets.items ≡ graph.old.targets.items ++ (base.now ++ extra.now)) }
 {
     add_edges(graph, base)?;
     add_edges(graph, extra)?;
@@ -44,7 +46,8 @@ fn graph_of(
     requires base { IsBelow variables base.now }
     requires extra { IsBelow variables extra.now }
     ensures started { IfOk result (λ g. IsStarted g.firsts.items g.targets.items) }
-    ensures rows { IfOk result (λ g. HasRows base.now extra.now variables variables g.firsts.items g.targets.items) }
+    ensures rows { IfOk result
+        (λ g. HasRows base.now extra.now variables variables g.firsts.items g.targets.items) }
 {
     let mut graph = Graph::new(alloc)?;
     for x in 0..variables {

@@ -35,7 +35,8 @@ flat_reason (FlatRefusal.NameIsConstant l) = on_line (codes "E12") l
 flat_reason (FlatRefusal.BadIndex l) = on_line (codes "E13") l
 flat_reason (FlatRefusal.BadType l) = on_line (codes "E14") l
 flat_reason (FlatRefusal.NotAssignable l) = on_line (codes "E15") l
-flat_reason (FlatRefusal.Limit l which counted) = on_line (codes "E16") l ++ codes " " ++ limit_word which ++ codes " " ++ decimal counted
+flat_reason (FlatRefusal.Limit l which counted)
+    = on_line (codes "E16") l ++ codes " " ++ limit_word which ++ codes " " ++ decimal counted
 flat_reason FlatRefusal.Memory = []
 
 -- which static rule a flat model breaks
@@ -79,4 +80,5 @@ after_text m (Some t) = numbered (given_text (codes " next(") (codes ")=") m t) 
 
 -- the fault of an item, its line, and the values at which it comes
 abbrev pub fault_reason : System → FaultKind → ℕ → State → Option State → List ℕ
-fault_reason m kind l here after = on_line (codes "E23") l ++ codes " " ++ kind_word kind ++ here_text m here ++ after_text m after
+fault_reason m kind l here after
+    = on_line (codes "E23") l ++ codes " " ++ kind_word kind ++ here_text m here ++ after_text m after

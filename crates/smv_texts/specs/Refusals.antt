@@ -28,7 +28,8 @@ pub data Refusal : Type 0 where
   -- of the specifications that the words name by numbers, this is the first that isn't there or holds a path operator
   NoLeaf : (spec : ℕ) → Refusal
   -- an item of its model faults: the first one, at its least pair of states, of which the second is told where the item has `next`
-  Faults : (m : System) → (kind : FaultKind) → (line : ℕ) → (here : State) → (after : Option State) → Refusal
+  Faults : (m : System) → (kind : FaultKind) → (line : ℕ) → (here : State) → (after : Option State)
+      → Refusal
 
 -- whether it is a fault of an item, which a full store may keep from being found
 abbrev pub is_fault : Refusal → Bool

@@ -61,7 +61,8 @@ witness_lines m (Unknown limit) = []
 
 abbrev pub left_out_lines : ℕ → Option ℕ → List ℕ
 left_out_lines j None = []
-left_out_lines j (Some size) = line (codes "proof " ++ decimal j ++ codes " left out: length " ++ decimal size)
+left_out_lines j (Some size)
+    = line (codes "proof " ++ decimal j ++ codes " left out: length " ++ decimal size)
 
 -- the line on which specification j stands
 abbrev pub line_of : System → ℕ → ℕ
@@ -69,10 +70,13 @@ line_of m j = (slice_index_or m.specs j (record { expr = Term.Var 0; line = 0 })
 
 -- the number and the line of specification j, which is printed as j + 1
 abbrev pub spec_text : System → ℕ → List ℕ
-spec_text m j = codes "spec " ++ decimal (j + 1) ++ codes " line " ++ decimal (line_of m j) ++ codes " "
+spec_text m j
+    = codes "spec " ++ decimal (j + 1) ++ codes " line " ++ decimal (line_of m j) ++ codes " "
 
 abbrev pub finding_lines : System → ℕ → Finding → List ℕ
-finding_lines m j f = line (spec_text m j ++ verdict_text f.outcome) ++ witness_lines m f.outcome ++ left_out_lines (j + 1) f.left_out
+finding_lines m j f
+    = line (spec_text m j ++ verdict_text f.outcome) ++ witness_lines m f.outcome ++ left_out_lines
+    (j + 1) f.left_out
 
 -- ---- the whole
 
@@ -101,8 +105,10 @@ is_unknown f = is_unknown_outcome f.outcome
     is_unknown_outcome (Unknown limit) = true
 
 abbrev pub total_line : List Finding → List ℕ
-total_line fs = line (codes "total " ++ decimal (length fs) ++ codes " true " ++ decimal (count_by is_true fs)
-    ++ codes " false " ++ decimal (count_by is_false fs) ++ codes " unknown " ++ decimal (count_by is_unknown fs))
+total_line fs
+    = line (codes "total " ++ decimal (length fs) ++ codes " true " ++ decimal (count_by is_true fs)
+    ++ codes " false " ++ decimal (count_by is_false fs) ++ codes " unknown " ++ decimal
+    (count_by is_unknown fs))
 
 -- the report of one finding for each specification, in order
 abbrev pub report : System → List Finding → List ℕ

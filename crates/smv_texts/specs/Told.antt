@@ -33,4 +33,5 @@ told Memory = None
 -- the reply is the line of a refusal
 abbrev pub TellsRefusal : Option refusals.Refusal → Reply → Type 0
 TellsRefusal o reply = IsSomeAnd o
-    (λ r. (reply.text.items ≡ refusal_line r) × (reply.ending ≡ ModelRefused) × (reply.saves ≡ None))
+    (λ r. (reply.text.items ≡ refusal_line r) × (reply.ending ≡ ModelRefused)
+    × (reply.saves ≡ None))

@@ -9,7 +9,8 @@ AddsText old block new (Some size) =
     (new ≡ old) × (size ≡ length old + length block) × (most_bytes < size)
 
 -- the same of the bytes that are saved under a name, if they are
-abbrev pub AddsToSaved : Option (List ℕ × List ℕ) → List ℕ → Option (List ℕ × List ℕ) → Option ℕ → Type 0
+abbrev pub AddsToSaved : Option (List ℕ × List ℕ) → List ℕ → Option (List ℕ × List ℕ) → Option ℕ
+    → Type 0
 AddsToSaved None block new left_out = (new ≡ None) × (left_out ≡ None)
 AddsToSaved (Some saved) block new left_out =
     (after : List ℕ) × (new ≡ Some (saved.0, after)) × AddsText saved.1 block after left_out

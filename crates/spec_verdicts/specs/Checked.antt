@@ -16,7 +16,9 @@ use Rattle.spec_verdicts.specs.Verdicts.{AreVerdicts, ShowStates}
 abbrev pub EndsWith : System → ℕ → List Finding → Ending → Type 0
 EndsWith m limit fs Clear = (count_by is_unknown fs ≡ 0) × (count_by is_false fs ≡ 0)
 EndsWith m limit fs Failed = (count_by is_unknown fs ≡ 0) × (0 < count_by is_false fs)
-EndsWith m limit fs (Undecided held) = All (IsMet m limit) held.items × (0 < length held.items) × (length held.items ≡ count_by is_unknown fs)
+EndsWith m limit fs (Undecided held)
+    = All (IsMet m limit) held.items × (0 < length held.items)
+    × (length held.items ≡ count_by is_unknown fs)
 EndsWith m limit fs ending = ⊥
 
 -- no proof is left out
@@ -41,10 +43,12 @@ pub record IsChecked (m : System) (limit : ℕ) (proofs : Option (List ℕ)) (r 
 
 -- nothing is known of any specification
 abbrev pub all_unknown : System → ℕ → List Finding
-all_unknown m limit = replicate (length m.specs) (record { outcome = Unknown limit; left_out = None })
+all_unknown m limit
+    = replicate (length m.specs) (record { outcome = Unknown limit; left_out = None })
 
 -- The limit was met before any was tried: nothing is known, and one full store is the evidence.
-pub record LeavesUnknown (m : System) (limit : ℕ) (proofs : Option (List ℕ)) (r : Reply) : Type 0 where
+pub record LeavesUnknown (m : System) (limit : ℕ) (proofs : Option (List ℕ))
+    (r : Reply) : Type 0 where
   pub held : Vec Held
   pub full : Held
   pub one : held.items ≡ full ∷ []

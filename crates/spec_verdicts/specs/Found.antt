@@ -15,7 +15,8 @@ abbrev pub IsFoundOf : System → ℕ → Ctl → Finding → Type 0
 IsFoundOf m limit f finding = IsVerdict m limit f finding.outcome × ShowsState m f finding.outcome
 
 -- what is found of each of these specifications, the full stores that show it, and the proofs of it
-pub record AreFound (m : System) (limit : ℕ) (proofs : Option (List ℕ)) (cs : List Condition) (found : Findings) : Type 0 where
+pub record AreFound (m : System) (limit : ℕ) (proofs : Option (List ℕ)) (cs : List Condition)
+    (found : Findings) : Type 0 where
   pub each : EachFinding (IsFoundOf m limit) cs (map finding_of found.findings.items)
   pub held : All (IsMet m limit) found.held.items
   pub count : length found.held.items ≡ count_by is_unknown (map finding_of found.findings.items)

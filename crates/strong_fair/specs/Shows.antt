@@ -43,8 +43,10 @@ Stays m T W = (s t : State) → IsState m s → IsState m t → T s → Step m s
 -- what a row has to show, of the states W that are left and those of its set among them, T
 abbrev pub RowShows : System → List Pair → Left → Left → Reason → Type 0
 RowShows m pairs W T reasons.Dead = HasNoStep m T W
-RowShows m pairs W T (reasons.Avoid k) = IsConstraint m k × Stays m T W × HasNone m T (IsTrueAt m (k - 1))
-RowShows m pairs W T (reasons.Pair i) = Stays m T W × IsSomeAnd (pair_at pairs i) (λ pair. HasNone m T (HoldsAt m pair.q))
+RowShows m pairs W T (reasons.Avoid k)
+    = IsConstraint m k × Stays m T W × HasNone m T (IsTrueAt m (k - 1))
+RowShows m pairs W T (reasons.Pair i)
+    = Stays m T W × IsSomeAnd (pair_at pairs i) (λ pair. HasNone m T (HoldsAt m pair.q))
 
 -- the row takes the state away: by a pair only where its p holds
 abbrev pub Takes : System → List Pair → Left → Reason → Left
@@ -60,7 +62,8 @@ Behind m pairs W T reason s = W s × (Takes m pairs T reason s → ⊥)
 abbrev pub RowsShow : System → List Pair → Left → List (Row StateSet) → Type 0
 RowsShow m pairs W [] = (s : State) → IsState m s → W s → ⊥
 RowsShow m pairs W (row ∷ rows) =
-    RowShows m pairs W (InRow row.set W) row.reason × RowsShow m pairs (Behind m pairs W (InRow row.set W) row.reason) rows
+    RowShows m pairs W (InRow row.set W) row.reason
+    × RowsShow m pairs (Behind m pairs W (InRow row.set W) row.reason) rows
 
 -- no strong path, as all paths stay in a set of which the rows leave nothing
 pub record IsCertificate (m : System) (pairs : List Pair) (c : Certificate StateSet) : Type 0 where

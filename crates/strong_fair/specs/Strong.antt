@@ -15,7 +15,8 @@ pub record Pair : Type 0 where
 
 -- for each pair with a state of p on the cycle there is a state of q on the cycle
 abbrev pub IsCompassionate : System → List Pair → Lasso → Type 0
-IsCompassionate m pairs lasso = All (λ pair. Any (HoldsAt m pair.p) lasso.cycle → Any (HoldsAt m pair.q) lasso.cycle) pairs
+IsCompassionate m pairs lasso
+    = All (λ pair. Any (HoldsAt m pair.p) lasso.cycle → Any (HoldsAt m pair.q) lasso.cycle) pairs
 
 -- a fair, compassionate path from an initial state
 pub record IsStrongPath (m : System) (pairs : List Pair) (lasso : Lasso) : Type 0 where

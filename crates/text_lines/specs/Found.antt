@@ -12,12 +12,19 @@ GoodIf Good true line = Good line
 GoodIf Good false line = Unit {0}
 
 -- lines have texts, and some keep the rules; a part fits, and has these lines
-module _ {Line X : Type 0} (text : Line → List ℕ) (Good : Line → Type 0) (Fits : X → Type 0) (lines : X → List Line) where
+module _ {Line X : Type 0} (text : Line → List ℕ) (Good : Line → Type 0) (Fits : X → Type 0)
+    (lines : X → List Line) where
   -- Stops: no part goes on at the line. Breaks: some part does, but none whose lines keep the rules. End: the lines end within a part.
   abbrev pub IsFault : Place → Place → Fault → Type 0
-  IsFault old new (Stops l) = (k : ℕ) × (l ≡ old.line + k) × ((asked : Bool) → StopsAt text (GoodIf Good asked) Fits lines (lines_in old.left) k)
-  IsFault old new (Breaks l) = (k : ℕ) × (l ≡ old.line + k) × StopsAt text Good Fits lines (lines_in old.left) k × Begins text (GoodIf Good false) Fits lines (take (k + 1) (lines_in old.left))
-  IsFault old new End = Ends text Good Fits lines (lines_in old.left) × (new.line ≡ old.line + length (lines_in old.left))
+  IsFault old new (Stops l)
+      = (k : ℕ) × (l ≡ old.line + k)
+      × ((asked : Bool) → StopsAt text (GoodIf Good asked) Fits lines (lines_in old.left) k)
+  IsFault old new (Breaks l)
+      = (k : ℕ) × (l ≡ old.line + k) × StopsAt text Good Fits lines (lines_in old.left) k
+      × Begins text (GoodIf Good false) Fits lines (take (k + 1) (lines_in old.left))
+  IsFault old new End
+      = Ends text Good Fits lines (lines_in old.left)
+      × (new.line ≡ old.line + length (lines_in old.left))
   IsFault old new Memory = Unit {0}
 
   -- the part stands at the old place, and the new place is behind it

@@ -32,4 +32,5 @@ onto_rest c (text ∷ texts) rest = rest
 -- what stands behind the last line feed, or all bytes where there is none
 abbrev pub rest_in : List ℕ → List ℕ
 rest_in [] = []
-rest_in (c ∷ bytes) = if c == 10 then rest_in bytes else onto_rest c (lines_in bytes) (rest_in bytes)
+rest_in (c ∷ bytes)
+    = if c == 10 then rest_in bytes else onto_rest c (lines_in bytes) (rest_in bytes)

@@ -52,8 +52,10 @@ abbrev pub IsJudged : System → Ctl → Lasso → Judged → Type 0
 IsJudged m f p found.Shape = IsTrue (is_traceable f) → ⊥
 IsJudged m f p found.Initial = IsTrue (is_traceable f) × (Initial m (at p 0) → ⊥)
 IsJudged m f p (found.Step n) = IsTrue (is_traceable f) × Initial m (at p 0) × IsFirstBreak m p n
-IsJudged m f p (found.Unfair k) = IsTrue (is_traceable f) × Initial m (at p 0) × IsPath m p × IsFirstUnmet m p k
-IsJudged m f p found.Property = IsTrue (is_traceable f) × Initial m (at p 0) × IsFair m p × (FalsifiesFrom m (at p) f 0 → ⊥)
+IsJudged m f p (found.Unfair k)
+    = IsTrue (is_traceable f) × Initial m (at p 0) × IsPath m p × IsFirstUnmet m p k
+IsJudged m f p found.Property
+    = IsTrue (is_traceable f) × Initial m (at p 0) × IsFair m p × (FalsifiesFrom m (at p) f 0 → ⊥)
 IsJudged m f p found.Accepted = IsWitness m f p
 
 -- of a trace file: by the formula of its specification

@@ -9,7 +9,8 @@ use Rattle.trace_files.specs.declared.refusals.TraceRefusal.{TraceRefusal}
 -- the bytes are refused for one reason at most, and they are a trace or refused
 pub record AreRefusedOnce (m : System) (bytes : List ℕ) : Type 0 where
   pub one_reason : (r q : TraceRefusal) → Refuses m bytes r → Refuses m bytes q → r ≡ q
-  pub not_neither : ((t : Trace) → Spells m t bytes → ⊥) → ((r : TraceRefusal) → Refuses m bytes r → ⊥) → ⊥
+  pub not_neither : ((t : Trace) → Spells m t bytes → ⊥)
+      → ((r : TraceRefusal) → Refuses m bytes r → ⊥) → ⊥
 
 -- they are one trace at most, and no trace is refused
 pub record AreOneTrace (m : System) (bytes : List ℕ) : Type 0 where

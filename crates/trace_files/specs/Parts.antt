@@ -13,8 +13,10 @@ use Rattle.text_lines.specs.declared.faults.Fault.{Fault}
 use Rattle.trace_files.specs.Trace.{value_line, state_lines, loop_line}
 
 -- a line is its text, and there are no rules that a line of a trace could break
-abbrev pub Finds : {X : Type 0} → (X → Type 0) → (X → List (List ℕ)) → Place → Result X Fault → Place → Type 0
-Finds Fits lines old result new = IsFound (λ (l : List ℕ). l) (λ l. Unit {0}) Fits lines old result new
+abbrev pub Finds : {X : Type 0} → (X → Type 0) → (X → List (List ℕ)) → Place → Result X Fault
+    → Place → Type 0
+Finds Fits lines old result new
+    = IsFound (λ (l : List ℕ). l) (λ l. Unit {0}) Fits lines old result new
 
 -- the next line begins with these bytes
 abbrev pub BeginsWith : List ℕ → Place → Type 0
@@ -54,7 +56,9 @@ ending_lines m p = lines_until (later_state m) one_loop [] p.0 p.1
 
 -- these states stand there, and the line behind them begins none
 abbrev pub AreAllLater : System → Place → List State → Place → Type 0
-AreAllLater m old states new = Finds (FitEach (λ _. IsState m) []) (lines_of_many (later_state m) []) old (Ok states) new × ¬ BeginsWith (codes "state ") new
+AreAllLater m old states new
+    = Finds (FitEach (λ _. IsState m) []) (lines_of_many (later_state m) []) old (Ok states) new
+    × ¬ BeginsWith (codes "state ") new
 
 -- what is read of them
 abbrev pub in_ending : Result (Vec State × ℕ) Fault → Result (List State × ℕ) Fault

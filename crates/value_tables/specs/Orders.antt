@@ -69,7 +69,9 @@ any_greater v strict marks = list_any (λ (m : Mark). not (is_lesser strict m) &
 
 -- a mark of the lesser side before one of the greater side, both with value 1
 abbrev pub is_pair : (ℕ → Bool) → Bool → Mark → Mark → Bool
-is_pair v strict m n = (is_lesser strict m && v m.region) && ((not (is_lesser strict n) && v n.region) && is_before m n)
+is_pair v strict m n
+    = (is_lesser strict m && v m.region)
+    && ((not (is_lesser strict n) && v n.region) && is_before m n)
 
 abbrev pub any_pair : (ℕ → Bool) → Bool → List Mark → Bool
 any_pair v strict marks = list_any (λ (m : Mark). list_any (is_pair v strict m) marks) marks

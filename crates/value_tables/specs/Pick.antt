@@ -27,14 +27,17 @@ negated_value v = as_boolean v >>= λ b. Ok (truth_of (not b))
 
 -- numbers go from -2^31 to 2^31 - 1
 abbrev pub in_bounds : ℤ → Checked Value
-in_bounds i = if int_le (negsuc 2147483647) i && int_le i (pos 2147483647) then Ok (Number i) else Err FaultKind.Overflow
+in_bounds i = if int_le (negsuc 2147483647) i
+    && int_le i (pos 2147483647) then Ok (Number i) else Err FaultKind.Overflow
 
 abbrev pub arithmetic : BinOp → ℤ → ℤ → Checked Value
 arithmetic BinOp.Mul i j = in_bounds (i *ℤ j)
-arithmetic BinOp.Div i j = if int_eq j (pos 0) then Err FaultKind.ZeroDivisor else in_bounds (int_div i j)
+arithmetic BinOp.Div i j
+    = if int_eq j (pos 0) then Err FaultKind.ZeroDivisor else in_bounds (int_div i j)
 arithmetic BinOp.Add i j = in_bounds (i +ℤ j)
 arithmetic BinOp.Sub i j = in_bounds (i -ℤ j)
-arithmetic BinOp.Mod i j = if int_eq j (pos 0) then Err FaultKind.ZeroDivisor else in_bounds (int_rem i j)
+arithmetic BinOp.Mod i j
+    = if int_eq j (pos 0) then Err FaultKind.ZeroDivisor else in_bounds (int_rem i j)
 arithmetic op i j = Err FaultKind.NotNumber
 
 -- what arithmetic makes of two values

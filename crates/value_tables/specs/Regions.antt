@@ -23,7 +23,9 @@ has_value s rows bits v = list_any (λ (r : Row). same v r.value && value_of s r
 
 -- some row of this fault has value 1 at the bits
 abbrev pub has_fault : Store → List FaultRow → List Bool → FaultKind → Bool
-has_fault s faults bits kind = list_any (λ (f : FaultRow). fault_number kind == fault_number f.kind && value_of s f.region bits) faults
+has_fault s faults bits kind
+    = list_any (λ (f : FaultRow). fault_number kind == fault_number f.kind
+    && value_of s f.region bits) faults
 
 abbrev pub among_faults : FaultKind → List FaultKind → Bool
 among_faults kind kinds = list_any (λ k. fault_number kind == fault_number k) kinds
@@ -55,9 +57,12 @@ faults_in [] = []
 faults_in (c ∷ cells) = faults_of c.reading c.region ++ faults_in cells
 
 -- at each pair of states the rows with value 1 are those of the expression's values, and the fault rows with value 1 are those of its fault
-pub record AreRegions (s : Store) (c : Coding) (m : System) (e : Term) (rows : List Row) (faults : List FaultRow) : Type 0 where
-  pub values_listed : (here next : State) → IsState m here → IsState m next → (v : Value) → has_value s rows (pair_code c here next) v ≡ among v (values m e here next)
-  pub faults_listed : (here next : State) → IsState m here → IsState m next → (kind : FaultKind) → has_fault s faults (pair_code c here next) kind ≡ is_fault_kind kind (eval m e here next)
+pub record AreRegions (s : Store) (c : Coding) (m : System) (e : Term) (rows : List Row)
+    (faults : List FaultRow) : Type 0 where
+  pub values_listed : (here next : State) → IsState m here → IsState m next → (v : Value)
+      → has_value s rows (pair_code c here next) v ≡ among v (values m e here next)
+  pub faults_listed : (here next : State) → IsState m here → IsState m next → (kind : FaultKind)
+      → has_fault s faults (pair_code c here next) kind ≡ is_fault_kind kind (eval m e here next)
   pub values_differ : AreOnceValues (map (λ (r : Row). r.value) rows)
   pub kinds_differ : AreOnceFaults (map (λ (f : FaultRow). f.kind) faults)
   pub rows_are_there : All (λ (r : Row). Has s r.region) rows

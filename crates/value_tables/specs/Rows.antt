@@ -6,4 +6,7 @@ use Rattle.bit_encode.specs.Rows.{variable, model_with}
 
 -- low and high are booleans
 abbrev pub counter_model : System
-counter_model = model_with [] (variable (108 ∷ 111 ∷ 119 ∷ []) (Number (pos 0) ∷ Number (pos 1) ∷ []) ∷ variable (104 ∷ 105 ∷ 103 ∷ 104 ∷ []) (Number (pos 0) ∷ Number (pos 1) ∷ []) ∷ [])
+counter_model
+    = model_with []
+    (variable (108 ∷ 111 ∷ 119 ∷ []) (Number (pos 0) ∷ Number (pos 1) ∷ [])
+    ∷ variable (104 ∷ 105 ∷ 103 ∷ 104 ∷ []) (Number (pos 0) ∷ Number (pos 1) ∷ []) ∷ [])

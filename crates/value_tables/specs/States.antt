@@ -16,7 +16,8 @@ level_at c next x b = 2 * bit_place c x b + (if next then 1 else 0)
 -- m bits of variable x from bit b on
 abbrev pub bits_from : Coding → Bool → ℕ → List Bool → ℕ → ℕ → List Bool
 bits_from c next x bits b zero = []
-bits_from c next x bits b (suc m) = slice_index_or bits (level_at c next x b) false ∷ bits_from c next x bits (b + 1) m
+bits_from c next x bits b (suc m)
+    = slice_index_or bits (level_at c next x b) false ∷ bits_from c next x bits (b + 1) m
 
 -- the number that the bits of variable x spell
 unfoldable pub code_shown : Coding → Bool → List Bool → ℕ → ℕ
@@ -28,7 +29,9 @@ is_code beyond k n = if beyond then nat_le k n else nat_eq k n
 
 -- the value of variable x; a code past the last value stands for the last value
 abbrev pub value_shown : Coding → Bool → List Bool → ℕ → Value
-value_shown c next bits x = slice_index_or (values_of c.types x) (min (code_shown c next bits x) (length (values_of c.types x) - 1)) (Number (pos 0))
+value_shown c next bits x
+    = slice_index_or (values_of c.types x)
+    (min (code_shown c next bits x) (length (values_of c.types x) - 1)) (Number (pos 0))
 
 abbrev pub values_shown : Coding → Bool → List Bool → ℕ → ℕ → State
 values_shown c next bits x zero = []
@@ -52,7 +55,9 @@ abbrev pub pair_code : Coding → State → State → List Bool
 pair_code c s t = alternated (code c s) (code c t)
 
 abbrev pub elements_meaning : Coding → System → Bool → Terms → List Bool → Checked (List Value)
-elements_meaning c m next es bits = eval_elements m es (state_shown c next bits) (state_shown c Bool.true bits)
+elements_meaning c m next es bits
+    = eval_elements m es (state_shown c next bits) (state_shown c Bool.true bits)
 
 abbrev pub arms_meaning : Coding → System → Bool → Arms → List Bool → Checked (List Value)
-arms_meaning c m next arms bits = eval_arms m arms (state_shown c next bits) (state_shown c Bool.true bits)
+arms_meaning c m next arms bits
+    = eval_arms m arms (state_shown c next bits) (state_shown c Bool.true bits)

@@ -75,7 +75,8 @@ goes_on (Ok true) = false
 goes_on (Ok false) = true
 
 -- the cells of a store for a result at each list of bits, with at most one value where that is said
-pub record IsTable (s : Store) (cells : List Cell) (single : Bool) (f : List Bool → Checked (List Value)) : Type 0 where
+pub record IsTable (s : Store) (cells : List Cell) (single : Bool)
+    (f : List Bool → Checked (List Value)) : Type 0 where
   pub regions : AreCells s cells
   pub reads : (bits : List Bool) → Reads (λ r. value_of s r bits) cells (f bits)
   pub at_most_one : single ≡ true → (bits : List Bool) → IsSingle (f bits)
@@ -122,13 +123,15 @@ abbrev pub paired : BinOp → Checked Value → Checked Value → Checked Value
 paired op a b = a >>= λ x. b >>= λ y. outcome op x y
 
 -- an operand, with what is known of its values
-pub record IsOperand (v : ℕ → Bool) (cells : List Cell) (single : Bool) (c : Checked (List Value)) : Type 0 where
+pub record IsOperand (v : ℕ → Bool) (cells : List Cell) (single : Bool)
+    (c : Checked (List Value)) : Type 0 where
   pub reads : Reads v cells c
   pub proper : IsProper c
   pub few : single ≡ true → IsSingle c
 
 -- the cells of a store for a list of values at each list of bits
-pub record IsSetTable (s : Store) (cells : List Cell) (f : List Bool → Checked (List Value)) : Type 0 where
+pub record IsSetTable (s : Store) (cells : List Cell)
+    (f : List Bool → Checked (List Value)) : Type 0 where
   pub regions : AreCells s cells
   pub reads : (bits : List Bool) → Reads (λ r. value_of s r bits) cells (f bits)
 

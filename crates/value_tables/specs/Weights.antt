@@ -21,7 +21,8 @@ weights s cells = sum_by (λ (c : Cell). weight s c.region) cells
 
 -- for how many of them two regions both have value 1
 abbrev pub overlap : Store → ℕ → ℕ → ℕ
-overlap s q r = sum_over (levels_of s) (λ bits. if value_of s q bits && value_of s r bits then 1 else 0)
+overlap s q r
+    = sum_over (levels_of s) (λ bits. if value_of s q bits && value_of s r bits then 1 else 0)
 
 abbrev pub overlaps : Store → List Cell → ℕ → ℕ
 overlaps s cells r = sum_by (λ (c : Cell). overlap s c.region r) cells
@@ -32,4 +33,5 @@ pub record AreApart (s : Store) (cells : List Cell) : Type 0 where
 
 -- the cells are those of an operand
 pub record AreOperands (s : Store) (cells : List Cell) (single : Bool) : Type 0 where
-  pub result : (bits : List Bool) → (c : Checked (List Value)) × IsOperand (λ r. value_of s r bits) cells single c
+  pub result : (bits : List Bool) → (c : Checked (List Value))
+      × IsOperand (λ r. value_of s r bits) cells single c

@@ -12,4 +12,5 @@ numbers (suc n) = numbers n ++ Number (pos n) ∷ []
 
 -- x : 0..n-1; y : 0..n-1
 abbrev pub range_model : ℕ → System
-range_model n = model_with [] (variable (120 ∷ []) (numbers n) ∷ variable (121 ∷ []) (numbers n) ∷ [])
+range_model n
+    = model_with [] (variable (120 ∷ []) (numbers n) ∷ variable (121 ∷ []) (numbers n) ∷ [])
