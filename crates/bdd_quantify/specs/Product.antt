@@ -1,5 +1,5 @@
 -- The conjunction of two diagrams with some levels quantified.
-use Rattle.std.specs.Prelude.{◌≡◌, ℕ, ◌+◌, ◌≤◌, Bool, ◌&&◌, ◌==◌, if◌then◌else◌, List, length}
+use Rattle.std.specs.Prelude.{◌≡◌, ℕ, ◌+◌, ◌<◌, ◌≤◌, Bool, ◌&&◌, ◌==◌, if◌then◌else◌, List, length, slice_index}
 use Rattle.bdd_nodes.specs.declared.store.Store.{Store}
 use Rattle.bdd_nodes.specs.Store.{Has, value_of}
 use Rattle.bdd_ops.specs.declared.key.Key.{Key}
@@ -25,3 +25,7 @@ pub record IsEntry (s : Store) (lists : List (List ℕ)) (f g r p : ℕ) : Type 
 -- the cache's key: a true operand is left out
 abbrev pub key_of : ℕ → ℕ → ℕ → Key
 key_of f g p = if g == 1 then Exists f p else (if f == 1 then Exists g p else AndExists f g p)
+
+-- the levels at the places before this one lie above a level
+abbrev pub ArePassed : List ℕ → ℕ → ℕ → Type 0
+ArePassed levels from level = (k : ℕ) → k < from → k < length levels → slice_index levels k < level

@@ -1,6 +1,6 @@
-use Rattle.std.proofs.Common.{sym, ◌∙◌}
-use Rattle.bdd_quantify.proofs.Levels.{not_found}
+use Rattle.std.proofs.lemmas.Bool.{eqb-false}
+use Rattle.bdd_quantify.proofs.Levels.{not_there}
 use Rattle.bdd_quantify.proofs.level.names.Goals as goal
 
 pub returns-clause-unnamed : goal.returns-clause-unnamed
-returns-clause-unnamed c = λ e k inside. not_found c.args.levels.now c.args.level c.binary_search.result c.requires c.binary_search.ensures.position (sym c.is_ok.ensures.value ∙ e) k inside
+returns-clause-unnamed c = λ e k inside. not_there c.args.levels.now c.args.from c.args.level c.requires.rise c.requires.passed c.requires.reached (eqb-false _ _ e) k inside
