@@ -20,7 +20,7 @@ use std::num::NonZeroUsize;
 const SLOTS: usize = 0x10_0000;
 
 /// The most slots that a memo begins with.
-const FIRST_SLOTS: usize = 1024;
+const FIRST_SLOTS: usize = 256;
 
 /// An entry in a slot, with the round in which it came.
 #[derive(Clone, Copy)]
