@@ -60,7 +60,8 @@ SomeOperand P (Ite f g h) = P f ⊎ (P g ⊎ P h)
 -- the child of a number for a bit of this level: the number itself where its level is another
 unfoldable pub part_of : List Triple → ℕ → Bool → ℕ → ℕ
 part_of table level bit r
-    = option_map_or (λ (t : Triple). if t.level == level then (if bit then t.high else t.low) else r)
+    = option_map_or
+    (λ (t : Triple). if t.level == level then (if bit then t.high else t.low) else r)
     (node_of table r) r
 
 -- the operands don't show the answer

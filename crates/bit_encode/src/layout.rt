@@ -68,7 +68,8 @@ impl Model for Layout {
 
     ghost view = { λ l. record { types = l.domains.items; order = l.order.items } };
 
-    ghost invariant = { λ l. IsLaidOut (record { types = l.domains.items; order = l.order.items }) l.firsts.items l.bits };
+    ghost invariant = { λ l. IsLaidOut
+        (record { types = l.domains.items; order = l.order.items }) l.firsts.items l.bits };
 }
 
 impl Layout {

@@ -120,7 +120,8 @@ pub(crate) fn push_certificate(
     certificate: &NodeCertificate,
 ) -> Result<(), AllocError>
     ensures { OnOk result (text.new ≡ text.old
-        ++ text_of (certificate_lines certificate.now.nodes.items (certificate_of certificate.now))) }
+        ++ text_of
+        (certificate_lines certificate.now.nodes.items (certificate_of certificate.now))) }
 {
     push_table(text, &certificate.nodes)?;
     push_sets(text, certificate.inside, &certificate.rows)

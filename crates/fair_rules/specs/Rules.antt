@@ -68,7 +68,9 @@ pub record MeetsAU (m : System) (avoided : List StateSet) (nonfair : List Layer)
     (layers : List Layer) : Type 0 where
   pub inside : (k : ℕ) → IsInside m (layer_at layers k).states (λ s. s ∈ f)
   pub moves : (k : ℕ) → IsInside m (layer_at layers k).states
-      (EachNext m (λ t. (t ∈ g) ⊎ (InSomeLayer nonfair t ⊎ (InEarlierLayer layers k t ⊎ Stays avoided layers k t))))
+      (EachNext m
+      (λ t. (t ∈ g)
+      ⊎ (InSomeLayer nonfair t ⊎ (InEarlierLayer layers k t ⊎ Stays avoided layers k t))))
 
 -- the set lies in g, and each state is in f, or each next state is in the set or has no fair path
 pub record MeetsAR (m : System) (nonfair : List Layer) (f g set : StateSet) : Type 0 where

@@ -167,7 +167,11 @@ impl Search {
             → j < length self.old.stack.items
             → node self.old.stack.items i ≡ node self.old.stack.items j → i ≡ j }
         requires low { bottom ≤ length self.old.stack.items }
-        ensures ranks { OnOk result (RanksFrom bottom circular self.old.stack.items self.old.marks.items self.new.marks.items self.old.order.items self.new.order.items self.old.circular.items self.new.circular.items (length self.old.stack.items)) }
+        ensures ranks { OnOk result
+            (RanksFrom bottom circular self.old.stack.items self.old.marks.items
+            self.new.marks.items self.old.order.items self.new.order.items
+            self.old.circular.items self.new.circular.items
+            (length self.old.stack.items)) }
         ensures stack { OnOk result (self.new.stack.items ≡ self.old.stack.items) }
         ensures path { OnOk result (self.new.path.items ≡ self.old.path.items) }
         ensures bounds { OnOk result (self.new.bounds.items ≡ self.old.bounds.items) }
@@ -240,7 +244,9 @@ impl Search {
 /// for strong components).
 pub fn order_of(alloc: Global, graph: &Graph) -> Result<Order, AllocError>
     requires { IsGraph graph.now.firsts.items graph.now.targets.items }
-    ensures { IfOk result (λ o. Orders graph.now.firsts.items graph.now.targets.items o.order.items o.circular.items) }
+    ensures { IfOk result
+        (λ o. Orders graph.now.firsts.items graph.now.targets.items o.order.items
+        o.circular.items) }
 {
     let count = graph.firsts.len() - 1;
     let mut search = Search::new(alloc, count)?;

@@ -15,7 +15,8 @@ use Rattle.path_laws.specs.Invariant.{invariant, Violates}
 -- among more places of a sequence of states than the model has states, two show one state
 abbrev pub StatesRepeat : System → Type 0
 StatesRepeat m
-    = (w : ℕ → State) → ((i : ℕ) → i ≤ state_count m → IsState m (w i)) → Collision w (state_count m)
+    = (w : ℕ → State) → ((i : ℕ) → i ≤ state_count m → IsState m (w i))
+    → Collision w (state_count m)
 
 -- a run goes on to a fair path that begins with it
 abbrev pub RunsExtend : System → Type 0

@@ -34,7 +34,10 @@ impl<T> Model for FairPart<T> {
 
     ghost Value = { plain.FairPart T };
 
-    ghost view = { λ p. record { inside = p.inside; reach = map (λ sets. sets.items) p.reach.items } };
+    ghost view = { λ p. record {
+      inside = p.inside;
+      reach = map (λ sets. sets.items) p.reach.items;
+    } };
 }
 
 /// What is given for one sign of a temporal node, by the rule of its operator and sign.
@@ -104,7 +107,11 @@ impl<T> Model for FreePart<T> {
 
     ghost Value = { plain.FreePart T };
 
-    ghost view = { λ p. record { nonfair = p.nonfair.items; fair = p.fair; entries = p.entries.items } };
+    ghost view = { λ p. record {
+      nonfair = p.nonfair.items;
+      fair = p.fair;
+      entries = p.entries.items;
+    } };
 }
 
 /// A proof of a specification, or that it fails.

@@ -25,4 +25,5 @@ entry_head_line h = Words (codes "entry" ∷ signed_words h)
 -- it has the rule of its sign of a node of the formula, and comes behind these entries
 abbrev pub FitsEntryHead : Ctl → List (Entry ℕ) → EntryHead → Type 0
 FitsEntryHead f earlier h
-    = HasRule f (bare_entry h) × All (λ a. ComesBefore a (bare_entry h)) earlier × IsSmallHead h.rule
+    = HasRule f (bare_entry h) × All (λ a. ComesBefore a (bare_entry h)) earlier
+    × IsSmallHead h.rule

@@ -26,5 +26,6 @@ free_head_line h = Words (codes "centry" ∷ free_words h)
 -- it has the rule of its sign of a node of its constraint's formula, and comes behind these entries
 abbrev pub FitsFreeHead : System → List (FreeEntry ℕ) → FreeHead → Type 0
 FitsFreeHead m earlier h
-    = HasConstraintRule m (bare_free_entry h) × All (λ a. StandsBefore a (bare_free_entry h)) earlier
+    = HasConstraintRule m (bare_free_entry h)
+    × All (λ a. StandsBefore a (bare_free_entry h)) earlier
     × IsSmallHead h.entry.rule

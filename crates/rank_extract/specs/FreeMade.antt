@@ -32,7 +32,8 @@ numbered_from k (es ∷ parts) = map (numbered k) es ++ numbered_from (k + 1) pa
 abbrev pub AreOfFormula : System → List StateSet → StateSet → StateSet → Ctl → List (Entry StateSet)
     → Type 0
 AreOfFormula m visited Z fair f es
-    = (at : ℕ → NodeView) × AreComputed m visited Z fair at f 1 × (es ≡ wanted fair at f 1 true true)
+    = (at : ℕ → NodeView) × AreComputed m visited Z fair at f 1
+    × (es ≡ wanted fair at f 1 true true)
 
 -- or there are none, where it is a leaf
 abbrev pub AreBothSigns : System → List StateSet → StateSet → StateSet → Ctl → List (Entry StateSet)

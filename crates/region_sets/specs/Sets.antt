@@ -101,7 +101,8 @@ IsCount pins live
 -- constraint k, counted from 1, holds no path operator
 abbrev pub IsLeafConstraint : System → ℕ → Type 0
 IsLeafConstraint m k
-    = MatchOption (slice_get m.constraints (k - 1)) (Unit {0}) (λ c. has_path_operator c.expr ≡ false)
+    = MatchOption (slice_get m.constraints (k - 1)) (Unit {0})
+    (λ c. has_path_operator c.expr ≡ false)
 
 -- constraint k, counted from 1, is true
 abbrev pub MeetsConstraint : System → ℕ → State → Type 0

@@ -62,8 +62,16 @@ fn visit_child<'p>(
         × Enters modules.now p walk.old done s m step.around table left }
     ensures { (p : Plain) (done : List Scope) (s : Scope) (m : Source)
         → Enters modules.now p walk.old done s m step.entry.around table left
-        → MatchResult result (λ n. (n ≡ length done) × Visited modules.now p walk.old walk.new done (instances_from p left (Scope.Inside s step.entry.name.now step.entry.process (map plain_expr step.entry.actuals.now) m)) (length done))
-        (Refused (First (body p) done (instances_from p left (Scope.Inside s step.entry.name.now step.entry.process (map plain_expr step.entry.actuals.now) m)))) }
+        → MatchResult result
+        (λ n. (n ≡ length done)
+        × Visited modules.now p walk.old walk.new done
+        (instances_from p left
+        (Scope.Inside s step.entry.name.now step.entry.process
+        (map plain_expr step.entry.actuals.now) m)) (length done))
+        (Refused (First (body p) done
+        (instances_from p left
+        (Scope.Inside s step.entry.name.now step.entry.process
+        (map plain_expr step.entry.actuals.now) m)))) }
 {
     let number = push_child(alloc, walk, step, table, MOST_DEPTH - left)?;
     visit_body(alloc, modules, walk, number, left)?;
@@ -83,7 +91,9 @@ fn visit_inside<'p>(
         × Goes modules.now p walk.old done s number left }
     ensures { (p : Plain) (done : List Scope) (s : Scope)
         → Goes modules.now p walk.old done s number left
-        → MatchResult result (λ cs. Visited modules.now p walk.old walk.new done (inside p left s) (length done) × Pairs (λ n c. slice_get (done ++ inside p left s) n ≡ Some c) cs.items (children p s))
+        → MatchResult result
+        (λ cs. Visited modules.now p walk.old walk.new done (inside p left s) (length done)
+        × Pairs (λ n c. slice_get (done ++ inside p left s) n ≡ Some c) cs.items (children p s))
         (Refused (First (body p) done (inside p left s))) }
 {
     let mut children = Vec::new(alloc);
@@ -114,7 +124,9 @@ pub fn visit_body<'p>(
         × Begins modules.now p walk.old before s number left }
     ensures { (p : Plain) (before : List Scope) (s : Scope)
         → Begins modules.now p walk.old before s number left
-        → MatchResult result (λ _. Visited modules.now p walk.old walk.new before (instances_from p left s) (length before))
+        → MatchResult result
+        (λ _. Visited modules.now p walk.old walk.new before (instances_from p left s)
+        (length before))
         (Refused (First (body p) before (instances_from p left s))) }
 {
     walk.counts = check_body(alloc, modules, &walk.rows, number, &walk.counts)?;

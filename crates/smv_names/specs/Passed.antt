@@ -40,13 +40,15 @@ IsDecided p at o = (s : Scope) (x : Name) → IsParameter p at s x → LeadsTo p
 
 abbrev pub state_at : States → Parameter → Option State
 state_at states at
-    = option_and_then (λ row. slice_get row.items at.place) (slice_get states.rows.items at.instance)
+    = option_and_then (λ row. slice_get row.items at.place)
+    (slice_get states.rows.items at.instance)
 
 -- each formal parameter has a state, which is right
 pub record AreStates (p : Program) (states : States) : Type 0 where
   pub rows : length states.rows.items ≡ length (instances p)
   pub inside : (at : Parameter) (s : Scope) → scope_at p at.instance ≡ Some s
-      → at.place < length (module_of s).formals → (known : State) × (state_at states at ≡ Some known)
+      → at.place < length (module_of s).formals → (known : State)
+      × (state_at states at ≡ Some known)
   pub formal : (at : Parameter) (s : Scope) (known : State) → scope_at p at.instance ≡ Some s
       → state_at states at ≡ Some known → at.place < length (module_of s).formals
   pub right : (at : Parameter) (o : Option Held) → state_at states at ≡ Some (state.Decided o)

@@ -39,7 +39,8 @@ pub record AreUses (p : Program) (firsts targets : List ℕ) (n : ℕ) : Type 0 
   pub last : slice_index firsts n ≡ length targets
   pub are_numbers : (k : ℕ) → k < length targets → slice_index targets k < length (all_entries p)
   pub each : (v w : ℕ) (a : Abbreviation) → v < n → abbreviation_at p v ≡ Some a
-      → HasEdge firsts targets v w → (b : Abbreviation) × (abbreviation_at p w ≡ Some b) × Uses p a b
+      → HasEdge firsts targets v w → (b : Abbreviation) × (abbreviation_at p w ≡ Some b)
+      × Uses p a b
   pub all : (v : ℕ) (a b : Abbreviation) (text : Scope × Expr) → v < n
       → abbreviation_at p v ≡ Some a → Uses p a b → text_of b ≡ Some text → (w : ℕ)
       × HasEdge firsts targets v w × (abbreviation_at p w ≡ Some b)

@@ -24,7 +24,7 @@ use std::alloc::Global;
 
 /// An expression with its depth.
 #[derive(Drop)]
-pub struct Part {
+pub struct Measured {
     pub expr: Expr,
     pub depth: u32,
     ghost depth_is: { depth ≡ Tree.depth (tree_of expr) },
@@ -32,7 +32,7 @@ pub struct Part {
 
 /// Expressions with the depth of the deepest.
 #[derive(Drop)]
-pub struct Parts {
+pub struct MeasuredList {
     pub items: Vec<Expr>,
     pub depth: u32,
     ghost depth_is: { depth ≡ Tree.trees_depth (Tree.trees_of (map tree_of items.items)) },
@@ -40,7 +40,7 @@ pub struct Parts {
 
 /// Arms with the depth of the deepest.
 #[derive(Drop)]
-pub struct ArmParts {
+pub struct MeasuredArms {
     pub items: Vec<Arm>,
     pub depth: u32,
     ghost depth_is: { depth ≡ Tree.arms_depth (arms_of (map arm_pair items.items)) },
@@ -48,7 +48,7 @@ pub struct ArmParts {
 
 /// What follows the first name of a path, with the depth of the deepest index, and 0 where there is none.
 #[derive(Drop)]
-pub struct PathParts {
+pub struct MeasuredPath {
     pub items: Vec<PathPart>,
     pub depth: u32,
     ghost depth_is: { depth ≡ Tree.parts_depth (parts_of (map part_of items.items)) },
@@ -172,7 +172,7 @@ fn read_closed(
     tokens: &[Token],
     sign: Sign,
     most: u32,
-) -> Result<(Part, &[Token]), Failure>
+) -> Result<(Measured, &[Token]), Failure>
     requires some { 1 ≤ most }
     requires bounded { most < 1000 }
     ensures reads { Gives (λ x. tree_of x.0.expr) (λ x. views x.1.now) result
@@ -187,7 +187,11 @@ fn read_closed(
 
 /// The expressions between braces, with a comma between two.
 #[cycle(reading)]
-fn read_list(alloc: Global, tokens: &[Token], most: u32) -> Result<(Parts, &[Token]), Failure>
+fn read_list(
+    alloc: Global,
+    tokens: &[Token],
+    most: u32,
+) -> Result<(MeasuredList, &[Token]), Failure>
     requires some { 1 ≤ most }
     requires bounded { most < 1000 }
     ensures reads { Gives (λ x. pair_of (map tree_of x.0.items.items)) (λ x. views x.1.now) result
@@ -207,12 +211,16 @@ fn read_list(alloc: Global, tokens: &[Token], most: u32) -> Result<(Parts, &[Tok
         depth = depth.max(next.depth);
         rest = after;
     }
-    Ok((Parts { items, depth }, rest))
+    Ok((MeasuredList { items, depth }, rest))
 }
 
 /// The two expressions of an arm.
 #[cycle(reading)]
-fn read_arm(alloc: Global, tokens: &[Token], most: u32) -> Result<(Part, Part, &[Token]), Failure>
+fn read_arm(
+    alloc: Global,
+    tokens: &[Token],
+    most: u32,
+) -> Result<(Measured, Measured, &[Token]), Failure>
     requires some { 1 ≤ most }
     requires bounded { most < 1000 }
     ensures reads { Gives (λ x. (tree_of x.0.expr, tree_of x.1.expr)) (λ x. views x.2.now) result
@@ -227,7 +235,11 @@ fn read_arm(alloc: Global, tokens: &[Token], most: u32) -> Result<(Part, Part, &
 
 /// The arms of a `case`, at least one.
 #[cycle(reading)]
-fn read_arms(alloc: Global, tokens: &[Token], most: u32) -> Result<(ArmParts, &[Token]), Failure>
+fn read_arms(
+    alloc: Global,
+    tokens: &[Token],
+    most: u32,
+) -> Result<(MeasuredArms, &[Token]), Failure>
     requires some { 1 ≤ most }
     requires bounded { most < 1000 }
     ensures reads { Gives (λ x. arms_pair_of (map arm_pair x.0.items.items))
@@ -254,12 +266,16 @@ fn read_arms(alloc: Global, tokens: &[Token], most: u32) -> Result<(ArmParts, &[
         depth = depth.max(deeper(next.depth, value.depth));
         rest = after;
     }
-    Ok((ArmParts { items, depth }, rest))
+    Ok((MeasuredArms { items, depth }, rest))
 }
 
 /// The two expressions of an until, behind the opening bracket.
 #[cycle(reading)]
-fn read_until(alloc: Global, tokens: &[Token], most: u32) -> Result<(Part, Part, &[Token]), Failure>
+fn read_until(
+    alloc: Global,
+    tokens: &[Token],
+    most: u32,
+) -> Result<(Measured, Measured, &[Token]), Failure>
     requires some { 1 ≤ most }
     requires bounded { most < 1000 }
     ensures reads { Gives (λ x. (tree_of x.0.expr, tree_of x.1.expr)) (λ x. views x.2.now) result
@@ -305,7 +321,11 @@ fn read_part(
 
 /// What follows the first name of a path, each index of at most depth `most`.
 #[cycle(reading)]
-fn read_parts(alloc: Global, tokens: &[Token], most: u32) -> Result<(PathParts, &[Token]), Failure>
+fn read_parts(
+    alloc: Global,
+    tokens: &[Token],
+    most: u32,
+) -> Result<(MeasuredPath, &[Token]), Failure>
     requires { most < 1000 }
     ensures reads { Gives (λ x. map part_of x.0.items.items) (λ x. views x.1.now) result
         (reading.read_parts (read most) most (views tokens.now)) }
@@ -321,7 +341,7 @@ fn read_parts(alloc: Global, tokens: &[Token], most: u32) -> Result<(PathParts, 
         depth = depth.max(its_depth);
         rest = after;
     }
-    Ok((PathParts { items, depth }, rest))
+    Ok((MeasuredPath { items, depth }, rest))
 }
 
 /// A path whose indexes have at most depth `most`.
@@ -356,7 +376,7 @@ fn read_opened<'t>(
     token: &Token,
     rest: &'t [Token],
     most: u32,
-) -> Result<(Part, &'t [Token]), Failure>
+) -> Result<(Measured, &'t [Token]), Failure>
     requires opening { opens (lead_of (tokens.view token.now)) ≡ true }
     requires some { 1 ≤ most }
     requires bounded { most < 1000 }
@@ -373,7 +393,7 @@ fn read_opened<'t>(
             let depth = part.depth + 1;
             let kind = ExprKind::Parens(Box::new(alloc, part.expr)?);
             let expr = Expr { kind, line };
-            Ok((Part { expr, depth }, rest))
+            Ok((Measured { expr, depth }, rest))
         }
         Lead::Next => {
             let rest = after_sign(rest, Sign::OpenParen)?;
@@ -381,14 +401,14 @@ fn read_opened<'t>(
             let depth = part.depth + 1;
             let kind = ExprKind::Next(Box::new(alloc, part.expr)?);
             let expr = Expr { kind, line };
-            Ok((Part { expr, depth }, rest))
+            Ok((Measured { expr, depth }, rest))
         }
         Lead::Prefix(operator) => {
             let (part, rest) = read_expression(alloc, rest, 4, most)?;
             let depth = part.depth + 1;
             let kind = ExprKind::Prefix(operator, Box::new(alloc, part.expr)?);
             let expr = Expr { kind, line };
-            Ok((Part { expr, depth }, rest))
+            Ok((Measured { expr, depth }, rest))
         }
         Lead::Braces => {
             let (parts, rest) = read_list(alloc, rest, most)?;
@@ -396,7 +416,7 @@ fn read_opened<'t>(
             let depth = parts.depth + 1;
             let kind = ExprKind::Braces(parts.items);
             let expr = Expr { kind, line };
-            Ok((Part { expr, depth }, rest))
+            Ok((Measured { expr, depth }, rest))
         }
         Lead::Until(quantifier) => {
             let rest = after_sign(rest, Sign::OpenBracket)?;
@@ -405,7 +425,7 @@ fn read_opened<'t>(
             let boxed = Box::new(alloc, left.expr)?;
             let kind = ExprKind::Until(quantifier, boxed, Box::new(alloc, right.expr)?);
             let expr = Expr { kind, line };
-            Ok((Part { expr, depth }, rest))
+            Ok((Measured { expr, depth }, rest))
         }
         Lead::Case => {
             let (arms, rest) = read_arms(alloc, rest, most)?;
@@ -413,7 +433,7 @@ fn read_opened<'t>(
             let depth = arms.depth + 1;
             let kind = ExprKind::Case(arms.items);
             let expr = Expr { kind, line };
-            Ok((Part { expr, depth }, rest))
+            Ok((Measured { expr, depth }, rest))
         }
         Lead::Name | Lead::Number | Lead::Truth(_) | Lead::Running | Lead::Other => unreachable!(),
     }
@@ -421,7 +441,7 @@ fn read_opened<'t>(
 
 /// What stands left of the first operator. Its parts have at most depth `most`.
 #[cycle(reading)]
-fn read_operand(alloc: Global, tokens: &[Token], most: u32) -> Result<(Part, &[Token]), Failure>
+fn read_operand(alloc: Global, tokens: &[Token], most: u32) -> Result<(Measured, &[Token]), Failure>
     requires { most < 1000 }
     ensures reads { Gives (λ x. tree_of x.0.expr) (λ x. views x.1.now) result
         (operand (read most) most (views tokens.now)) }
@@ -445,14 +465,14 @@ fn read_operand(alloc: Global, tokens: &[Token], most: u32) -> Result<(Part, &[T
         let line = whole.path.line;
         let kind = ExprKind::Path(whole.path);
         let expr = Expr { kind, line };
-        return Ok((Part { expr, depth }, rest));
+        return Ok((Measured { expr, depth }, rest));
     }
     let Some(kind) = constant(token) else {
         return Err(Failure::Syntax(tokens.len()));
     };
     let line = token.line;
     let expr = Expr { kind, line };
-    Ok((Part { expr, depth: 1 }, rest))
+    Ok((Measured { expr, depth: 1 }, rest))
 }
 
 /// An expression whose operators outside brackets have at least this level, of at most this depth.
@@ -462,7 +482,7 @@ pub fn read_expression(
     tokens: &[Token],
     least: u32,
     most: u32,
-) -> Result<(Part, &[Token]), Failure>
+) -> Result<(Measured, &[Token]), Failure>
     requires some { 1 ≤ most }
     requires bounded { most < 1000 }
     ensures reads { Gives (λ x. tree_of x.0.expr) (λ x. views x.1.now) result
@@ -487,5 +507,5 @@ pub fn read_expression(
         depth = depth.max(right.depth) + 1;
         rest = after;
     }
-    Ok((Part { expr: left, depth }, rest))
+    Ok((Measured { expr: left, depth }, rest))
 }

@@ -46,11 +46,15 @@ beside_row = two_processes
 abbrev pub circular_row : System
 circular_row
     = two_processes
-    (assigned Part.Now 1 0 (Term.Var 2) 3 ∷ assigned Part.Next 2 0 (Term.Next (Term.Var 1)) 4 ∷ []) []
+    (assigned Part.Now 1 0 (Term.Var 2) 3
+    ∷ assigned Part.Next 2 0 (Term.Next (Term.Var 1)) 4 ∷ []) []
 
 -- next(a) := next(b); in main and next(b) := next(a); in p; AX a & !b
 abbrev pub apart_row : System
 apart_row = two_processes
     (assigned Part.Next 1 0 (Term.Next (Term.Var 2)) 3
     ∷ assigned Part.Next 2 1 (Term.Next (Term.Var 1)) 4 ∷ [])
-    (record { expr = Term.Binary BinOp.And (Term.Quant PathOp.AX (Term.Var 1)) (Term.Not (Term.Var 2)); line = 5 } ∷ [])
+    (record {
+      expr = Term.Binary BinOp.And (Term.Quant PathOp.AX (Term.Var 1)) (Term.Not (Term.Var 2));
+      line = 5;
+    } ∷ [])

@@ -85,7 +85,8 @@ fn least_of_group(
     bound: usize,
 ) -> usize
     requires flat { IsFlat flat.now }
-    requires tables { HasTables flat.now tables.now.groups.items tables.now.base.items tables.now.processes tables.now.variables }
+    requires tables { HasTables flat.now tables.now.groups.items tables.now.base.items
+        tables.now.processes tables.now.variables }
     ensures { IsLeastAmong (IsFlagged flags.now) flat.now.assigns
         (row tables.now.groups.items group) bound result }
 {
@@ -101,7 +102,8 @@ fn edges_of(
     group: usize,
 ) -> Result<Vec<Row>, AllocError>
     requires flat { IsFlat flat.now }
-    requires tables { HasTables flat.now tables.now.groups.items tables.now.base.items tables.now.processes tables.now.variables }
+    requires tables { HasTables flat.now tables.now.groups.items tables.now.base.items
+        tables.now.processes tables.now.variables }
     ensures table { IfOk result
         (λ rows. IsTable flat.now.assigns (row tables.now.groups.items group) rows.items) }
     ensures below { IfOk result (λ rows. IsBelow tables.now.variables rows.items) }
@@ -115,7 +117,8 @@ fn least_at_start(alloc: Global, flat: &FlatModel, tables: &Tables) -> Result<us
     requires flat { IsFlat flat.now }
     requires twice { Silent (assigned_twice flat.now) }
     requires beside { Silent (current_beside_other flat.now) }
-    requires tables { HasTables flat.now tables.now.groups.items tables.now.base.items tables.now.processes tables.now.variables }
+    requires tables { HasTables flat.now tables.now.groups.items tables.now.base.items
+        tables.now.processes tables.now.variables }
     ensures at_most { IfOk result (λ least. least ≤ length flat.now.assigns) }
     ensures found { IfOk result (λ least. IsFound flat.now (length flat.now.assigns) least) }
     ensures clear { IfOk result (λ least. IsClear flat.now Graph.AtStart least) }
@@ -151,7 +154,8 @@ fn least_in_process(
     requires flat { IsFlat flat.now }
     requires twice { Silent (assigned_twice flat.now) }
     requires beside { Silent (current_beside_other flat.now) }
-    requires tables { HasTables flat.now tables.now.groups.items tables.now.base.items tables.now.processes tables.now.variables }
+    requires tables { HasTables flat.now tables.now.groups.items tables.now.base.items
+        tables.now.processes tables.now.variables }
     requires process { p < tables.now.processes }
     requires bound { bound ≤ length flat.now.assigns }
     requires clear { IsClear flat.now Graph.AtStart bound }

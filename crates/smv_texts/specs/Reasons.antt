@@ -81,4 +81,5 @@ after_text m (Some t) = numbered (given_text (codes " next(") (codes ")=") m t) 
 -- the fault of an item, its line, and the values at which it comes
 abbrev pub fault_reason : System → FaultKind → ℕ → State → Option State → List ℕ
 fault_reason m kind l here after
-    = on_line (codes "E23") l ++ codes " " ++ kind_word kind ++ here_text m here ++ after_text m after
+    = on_line (codes "E23") l ++ codes " " ++ kind_word kind ++ here_text m here
+    ++ after_text m after
