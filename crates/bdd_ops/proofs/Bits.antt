@@ -36,28 +36,27 @@ cases_parity zero = inl (0, refl)
 cases_parity (suc l) = elim (cases_parity l) [ inl h ↦ inr (h.0, omega (arith, h.1)) | inr h ↦ inl (suc h.0, omega (arith, h.1)) ]
 
 -- the exchange reads each bit from its neighbour
+exchanged-bits : (bits : List Bool) (i : ℕ)
+    → (slice_index_or (exchanged bits) (2 * i) false ≡ slice_index_or bits (2 * i + 1) false) × (slice_index_or (exchanged bits) (2 * i + 1) false ≡ slice_index_or bits (2 * i) false)
+exchanged-bits [] i = (refl, refl)
+exchanged-bits (a ∷ []) zero = (refl, refl)
+exchanged-bits (a ∷ []) (suc i) =
+    let e : 2 * suc i ≡ suc (suc (2 * i)) = omega arith in
+    let f : 2 * suc i + 1 ≡ suc (suc (2 * i + 1)) = omega arith in
+    let old = λ (l : ℕ). slice_index_or (a ∷ []) l false in
+    let new = λ (l : ℕ). slice_index_or (false ∷ a ∷ []) l false in
+    (ap new e ∙ sym (ap old f), ap new f ∙ sym (ap old e))
+exchanged-bits (a ∷ b ∷ bits) zero = (refl, refl)
+exchanged-bits (a ∷ b ∷ bits) (suc i) =
+    let e : 2 * suc i ≡ suc (suc (2 * i)) = omega arith in
+    let f : 2 * suc i + 1 ≡ suc (suc (2 * i + 1)) = omega arith in
+    let old = λ (l : ℕ). slice_index_or (a ∷ b ∷ bits) l false in
+    let new = λ (l : ℕ). slice_index_or (b ∷ a ∷ exchanged bits) l false in
+    let rest = exchanged-bits bits i in
+    (ap new e ∙ rest.0 ∙ sym (ap old f), ap new f ∙ rest.1 ∙ sym (ap old e))
+
 pub exchanged-even : (bits : List Bool) (i : ℕ) → slice_index_or (exchanged bits) (2 * i) false ≡ slice_index_or bits (2 * i + 1) false
-exchanged-even [] i = refl
-exchanged-even (a ∷ []) zero = refl
-exchanged-even (a ∷ []) (suc i) =
-    let e : 2 * suc i ≡ suc (suc (2 * i)) = omega arith in
-    let f : 2 * suc i + 1 ≡ suc (suc (2 * i + 1)) = omega arith in
-    ap (λ l. slice_index_or (false ∷ a ∷ []) l false) e ∙ sym (ap (λ l. slice_index_or (a ∷ []) l false) f)
-exchanged-even (a ∷ b ∷ bits) zero = refl
-exchanged-even (a ∷ b ∷ bits) (suc i) =
-    let e : 2 * suc i ≡ suc (suc (2 * i)) = omega arith in
-    let f : 2 * suc i + 1 ≡ suc (suc (2 * i + 1)) = omega arith in
-    ap (λ l. slice_index_or (b ∷ a ∷ exchanged bits) l false) e ∙ exchanged-even bits i ∙ sym (ap (λ l. slice_index_or (a ∷ b ∷ bits) l false) f)
+exchanged-even bits i = (exchanged-bits bits i).0
 
 pub exchanged-odd : (bits : List Bool) (i : ℕ) → slice_index_or (exchanged bits) (2 * i + 1) false ≡ slice_index_or bits (2 * i) false
-exchanged-odd [] i = refl
-exchanged-odd (a ∷ []) zero = refl
-exchanged-odd (a ∷ []) (suc i) =
-    let e : 2 * suc i ≡ suc (suc (2 * i)) = omega arith in
-    let f : 2 * suc i + 1 ≡ suc (suc (2 * i + 1)) = omega arith in
-    ap (λ l. slice_index_or (false ∷ a ∷ []) l false) f ∙ sym (ap (λ l. slice_index_or (a ∷ []) l false) e)
-exchanged-odd (a ∷ b ∷ bits) zero = refl
-exchanged-odd (a ∷ b ∷ bits) (suc i) =
-    let e : 2 * suc i ≡ suc (suc (2 * i)) = omega arith in
-    let f : 2 * suc i + 1 ≡ suc (suc (2 * i + 1)) = omega arith in
-    ap (λ l. slice_index_or (b ∷ a ∷ exchanged bits) l false) f ∙ exchanged-odd bits i ∙ sym (ap (λ l. slice_index_or (a ∷ b ∷ bits) l false) e)
+exchanged-odd bits i = (exchanged-bits bits i).1

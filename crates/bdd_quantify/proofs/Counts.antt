@@ -5,7 +5,7 @@ use Rattle.std.proofs.Math.Nat.{pow-suc, mul-le-mul_left}
 use Rattle.std.proofs.lemmas.Nat.{mul-pow, pow_pos}
 
 -- each side takes at most half of the bound
-half : (levels level top : ℕ) → level < top → level < levels → 2 ^ (levels - top) + 2 ^ (levels - top) ≤ 2 ^ (levels - level)
+pub half : (levels level top : ℕ) → level < top → level < levels → 2 ^ (levels - top) + 2 ^ (levels - top) ≤ 2 ^ (levels - level)
 half levels level top deeper inside =
     let e : 2 ^ suc (levels - top) ≡ 2 ^ (levels - top) * 2 = pow-suc 2 (levels - top) in
     let m : 2 ^ suc (levels - top) ≤ 2 ^ (levels - level) = pow_mono (omega arith) in

@@ -1,16 +1,16 @@
 -- Lemmas on the exchange of neighbouring levels.
-use Rattle.std.proofs.Common.{◌≡◌, ◌≢◌, ℕ, suc, ◌+◌, ◌-◌, ◌*◌, ◌%◌, ◌^◌, ◌<◌, ◌≤◌, inl, inr, Bool, true, false, cond, if◌then◌else◌, List, Some, slice_index_or, sym, ap, subst, ◌∙◌, arith}
-use Rattle.std.proofs.Math.Pow.{pow_mono}
-use Rattle.std.proofs.Math.Nat.{pow-suc}
+use Rattle.std.proofs.Common.{◌≡◌, ◌≢◌, ℕ, ◌+◌, ◌-◌, ◌*◌, ◌%◌, ◌^◌, ◌<◌, ◌≤◌, inl, inr, Bool, true, false, cond, if◌then◌else◌, List, Some, length, slice_index_or, sym, ap, subst, ◌∙◌, arith}
 use Rattle.bdd_nodes.specs.declared.triple.Triple.{Triple}
 use Rattle.bdd_nodes.specs.declared.store.Store.{Store}
 use Rattle.bdd_nodes.specs.Table.{IsGoodNode}
-use Rattle.bdd_nodes.specs.Store.{Has, level_of, node_of, value_of, levels_of, Grows, IsNodeOf}
+use Rattle.bdd_nodes.specs.Store.{triples, Has, level_of, node_of, value_of, levels_of, Grows, IsNodeOf}
 use Rattle.bdd_nodes.proofs.Tables.{node_of-has}
+use Rattle.bdd_nodes.proofs.Canonical.{level_of-node}
 use Rattle.bdd_ops.specs.declared.key.Key.TheVariants.{Rename}
 use Rattle.bdd_ops.specs.Answer.{with_bit, exchanged, IsAnswer}
 use Rattle.bdd_ops.specs.Independence.{DependsOnParity, DependsOnMoved}
 use Rattle.bdd_quantify.specs.Exchange.{neighbour_of}
+use Rattle.bdd_quantify.proofs.Counts.{half}
 use Rattle.bdd_ops.proofs.Bits.{cases_parity, with_bit-commutes, exchanged-even, exchanged-odd}
 use Rattle.bdd_ops.proofs.Depth.{IsAnswer-law}
 use Rattle.bdd_ops.proofs.Values.{depends, value-child, value-made, value-node, value-constant}
@@ -34,15 +34,21 @@ other-level : (even : Bool) (level i : ℕ) → HasParity even level → (if eve
 other-level true level i h = λ e. absurd (omega (arith, h.1, e))
 other-level false level i h = λ e. absurd (omega (arith, h.1, e))
 
--- where the levels come in pairs, the neighbour is one of them
-pub neighbour-inside : (s : Store) → levels_of s % 2 ≡ 0 → (f : ℕ) (t : Triple) → node_of s f ≡ Some t → (even : Bool) → DependsOnParity s even f → neighbour_of even t.level < levels_of s
-neighbour-inside s pairs f t e true p = let h = own-level s f t e true p in omega (arith, pairs, h.1, (s.good.each f t e).inside)
-neighbour-inside s pairs f t e false p = let h = own-level s f t e false p in omega (arith, pairs, h.1, (s.good.each f t e).inside)
+-- a triple whose diagram depends on levels of one parity, where the levels come in pairs
+pub record IsMoved (s : Store) (even : Bool) (f : ℕ) (t : Triple) : Type 0 where
+  pub pairs : levels_of s % 2 ≡ 0
+  pub node : node_of s f ≡ Some t
+  pub parity : DependsOnParity s even f
+
+-- the neighbour is a level
+pub neighbour-inside : (s : Store) (even : Bool) (f : ℕ) (t : Triple) → IsMoved s even f t → neighbour_of even t.level < levels_of s
+neighbour-inside s true f t a = let h = own-level s f t a.node true a.parity in omega (arith, a.pairs, h.1, (s.good.each f t a.node).inside)
+neighbour-inside s false f t a = let h = own-level s f t a.node false a.parity in omega (arith, a.pairs, h.1, (s.good.each f t a.node).inside)
 
 -- and there is one before
-pub neighbour-some : (s : Store) (f : ℕ) (t : Triple) → node_of s f ≡ Some t → (even : Bool) → DependsOnParity s even f → 0 < neighbour_of even t.level + t.level
-neighbour-some s f t e true p = omega arith
-neighbour-some s f t e false p = let h = own-level s f t e false p in omega (arith, h.1)
+pub neighbour-some : (s : Store) (even : Bool) (f : ℕ) (t : Triple) → IsMoved s even f t → 0 < neighbour_of even t.level + t.level
+neighbour-some s true f t a = omega arith
+neighbour-some s false f t a = let h = own-level s f t a.node false a.parity in omega (arith, h.1)
 
 -- a child is smaller, lies deeper and depends on the same levels
 pub record IsChild (s : Store) (even : Bool) (f level child : ℕ) : Type 0 where
@@ -51,26 +57,26 @@ pub record IsChild (s : Store) (even : Bool) (f level child : ℕ) : Type 0 wher
   pub deeper : level < level_of s child
   pub smaller : child < f
 
-pub IsChild-node : (s : Store) (f : ℕ) (t : Triple) → node_of s f ≡ Some t → (even : Bool) → DependsOnParity s even f → (bit : Bool) → IsChild s even f t.level (cond bit t.high t.low)
-IsChild-node s f t e even p bit = record {
+pub child : (s : Store) (even : Bool) (f : ℕ) (t : Triple) → IsMoved s even f t → (bit : Bool) → IsChild s even f t.level (cond bit t.high t.low)
+child s even f t a bit = record {
   has = by bit (λ x. Has s x) (omega (arith, g.low_earlier, has.0)) (omega (arith, g.high_earlier, has.0));
   parity = λ i bits b.
-      value-child s.levels s.nodes.keys s.good f t e (with_bit bits (other i) b) bit
+      value-child s.levels s.nodes.keys s.good f t a.node (with_bit bits (other i) b) bit
       ∙ ap (value_of s f) (with_bit-commutes bits (other i) t.level b bit (other-level even t.level i own))
-      ∙ p i (with_bit bits t.level bit) b
-      ∙ sym (value-child s.levels s.nodes.keys s.good f t e bits bit);
+      ∙ a.parity i (with_bit bits t.level bit) b
+      ∙ sym (value-child s.levels s.nodes.keys s.good f t a.node bits bit);
   deeper = by bit (λ x. t.level < level_of s x) g.low_deeper g.high_deeper;
   smaller = by bit (λ x. x < f) g.low_earlier g.high_earlier;
 }
   where
     g : IsGoodNode s.levels s.nodes.keys f t
-    g = s.good.each f t e
+    g = s.good.each f t a.node
 
     has : Has s f × (2 ≤ f)
-    has = node_of-has s.nodes.keys f t e
+    has = node_of-has s.nodes.keys f t a.node
 
     own : HasParity even t.level
-    own = own-level s f t e even p
+    own = own-level s f t a.node even a.parity
 
     other : ℕ → ℕ
     other i = if even then 2 * i + 1 else 2 * i
@@ -114,29 +120,35 @@ pub IsAnswer-constant : (s : Store) (lists : List (List ℕ)) (even : Bool) (f :
 IsAnswer-constant s lists even f has p h = IsAnswer-law s lists (Rename f even) f has (omega arith) has (λ bits. value-constant s.nodes.keys f h bits (exchanged bits)) (depends-moved s even f p)
 
 -- the answer of a triple from those of its children
-pub IsAnswer-whole : (old new : Store) → Grows old new → (lists : List (List ℕ)) (f : ℕ) (t : Triple) → node_of old f ≡ Some t → (even : Bool) → DependsOnParity old even f → (low high r : ℕ)
+pub IsAnswer-whole : (old new : Store) → Grows old new → (lists : List (List ℕ)) (even : Bool) (f : ℕ) (t : Triple) → IsMoved old even f t → (low high r : ℕ)
     → IsAnswer new lists (Rename t.low even) low → IsAnswer new lists (Rename t.high even) high → Has new r → IsNodeOf new (neighbour_of even t.level) low high r → IsAnswer new lists (Rename f even) r
-IsAnswer-whole old new g lists f t e even p low high r a b has node =
-    let there = (node_of-has old.nodes.keys f t e).0 in
+IsAnswer-whole old new g lists even f t m low high r a b has node =
+    let there = (node_of-has old.nodes.keys f t m.node).0 in
     IsAnswer-law new lists (Rename f even) r (g.has f there) (omega arith) has (λ bits.
     value-made new.levels new.nodes.keys new.good (neighbour_of even t.level) low high r node.equal node.node bits
-    ∙ (λ j. cond (neighbour-bit even t.level (own-level old f t e even p) bits j) (b.value bits j) (a.value bits j))
-    ∙ sym (value-node new.levels new.nodes.keys new.good f t (g.node f there ∙ e) (exchanged bits))) (depends-moved new even f (DependsOnParity-grows old new g even f there p))
+    ∙ (λ j. cond (neighbour-bit even t.level (own-level old f t m.node even m.parity) bits j) (b.value bits j) (a.value bits j))
+    ∙ sym (value-node new.levels new.nodes.keys new.good f t (g.node f there ∙ m.node) (exchanged bits))) (depends-moved new even f (DependsOnParity-grows old new g even f there m.parity))
 
--- each side takes at most half of the bound
-half : (levels level top : ℕ) → level < top → level < levels → 2 ^ (levels - top) + 2 ^ (levels - top) ≤ 2 ^ (levels - level)
-half levels level top deeper inside =
-    let e : 2 ^ suc (levels - top) ≡ 2 ^ (levels - top) * 2 = pow-suc 2 (levels - top) in
-    let m : 2 ^ suc (levels - top) ≤ 2 ^ (levels - level) = pow_mono (omega arith) in
-    omega arith
+-- so many triples are within the bound of a call
+abbrev pub IsWithin : ℕ → ℕ → Store → Type 0
+IsWithin f n s = n ≤ length (triples s) + 2 ^ (levels_of s - level_of s f)
+
+-- a triple's level, by its diagram
+top : (s : Store) (f : ℕ) (t : Triple) → node_of s f ≡ Some t → (level_of s f ≡ t.level) × (level_of s f < s.levels)
+top s f t e = let same = level_of-node s.levels s.nodes.keys f t e in (same, omega (arith, same, (s.good.each f t e).inside))
 
 -- what one side added, and both
-pub count-low : (levels level top before after : ℕ) → level < top → level < levels → after + 1 ≤ before + 2 ^ (levels - top) → after + 1 ≤ before + 2 ^ (levels - level)
-count-low levels level top before after deeper inside h = let two = half levels level top deeper inside in omega arith
+pub low-within : (s : Store) (even : Bool) (f : ℕ) (t : Triple) → IsMoved s even f t → (after : ℕ) → IsWithin t.low (after + 1) s → IsWithin f (after + 1) s
+low-within s even f t a after h =
+    let level = top s f t a.node in
+    let two = half s.levels (level_of s f) (level_of s t.low) (omega (arith, level.0, (child s even f t a false).deeper)) level.1 in
+    omega (arith, h, two)
 
-pub count-high : (levels level low high before between after : ℕ) → level < low → level < high → level < levels
-    → between + 1 ≤ before + 2 ^ (levels - low) → after + 1 ≤ between + 2 ^ (levels - high) → after + 2 ≤ before + 2 ^ (levels - level)
-count-high levels level low high before between after a b inside h i =
-    let one = half levels level low a inside in
-    let two = half levels level high b inside in
-    omega arith
+pub both-within : (s new : Store) → Grows s new → (even : Bool) (f : ℕ) (t : Triple) → IsMoved s even f t → (after : ℕ) → IsWithin t.low (length (triples new) + 1) s → IsWithin t.high (after + 1) new → IsWithin f (after + 2) s
+both-within s new g even f t a after h i =
+    let level = top s f t a.node in
+    let high = child s even f t a true in
+    let same : 2 ^ (new.levels - level_of new t.high) ≡ 2 ^ (s.levels - level_of s t.high) = λ j. 2 ^ (g.levels j - g.level t.high high.has j) in
+    let one = half s.levels (level_of s f) (level_of s t.low) (omega (arith, level.0, (child s even f t a false).deeper)) level.1 in
+    let two = half s.levels (level_of s f) (level_of s t.high) (omega (arith, level.0, high.deeper)) level.1 in
+    omega (arith, h, i, same, one, two)

@@ -11,6 +11,7 @@ use Rattle.bdd_ops.specs.Answer.{some_choice, list_at, meaning_of, IsAnswer}
 use Rattle.bdd_ops.proofs.AnswerLemmas.{some_choice-same}
 use Rattle.bdd_ops.proofs.Depth.{IsAnswer-law}
 use Rattle.bdd_ops.proofs.Parts.{part_of-grows, part_of-value, part_of-le, part_of-less, part_of-deeper}
+use Rattle.bdd_quantify.specs.declared.node.Sides.{Sides}
 use Rattle.bdd_quantify.specs.Product.{product_of, IsProduct, key_of}
 use Rattle.bdd_ops.proofs.Values.{value-above, value-made}
 use Rattle.bdd_ops.proofs.Choices.{IsAway, Rises, Ignores, IsBranch, some_choice-ignored, some_choice-branch, some_choice-named}
@@ -110,26 +111,26 @@ IsProduct-past old new w ls f g level r hf hg top past has value = record {
     ignores l less bits b = λ j. value-above old.levels old.nodes.keys old.good f hf l (omega arith) bits b j && value-above old.levels old.nodes.keys old.good g hg l (omega arith) bits b j
 
 -- two diagrams at their least level, and their children there
-pub record AreSides (s : Store) (f g level fl gl fh gh : ℕ) : Type 0 where
+pub record AreSides (s : Store) (f g : ℕ) (n : Sides) : Type 0 where
   pub has_f : Has s f
   pub has_g : Has s g
   pub some : 2 ≤ max f g
-  pub top : level ≡ min (level_of s f) (level_of s g)
-  pub low_f : fl ≡ part_of (triples s) level false f
-  pub low_g : gl ≡ part_of (triples s) level false g
-  pub high_f : fh ≡ part_of (triples s) level true f
-  pub high_g : gh ≡ part_of (triples s) level true g
+  pub top : n.level ≡ min (level_of s f) (level_of s g)
+  pub low_f : n.low.0 ≡ part_of (triples s) n.level false f
+  pub low_g : n.low.1 ≡ part_of (triples s) n.level false g
+  pub high_f : n.high.0 ≡ part_of (triples s) n.level true f
+  pub high_g : n.high.1 ≡ part_of (triples s) n.level true g
 
-pub AreSides-grows : (old new : Store) → Grows old new → (f g level fl gl fh gh : ℕ) → AreSides old f g level fl gl fh gh → AreSides new f g level fl gl fh gh
-AreSides-grows old new w f g level fl gl fh gh a = record {
+pub AreSides-grows : (old new : Store) → Grows old new → (f g : ℕ) (n : Sides) → AreSides old f g n → AreSides new f g n
+AreSides-grows old new w f g n a = record {
   has_f = w.has f a.has_f;
   has_g = w.has g a.has_g;
   some = a.some;
   top = a.top ∙ sym (λ j. min (w.level f a.has_f j) (w.level g a.has_g j));
-  low_f = a.low_f ∙ sym (part_of-grows old.nodes.keys new.nodes.keys w.triples level false f a.has_f);
-  low_g = a.low_g ∙ sym (part_of-grows old.nodes.keys new.nodes.keys w.triples level false g a.has_g);
-  high_f = a.high_f ∙ sym (part_of-grows old.nodes.keys new.nodes.keys w.triples level true f a.has_f);
-  high_g = a.high_g ∙ sym (part_of-grows old.nodes.keys new.nodes.keys w.triples level true g a.has_g);
+  low_f = a.low_f ∙ sym (part_of-grows old.nodes.keys new.nodes.keys w.triples n.level false f a.has_f);
+  low_g = a.low_g ∙ sym (part_of-grows old.nodes.keys new.nodes.keys w.triples n.level false g a.has_g);
+  high_f = a.high_f ∙ sym (part_of-grows old.nodes.keys new.nodes.keys w.triples n.level true f a.has_f);
+  high_g = a.high_g ∙ sym (part_of-grows old.nodes.keys new.nodes.keys w.triples n.level true g a.has_g);
 }
 
 -- the children on one side are smaller together and lie deeper
@@ -140,8 +141,8 @@ pub record IsSide (s : Store) (f g level x y : ℕ) : Type 0 where
   pub deep_y : level < level_of s y
   pub smaller : x + y < f + g
 
-module _ (s : Store) (f g level fl gl fh gh : ℕ) (a : AreSides s f g level fl gl fh gh) where
-  pub sides-inside : level < levels_of s
+module _ (s : Store) (f g : ℕ) (n : Sides) (a : AreSides s f g n) where
+  pub sides-inside : n.level < levels_of s
   sides-inside = elim (cases_lt f 2) [
     | inl constant ↦ omega (arith, a.top, inside g a.has_g (omega (arith, a.some)))
     | inr other ↦ omega (arith, a.top, inside f a.has_f other)
@@ -150,72 +151,72 @@ module _ (s : Store) (f g level fl gl fh gh : ℕ) (a : AreSides s f g level fl 
       inside : (r : ℕ) → Has s r → 2 ≤ r → level_of s r < levels_of s
       inside r has two = let node = node_of-some s.nodes.keys r has two in omega (arith, level_of-node s.levels s.nodes.keys r node.0 node.1, (s.good.each r node.0 node.1).inside)
 
-  side : (bit : Bool) (x y : ℕ) → x ≡ part_of (triples s) level bit f → y ≡ part_of (triples s) level bit g → IsSide s f g level x y
+  side : (bit : Bool) (x y : ℕ) → x ≡ part_of (triples s) n.level bit f → y ≡ part_of (triples s) n.level bit g → IsSide s f g n.level x y
   side bit x y ex ey = record {
     has_x = omega (arith, ex, below_f, a.has_f);
     has_y = omega (arith, ey, below_g, a.has_g);
-    deep_x = omega (arith, ap (level_of s) ex, part_of-deeper s.levels s.nodes.keys s.good level bit f a.has_f (omega (arith, a.top)) sides-inside);
-    deep_y = omega (arith, ap (level_of s) ey, part_of-deeper s.levels s.nodes.keys s.good level bit g a.has_g (omega (arith, a.top)) sides-inside);
+    deep_x = omega (arith, ap (level_of s) ex, part_of-deeper s.levels s.nodes.keys s.good n.level bit f a.has_f (omega (arith, a.top)) sides-inside);
+    deep_y = omega (arith, ap (level_of s) ey, part_of-deeper s.levels s.nodes.keys s.good n.level bit g a.has_g (omega (arith, a.top)) sides-inside);
     smaller = elim (cases_lt (level_of s g) (level_of s f)) [
-      | inl less ↦ omega (arith, ex, ey, below_f, part_of-less s.levels s.nodes.keys s.good level bit g a.has_g (omega (arith, a.top)) sides-inside)
-      | inr more ↦ omega (arith, ex, ey, below_g, part_of-less s.levels s.nodes.keys s.good level bit f a.has_f (omega (arith, a.top)) sides-inside)
+      | inl less ↦ omega (arith, ex, ey, below_f, part_of-less s.levels s.nodes.keys s.good n.level bit g a.has_g (omega (arith, a.top)) sides-inside)
+      | inr more ↦ omega (arith, ex, ey, below_g, part_of-less s.levels s.nodes.keys s.good n.level bit f a.has_f (omega (arith, a.top)) sides-inside)
     ];
   }
     where
-      below_f : part_of (triples s) level bit f ≤ f
-      below_f = part_of-le s.levels s.nodes.keys s.good level bit f a.has_f
+      below_f : part_of (triples s) n.level bit f ≤ f
+      below_f = part_of-le s.levels s.nodes.keys s.good n.level bit f a.has_f
 
-      below_g : part_of (triples s) level bit g ≤ g
-      below_g = part_of-le s.levels s.nodes.keys s.good level bit g a.has_g
+      below_g : part_of (triples s) n.level bit g ≤ g
+      below_g = part_of-le s.levels s.nodes.keys s.good n.level bit g a.has_g
 
-  pub sides-low : IsSide s f g level fl gl
-  sides-low = side false fl gl a.low_f a.low_g
+  pub sides-low : IsSide s f g n.level n.low.0 n.low.1
+  sides-low = side false n.low.0 n.low.1 a.low_f a.low_g
 
-  pub sides-high : IsSide s f g level fh gh
-  sides-high = side true fh gh a.high_f a.high_g
+  pub sides-high : IsSide s f g n.level n.high.0 n.high.1
+  sides-high = side true n.high.0 n.high.1 a.high_f a.high_g
 
   -- the conjunction is that of the side which the bit chooses
-  branch : IsBranch level (λ bs. value_of s f bs && value_of s g bs) (λ bs. value_of s fh bs && value_of s gh bs) (λ bs. value_of s fl bs && value_of s gl bs)
-  branch bits = by (slice_index_or bits level false) refl
+  branch : IsBranch n.level (λ bs. value_of s f bs && value_of s g bs) (λ bs. value_of s n.high.0 bs && value_of s n.high.1 bs) (λ bs. value_of s n.low.0 bs && value_of s n.low.1 bs)
+  branch bits = by (slice_index_or bits n.level false) refl
     where
-      by : (x : Bool) → slice_index_or bits level false ≡ x → (value_of s f bits && value_of s g bits) ≡ cond x (value_of s fh bits && value_of s gh bits) (value_of s fl bits && value_of s gl bits)
-      by true e = sym (λ j. (ap (λ x. value_of s x bits) a.high_f ∙ part_of-value s.levels s.nodes.keys s.good level true bits e f a.has_f) j
-          && (ap (λ x. value_of s x bits) a.high_g ∙ part_of-value s.levels s.nodes.keys s.good level true bits e g a.has_g) j)
-      by false e = sym (λ j. (ap (λ x. value_of s x bits) a.low_f ∙ part_of-value s.levels s.nodes.keys s.good level false bits e f a.has_f) j
-          && (ap (λ x. value_of s x bits) a.low_g ∙ part_of-value s.levels s.nodes.keys s.good level false bits e g a.has_g) j)
+      by : (x : Bool) → slice_index_or bits n.level false ≡ x → (value_of s f bits && value_of s g bits) ≡ cond x (value_of s n.high.0 bits && value_of s n.high.1 bits) (value_of s n.low.0 bits && value_of s n.low.1 bits)
+      by true e = sym (λ j. (ap (λ x. value_of s x bits) a.high_f ∙ part_of-value s.levels s.nodes.keys s.good n.level true bits e f a.has_f) j
+          && (ap (λ x. value_of s x bits) a.high_g ∙ part_of-value s.levels s.nodes.keys s.good n.level true bits e g a.has_g) j)
+      by false e = sym (λ j. (ap (λ x. value_of s x bits) a.low_f ∙ part_of-value s.levels s.nodes.keys s.good n.level false bits e f a.has_f) j
+          && (ap (λ x. value_of s x bits) a.low_g ∙ part_of-value s.levels s.nodes.keys s.good n.level false bits e g a.has_g) j)
 
-  ignores : (x y : ℕ) → Has s x → Has s y → level < level_of s x → level < level_of s y → Ignores (λ bs. value_of s x bs && value_of s y bs) level
-  ignores x y hx hy dx dy bits b = λ j. value-above s.levels s.nodes.keys s.good x hx level dx bits b j && value-above s.levels s.nodes.keys s.good y hy level dy bits b j
+  ignores : (x y : ℕ) → Has s x → Has s y → n.level < level_of s x → n.level < level_of s y → Ignores (λ bs. value_of s x bs && value_of s y bs) n.level
+  ignores x y hx hy dx dy bits b = λ j. value-above s.levels s.nodes.keys s.good x hx n.level dx bits b j && value-above s.levels s.nodes.keys s.good y hy n.level dy bits b j
 
-  module _ (ls : List ℕ) (low high : ℕ) (p : IsProduct s ls fl gl low) where
-    pub low-deeper : level < level_of s low
-    low-deeper = omega (arith, product-deep s ls fl gl low p, sides-low.deep_x, sides-low.deep_y)
+  module _ (ls : List ℕ) (low high : ℕ) (p : IsProduct s ls n.low.0 n.low.1 low) where
+    pub low-deeper : n.level < level_of s low
+    low-deeper = omega (arith, product-deep s ls n.low.0 n.low.1 low p, sides-low.deep_x, sides-low.deep_y)
 
     -- a named level: either side
-    named-value : Rises ls → (k : ℕ) → k < length ls → slice_index_or ls k 0 ≡ level → (bits : List Bool) → product_of s ls f g bits ≡ (product_of s ls fl gl bits || product_of s ls fh gh bits)
+    named-value : Rises ls → (k : ℕ) → k < length ls → slice_index_or ls k 0 ≡ n.level → (bits : List Bool) → product_of s ls f g bits ≡ (product_of s ls n.low.0 n.low.1 bits || product_of s ls n.high.0 n.high.1 bits)
     named-value rises k inside at bits =
-        some_choice-named level (λ bs. value_of s f bs && value_of s g bs) (λ bs. value_of s fh bs && value_of s gh bs) (λ bs. value_of s fl bs && value_of s gl bs) branch
-        (ignores fh gh sides-high.has_x sides-high.has_y sides-high.deep_x sides-high.deep_y)
-        (ignores fl gl sides-low.has_x sides-low.has_y sides-low.deep_x sides-low.deep_y) ls rises k inside at bits
+        some_choice-named n.level (λ bs. value_of s f bs && value_of s g bs) (λ bs. value_of s n.high.0 bs && value_of s n.high.1 bs) (λ bs. value_of s n.low.0 bs && value_of s n.low.1 bs) branch
+        (ignores n.high.0 n.high.1 sides-high.has_x sides-high.has_y sides-high.deep_x sides-high.deep_y)
+        (ignores n.low.0 n.low.1 sides-low.has_x sides-low.has_y sides-low.deep_x sides-low.deep_y) ls rises k inside at bits
 
     -- one side that is true decides
-    pub IsProduct-true : low ≡ 1 → Rises ls → (k : ℕ) → k < length ls → slice_index_or ls k 0 ≡ level → IsProduct s ls f g low
+    pub IsProduct-true : low ≡ 1 → Rises ls → (k : ℕ) → k < length ls → slice_index_or ls k 0 ≡ n.level → IsProduct s ls f g low
     IsProduct-true one rises k inside at = record {
       has_f = a.has_f;
       has_g = a.has_g;
       has = p.has;
-      value = λ bits. is_true bits ∙ sym (named-value rises k inside at bits ∙ ap (λ x. x || product_of s ls fh gh bits) (sym (p.value bits) ∙ is_true bits));
+      value = λ bits. is_true bits ∙ sym (named-value rises k inside at bits ∙ ap (λ x. x || product_of s ls n.high.0 n.high.1 bits) (sym (p.value bits) ∙ is_true bits));
     }
       where
         is_true : (bits : List Bool) → value_of s low bits ≡ true
         is_true bits = ap (λ x. value_of s x bits) one ∙ value_of-true s.nodes.keys bits
 
-    module _ (q : IsProduct s ls fh gh high) where
-      pub high-deeper : level < level_of s high
-      high-deeper = omega (arith, product-deep s ls fh gh high q, sides-high.deep_x, sides-high.deep_y)
+    module _ (q : IsProduct s ls n.high.0 n.high.1 high) where
+      pub high-deeper : n.level < level_of s high
+      high-deeper = omega (arith, product-deep s ls n.high.0 n.high.1 high q, sides-high.deep_x, sides-high.deep_y)
 
       -- the disjunction of both sides
-      pub IsProduct-union : (new : Store) → Grows s new → Rises ls → (k : ℕ) → k < length ls → slice_index_or ls k 0 ≡ level → (r : ℕ) → Has new r → ((bits : List Bool) → value_of new r bits ≡ (value_of s low bits || value_of s high bits)) → IsProduct new ls f g r
+      pub IsProduct-union : (new : Store) → Grows s new → Rises ls → (k : ℕ) → k < length ls → slice_index_or ls k 0 ≡ n.level → (r : ℕ) → Has new r → ((bits : List Bool) → value_of new r bits ≡ (value_of s low bits || value_of s high bits)) → IsProduct new ls f g r
       IsProduct-union new w rises k inside at r has value = record {
         has_f = w.has f a.has_f;
         has_g = w.has g a.has_g;
@@ -224,13 +225,13 @@ module _ (s : Store) (f g level fl gl fh gh : ℕ) (a : AreSides s f g level fl 
       }
 
       -- the triple of both sides
-      pub IsProduct-node : IsAway level ls → (r : ℕ) → Has s r → IsNodeOf s level low high r → IsProduct s ls f g r
+      pub IsProduct-node : IsAway n.level ls → (r : ℕ) → Has s r → IsNodeOf s n.level low high r → IsProduct s ls f g r
       IsProduct-node away r has node = record {
         has_f = a.has_f;
         has_g = a.has_g;
         has = has;
         value = λ bits.
-            value-made s.levels s.nodes.keys s.good level low high r node.equal node.node bits
-            ∙ (λ j. cond (slice_index_or bits level false) (q.value bits j) (p.value bits j))
-            ∙ sym (some_choice-branch level (λ bs. value_of s f bs && value_of s g bs) (λ bs. value_of s fh bs && value_of s gh bs) (λ bs. value_of s fl bs && value_of s gl bs) branch ls away bits);
+            value-made s.levels s.nodes.keys s.good n.level low high r node.equal node.node bits
+            ∙ (λ j. cond (slice_index_or bits n.level false) (q.value bits j) (p.value bits j))
+            ∙ sym (some_choice-branch n.level (λ bs. value_of s f bs && value_of s g bs) (λ bs. value_of s n.high.0 bs && value_of s n.high.1 bs) (λ bs. value_of s n.low.0 bs && value_of s n.low.1 bs) branch ls away bits);
       }
