@@ -10,3 +10,4 @@ pub mod Bits
 pub mod Values
 pub mod Choices
 pub mod Depth
+pub mod Kept

@@ -6,3 +6,4 @@ pub mod Answer
 pub mod Independence
 pub mod Cost
 pub mod Engine
+pub mod Kept

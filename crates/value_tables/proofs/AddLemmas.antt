@@ -14,7 +14,7 @@ use Rattle.bdd_nodes.proofs.Tables.{value_of-false}
 use Rattle.kripke_model.specs.declared.expressions.Value.{Value}
 use Rattle.kripke_model.specs.Evaluation.{Checked}
 use Rattle.value_tables.specs.declared.cells.Cell.{Cell}
-use Rattle.value_tables.specs.Work.{IsRegion}
+use Rattle.bdd_ops.specs.Kept.{IsRegion}
 use Rattle.value_tables.specs.Cells.{same_reading, shows, AreCells, AreOnce, readings_in}
 use Rattle.value_tables.proofs.ReadingLists.{same_reading-true, once_push}
 use Rattle.value_tables.proofs.RegionLemmas.{never_true, has-grows, any_cell-grows}

@@ -84,6 +84,11 @@ only_element (x ∷ y ∷ es) e one is = absurd (omega (arith, one))
 pub only_nodes : (es : List Expr) (e : Expr) → es ≡ e ∷ [] → element_nodes (terms_in es) ≡ node_count (term_of e)
 only_nodes es e is = omega (arith, ap (λ (xs : List Expr). element_nodes (terms_in xs)) is)
 
+pub only_evaluable : (m : System) (es : List Expr) (e : Expr) → es ≡ e ∷ [] → IsEvaluable m (Term.Braces (terms_in es)) → IsEvaluable m (term_of e)
+only_evaluable m es e is h =
+    let good : IsEvaluable m (term_of e) × AreEvaluable m (terms_in []) = subst (λ (xs : List Expr). IsEvaluable m (Term.Braces (terms_in xs))) is h in
+    good.0
+
 -- ---- tables
 
 pub IsSetTable-grows : (s z : Store) → Grows s z → (cells : List Cell) (f : List Bool → Checked (List Value)) → IsSetTable s cells f → IsSetTable z cells f
@@ -153,6 +158,26 @@ element_table z c m next es e is cells single h = subst (λ (xs : List Expr). Is
   regions = h.regions;
   reads = λ bits. reads_as _ cells (meaning_of c m next (term_of e) bits) _ (sym (values_last (meaning_of c m next (term_of e) bits))) (h.reads bits);
 }
+
+single_distinct : (c : Checked (List Value)) → IsSingle c → IsSingle (c >>= λ vs. Ok (distinct vs))
+single_distinct (Ok []) h = omega arith
+single_distinct (Ok (v ∷ [])) h = omega arith
+single_distinct (Ok (v ∷ w ∷ vs)) h = absurd (omega (arith, h))
+single_distinct (Err kind) h = tt
+
+-- the table of braces round one expression, which have at most one value where the expression has
+pub only_table : {E : Type 0} (z : Store) (c : Coding) (m : System) (next : Bool) (es : List Expr) (e : Expr) (u : Term) → es ≡ e ∷ [] → Term.Braces (terms_in es) ≡ u → (r : Result Table E)
+    → IfOk r (λ t. IsTable z t.cells.items t.single (meaning_of c m next (term_of e)))
+    → IfOk r (λ t. IsTable z t.cells.items t.single (meaning_of c m next u))
+only_table z c m next es e u one is (Err k) h = tt
+only_table z c m next es e u one is (Ok t) h =
+    let braces = braces_table z c m next (terms_in es) u is t.cells.items (element_table z c m next es e one t.cells.items t.single h) in
+    record { regions = braces.regions; reads = braces.reads; at_most_one = λ q bits. subst (λ v. IsSingle (meaning_of c m next v bits)) is (few bits (h.at_most_one q bits)) }
+  where
+    few : (bits : List Bool) → IsSingle (meaning_of c m next (term_of e) bits) → IsSingle (meaning_of c m next (Term.Braces (terms_in es)) bits)
+    few bits k =
+        subst (λ (xs : List Expr). IsSingle (meaning_of c m next (Term.Braces (terms_in xs)) bits)) (sym one)
+        (single_distinct _ (subst IsSingle (sym (values_last (meaning_of c m next (term_of e) bits))) k))
 
 -- the table of the values of two sets
 pub united_table : {E : Type 0} (s z : Store) (left right : List Cell) (f g h : List Bool → Checked (List Value)) → IsSetTable s left f → IsSetTable s right g → ((bits : List Bool) → h bits ≡ all_values (f bits) (g bits)) → (r : Result CellItems E)

@@ -8,7 +8,7 @@ use Rattle.bdd_nodes.specs.declared.store.Store.{Store}
 use Rattle.bdd_nodes.specs.Store.{Has, value_of, Grows}
 use Rattle.bdd_nodes.proofs.Tables.{value_of-false}
 use Rattle.value_tables.specs.declared.cells.Cell.{Cell}
-use Rattle.value_tables.specs.Work.{IsRegion}
+use Rattle.bdd_ops.specs.Kept.{IsRegion}
 use Rattle.value_tables.specs.Tables.{count_on}
 use Rattle.value_tables.proofs.RegionLemmas.{has_item}
 

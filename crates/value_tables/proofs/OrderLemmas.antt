@@ -23,7 +23,7 @@ use Rattle.bdd_nodes.proofs.Tables.{value_of-false}
 use Rattle.value_tables.specs.declared.cells.Cell.{Cell}
 use Rattle.value_tables.specs.declared.orders.Mark.{Mark}
 use Rattle.value_tables.specs.declared.orders.Passed.{Passed}
-use Rattle.value_tables.specs.Work.{IsRegion}
+use Rattle.bdd_ops.specs.Kept.{IsRegion}
 use Rattle.value_tables.specs.Cells.{any_cell, Reads}
 use Rattle.value_tables.specs.Tables.{judged}
 use Rattle.value_tables.specs.Orders.{numbers, compares, comparison, in_order, is_below, any_below, mark_of, marks_in, is_before, is_lesser, any_lesser, any_greater, is_pair, any_pair, AreMarks, AreHeld, ArePassed, AreJoined}

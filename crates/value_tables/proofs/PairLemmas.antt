@@ -10,7 +10,8 @@ use Rattle.bit_encode.specs.Binary.{number}
 use Rattle.bit_encode.specs.Code.{Coding, IsStateOf, values_of, width_of, place, code, field, first_bit, bit_count}
 use Rattle.bit_encode.specs.Laws.{CodesAreValid, FieldsSpell, PlacesWithin}
 use Rattle.bit_encode.proofs.CodeLemmas.{place-lt, value_at_place}
-use Rattle.value_tables.specs.States.{level_at, bits_from, code_shown, value_shown, state_shown, alternated, pair_code}
+use Rattle.variable_codes.specs.Levels.{level_at, bits_from}
+use Rattle.value_tables.specs.States.{code_shown, value_shown, state_shown, alternated, pair_code}
 use Rattle.value_tables.proofs.ShownLemmas.{variable_shown, length-shown}
 
 -- the bits at even places, and those at odd ones

@@ -19,7 +19,8 @@ use Rattle.value_tables.specs.declared.pick.Pick.{Pick}
 use Rattle.value_tables.specs.Pick.{becomes}
 use Rattle.value_tables.specs.Tables.{pairs_to}
 use Rattle.value_tables.proofs.BoolLemmas.{or_more}
-use Rattle.value_tables.specs.Work.{Keeps, Spends, IsRegion}
+use Rattle.bdd_ops.specs.Kept.{IsRegion, KeepsEngine}
+use Rattle.value_tables.specs.Work.{Keeps, Spends}
 use Rattle.value_tables.specs.Cells.{any_cell, AreCells, same_reading, region_at}
 
 pub Keeps-same : (e : Engine) (n : ℕ) → Keeps e e n n
@@ -152,6 +153,10 @@ pairs_step s a g left right has_left has_right op k bits i cell lt is first now 
 
 pub keeps_quiet : {a b : Engine} (n : ℕ) → Keeps a b 0 0 → Keeps a b n n
 keeps_quiet n h = record { grows = h.grows; refused = h.refused; lists = h.lists; capacity = h.capacity; steps = omega arith }
+
+-- the same, where what is kept of an engine is told by itself
+pub keeps_engine : {a b : Engine} (n : ℕ) → KeepsEngine a b → Keeps a b n n
+keeps_engine n h = record { grows = h.grows; refused = h.refused; lists = h.lists; capacity = h.capacity; steps = omega arith }
 
 -- a triple more
 pub keeps_made : (a b d : Engine) → Keeps a b 0 0 → Grows (store_of b) (store_of d) → cache_of d ≡ cache_of b → lists_of d ≡ lists_of b → refused_of d ≡ refused_of b → Keeps a d 0 0

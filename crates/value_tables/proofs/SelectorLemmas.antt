@@ -13,10 +13,11 @@ use Rattle.kripke_model.specs.System.{Variable, System, value_in}
 use Rattle.kripke_model.specs.Evaluation.{Checked, same, truth}
 use Rattle.kripke_model.specs.Flat.{HasSelector}
 use Rattle.bit_encode.specs.Code.{Coding, types_of, values_of}
-use Rattle.value_tables.specs.Work.{IsRegion}
+use Rattle.bdd_ops.specs.Kept.{IsRegion}
 use Rattle.value_tables.specs.Cells.{same_reading, any_of}
 use Rattle.value_tables.specs.Pick.{truth_of}
-use Rattle.value_tables.specs.States.{code_shown, is_code, state_shown}
+use Rattle.value_tables.specs.States.{code_shown, state_shown}
+use Rattle.variable_codes.specs.Codes.{is_spelled}
 use Rattle.value_tables.proofs.ReadingLists.{same_self}
 use Rattle.value_tables.proofs.ShownLemmas.{code_is, variable_shown, known_variable}
 
@@ -55,7 +56,7 @@ module _ (c : Coding) (m : System) (types : c.types ≡ types_of m) (h : HasSele
   names p bits = ap (λ v. same v (Number (pos p))) (shown bits) ∙ same_numbers (min (code_shown c next bits 0) last) p
 
   -- the region of the process's code
-  pub selected_region : (s : Store) (r p : ℕ) → p ≤ last → IsRegion s r (λ bits. is_code (eqb p last) p (code_shown c next bits 0)) → IsRegion s r (λ bits. same (value_in (state_shown c next bits) 0) (Number (pos p)))
+  pub selected_region : (s : Store) (r p : ℕ) → p ≤ last → IsRegion s r (λ bits. is_spelled false (eqb p last) p (code_shown c next bits 0)) → IsRegion s r (λ bits. same (value_in (state_shown c next bits) 0) (Number (pos p)))
   selected_region s r p le is = record {
     has = is.has;
     value = λ bits. is.value bits ∙ code_is p last (code_shown c next bits 0) le ∙ sym (names p bits);

@@ -10,7 +10,7 @@ use Rattle.kripke_model.specs.declared.expressions.Value.{Value}
 use Rattle.kripke_model.specs.Evaluation.{Checked}
 use Rattle.value_tables.specs.declared.cells.Cell.{Cell}
 use Rattle.value_tables.specs.declared.pick.Pick.{Pick}
-use Rattle.value_tables.specs.Work.{IsRegion}
+use Rattle.bdd_ops.specs.Kept.{IsRegion}
 use Rattle.value_tables.specs.Cells.{same_reading, any_cell, shows, AreCells}
 use Rattle.value_tables.specs.Pick.{picked, becomes}
 use Rattle.value_tables.proofs.RegionLemmas.{any_cell-grows, has_item}

@@ -10,7 +10,8 @@ use Rattle.bdd_nodes.specs.Store.{levels_of, Has, value_of, Grows}
 use Rattle.bdd_nodes.proofs.Tables.{value_of-false}
 use Rattle.bdd_nodes.proofs.Canonical.{canonical}
 use Rattle.value_tables.specs.declared.cells.Cell.{Cell}
-use Rattle.value_tables.specs.Work.{Spends, IsRegion}
+use Rattle.bdd_ops.specs.Kept.{IsRegion}
+use Rattle.value_tables.specs.Work.{Spends}
 use Rattle.value_tables.specs.Tables.{count_on}
 use Rattle.value_tables.proofs.RegionLemmas.{Spends-same, Spends-then, has_item}
 use Rattle.value_tables.specs.Weights.{sum_over, weight, weights, overlap, overlaps, AreApart}

@@ -12,7 +12,7 @@ use Rattle.value_tables.specs.declared.orders.Mark.{Mark}
 use Rattle.value_tables.specs.declared.orders.Passed.{Passed}
 use Rattle.bdd_nodes.specs.declared.store.Store.{Store}
 use Rattle.bdd_nodes.specs.Store.{Has, value_of}
-use Rattle.value_tables.specs.Work.{IsRegion}
+use Rattle.bdd_ops.specs.Kept.{IsRegion}
 use Rattle.value_tables.specs.Cells.{any_cell}
 
 -- the one number, or the fault

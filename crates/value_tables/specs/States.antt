@@ -1,31 +1,17 @@
 -- The states that a list of bits shows: those of a variable's code in the current and in the next state alternate.
-use Rattle.std.specs.Prelude.{ℕ, zero, suc, ◌+◌, ◌-◌, ◌*◌, Bool, false, if◌then◌else◌, nat_le, nat_eq, List, [], ◌∷◌, length, min, pos}
+use Rattle.std.specs.Prelude.{ℕ, zero, suc, ◌+◌, ◌-◌, Bool, List, [], ◌∷◌, length, min, pos}
 use Rattle.std.specs.List.{slice_index_or}
 use Rattle.kripke_model.specs.declared.expressions.Value.{Value}
 use Rattle.kripke_model.specs.declared.expressions.Value.TheVariants.{Number}
 use Rattle.kripke_model.specs.Term.{Term, Terms, Arms}
 use Rattle.kripke_model.specs.System.{System, State}
 use Rattle.kripke_model.specs.Evaluation.{Checked, eval, eval_elements, eval_arms}
-use Rattle.bit_encode.specs.Binary.{number}
-use Rattle.bit_encode.specs.Code.{Coding, values_of, width_of, bit_place, code}
-
--- the level of bit b of variable x in the current or in the next state
-abbrev pub level_at : Coding → Bool → ℕ → ℕ → ℕ
-level_at c next x b = 2 * bit_place c x b + (if next then 1 else 0)
-
--- m bits of variable x from bit b on
-abbrev pub bits_from : Coding → Bool → ℕ → List Bool → ℕ → ℕ → List Bool
-bits_from c next x bits b zero = []
-bits_from c next x bits b (suc m)
-    = slice_index_or bits (level_at c next x b) false ∷ bits_from c next x bits (b + 1) m
+use Rattle.bit_encode.specs.Code.{Coding, values_of, code}
+use Rattle.variable_codes.specs.Levels.{spelled_by}
 
 -- the number that the bits of variable x spell
 unfoldable pub code_shown : Coding → Bool → List Bool → ℕ → ℕ
-code_shown c next bits x = number (bits_from c next x bits 0 (width_of c.types x))
-
--- the number is this one, or, where that is said, a greater one
-abbrev pub is_code : Bool → ℕ → ℕ → Bool
-is_code beyond k n = if beyond then nat_le k n else nat_eq k n
+code_shown c next bits x = spelled_by c next bits x
 
 -- the value of variable x; a code past the last value stands for the last value
 abbrev pub value_shown : Coding → Bool → List Bool → ℕ → Value

@@ -1,7 +1,7 @@
 -- What an engine keeps and how much it grows.
-use Rattle.std.specs.Prelude.{◌≡◌, ℕ, ◌+◌, ◌*◌, ◌^◌, ◌≤◌, Bool, List, length}
+use Rattle.std.specs.Prelude.{◌≡◌, ℕ, ◌+◌, ◌*◌, ◌^◌, ◌≤◌, length}
 use Rattle.bdd_nodes.specs.declared.store.Store.{Store}
-use Rattle.bdd_nodes.specs.Store.{levels_of, triples, Has, value_of, Grows}
+use Rattle.bdd_nodes.specs.Store.{levels_of, triples, Grows}
 use Rattle.bdd_ops.specs.declared.engine.Engine.{Engine}
 use Rattle.bdd_ops.specs.Engine.{store_of, capacity_of, lists_of, refused_of}
 
@@ -28,8 +28,3 @@ list_allowance n u = 16 * (n * (n + 4)) * u
 -- the same for an operator on tables of l and r cells
 abbrev pub operator_allowance : ℕ → ℕ → ℕ → ℕ
 operator_allowance l r u = 13 * (l + r) + 26 + 2 * u
-
--- a diagram of the store with this value at each list of bits
-pub record IsRegion (s : Store) (r : ℕ) (f : List Bool → Bool) : Type 0 where
-  pub has : Has s r
-  pub value : (bits : List Bool) → value_of s r bits ≡ f bits

@@ -5,7 +5,8 @@ ghost use Rattle.bdd_nodes.specs.Store.{Has, value_of};
 ghost use Rattle.bdd_nodes.specs.Refusal.{IsRefusalOf};
 ghost use Rattle.bdd_ops.specs.Engine.{store_of};
 ghost use Rattle.value_tables.specs.declared.cells.Cell.{Cell as Cells};
-ghost use Rattle.value_tables.specs.Work.{Keeps, Spends, IsRegion};
+ghost use Rattle.bdd_ops.specs.Kept.{IsRegion};
+ghost use Rattle.value_tables.specs.Work.{Keeps, Spends};
 ghost use Rattle.value_tables.specs.Cells.{any_cell};
 ghost use Rattle.value_tables.specs.Tables.{is_fault, count_on, at_region};
 

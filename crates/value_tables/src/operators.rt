@@ -1,13 +1,14 @@
 //! The operators on tables.
 
-ghost use Rattle.std.specs.Prelude.{◌≡◌, ◌≤◌, ◌+◌, ◌*◌, ◌^◌, ◌&&◌, ◌||◌, not, if◌then◌else◌, ℕ, ℤ, Bool, true, false, List, [], ◌∷◌, ◌++◌, Ok, IfOk, IfErr, OnOk, All, length};
-ghost use Rattle.bdd_nodes.specs.Store.{Has, value_of, levels_of};
+ghost use Rattle.std.specs.Prelude.{◌≡◌, ◌≤◌, ◌+◌, ◌*◌, ◌^◌, ◌&&◌, ◌||◌, not, if◌then◌else◌, ℕ, ℤ, Bool, true, false, List, [], ◌∷◌, ◌++◌, Ok, IfOk, IfErr, All, length};
+ghost use Rattle.bdd_nodes.specs.Store.{Has, value_of};
 ghost use Rattle.bdd_nodes.specs.Refusal.{IsRefusalOf};
 ghost use Rattle.bdd_ops.specs.Engine.{store_of};
 ghost use Rattle.kripke_model.specs.declared.expressions.Value.{Value as Values};
 ghost use Rattle.kripke_model.specs.Evaluation.{Checked};
 ghost use Rattle.value_tables.specs.declared.cells.Cell.{Cell as Cells};
-ghost use Rattle.value_tables.specs.Work.{Keeps, Spends, IsRegion};
+ghost use Rattle.bdd_ops.specs.Kept.{IsRegion};
+ghost use Rattle.value_tables.specs.Work.{Keeps, Spends};
 ghost use Rattle.value_tables.specs.Cells.{same_reading, shows, Reads, AreCells};
 ghost use Rattle.value_tables.specs.Pick.{truth_of};
 ghost use Rattle.value_tables.specs.Tables.{logic, alone, IsTable, judged, membership, truths, connective};

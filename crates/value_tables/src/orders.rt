@@ -8,7 +8,8 @@ ghost use Rattle.bdd_nodes.specs.Refusal.{IsRefusalOf};
 ghost use Rattle.bdd_ops.specs.Engine.{store_of};
 ghost use Rattle.value_tables.specs.declared.cells.Cell.{Cell as Cells};
 ghost use Rattle.value_tables.specs.declared.orders.Mark.{Mark as Marks};
-ghost use Rattle.value_tables.specs.Work.{Keeps, Spends, IsRegion};
+ghost use Rattle.bdd_ops.specs.Kept.{IsRegion};
+ghost use Rattle.value_tables.specs.Work.{Keeps, Spends};
 ghost use Rattle.value_tables.specs.Orders.{any_below, mark_of, marks_in, is_before, is_lesser, any_pair, hits, AreMarks, AreHeld, AreJoined, ArePassed};
 
 use crate::cells::Cell;

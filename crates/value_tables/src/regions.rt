@@ -4,7 +4,8 @@ ghost use Rattle.std.specs.Prelude.{◌≡◌, ◌&&◌, ◌||◌, not, if◌the
 ghost use Rattle.bdd_nodes.specs.Store.{Has, value_of};
 ghost use Rattle.bdd_nodes.specs.Refusal.{IsRefusalOf};
 ghost use Rattle.bdd_ops.specs.Engine.{store_of};
-ghost use Rattle.value_tables.specs.Work.{Keeps, Spends, IsRegion};
+ghost use Rattle.bdd_ops.specs.Kept.{IsRegion};
+ghost use Rattle.value_tables.specs.Work.{Keeps, Spends};
 
 use bdd_nodes::{Ref, Steps, StoreRefusal};
 use bdd_ops::Engine;

@@ -2,7 +2,7 @@ use Rattle.std.proofs.Common.{◌≡◌, ◌≢◌, ◌||◌, get_or, List, leng
 use Rattle.std.proofs.lemmas.Bool.{eqb-true, eqb-false}
 use Rattle.bdd_nodes.specs.Store.{value_of}
 use Rattle.value_tables.specs.declared.cells.Cell.{Cell}
-use Rattle.value_tables.specs.Work.{IsRegion}
+use Rattle.bdd_ops.specs.Kept.{IsRegion}
 use Rattle.value_tables.specs.Cells.{shows, AreCells}
 use Rattle.value_tables.proofs.AddLemmas.{shows_none, AreCells-push, AreCells-enlarge, shows-enlarge}
 use Rattle.value_tables.proofs.CellListLemmas.{with_region-set, length-with_region}

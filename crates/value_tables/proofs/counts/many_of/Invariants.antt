@@ -2,7 +2,8 @@ use Rattle.std.proofs.Common.{◌*◌, take}
 use Rattle.std.specs.Prelude.{nat_lt}
 use Rattle.bdd_nodes.specs.Store.{value_of}
 use Rattle.bdd_ops.specs.Engine.{store_of}
-use Rattle.value_tables.specs.Work.{Keeps, Spends, IsRegion}
+use Rattle.bdd_ops.specs.Kept.{IsRegion}
+use Rattle.value_tables.specs.Work.{Keeps, Spends}
 use Rattle.value_tables.specs.Tables.{count_on}
 use Rattle.value_tables.proofs.counts.many_of.Given as goal
 

@@ -1,7 +1,8 @@
 use Rattle.std.proofs.Common.{◌*◌, take}
 use Rattle.bdd_nodes.specs.Store.{value_of}
 use Rattle.bdd_ops.specs.Engine.{store_of}
-use Rattle.value_tables.specs.Work.{Keeps, Spends, IsRegion}
+use Rattle.bdd_ops.specs.Kept.{IsRegion}
+use Rattle.value_tables.specs.Work.{Keeps, Spends}
 use Rattle.value_tables.specs.Cells.{any_cell}
 use Rattle.value_tables.specs.Tables.{at_region}
 use Rattle.value_tables.proofs.counts.matched.Given as goal
