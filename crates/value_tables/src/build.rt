@@ -66,6 +66,11 @@ pub(crate) fn build<L: Ledger>(
             let right = build(alloc, engine, layout, model, b, next, steps)?;
             binary_of(alloc, engine, *op, &left, &right, steps)
         }
+        // Braces may stand in braces as deep as an expression may go. Those of one element have its
+        // values, so its table is theirs, and it is made with no call between.
+        Expr::Braces(elements) if elements.len() == 1 => {
+            build(alloc, engine, layout, model, &elements[0], next, steps)
+        }
         Expr::Braces(elements) => {
             let cells = build_elements(alloc, engine, layout, model, elements, next, steps)?;
             Ok(Table {

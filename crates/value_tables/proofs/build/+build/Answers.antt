@@ -19,7 +19,7 @@ use Rattle.value_tables.specs.Tables.{IsSetTable, guard_of, arm_shows, goes_on}
 use Rattle.value_tables.proofs.RegionLemmas.{any_cell-grows, AreCells-grows, Keeps-same, keeps_join, Spends-same}
 use Rattle.value_tables.proofs.StepLemmas.{if_ok}
 use Rattle.value_tables.proofs.EvalLemmas.{eval_proper, arms_at, arms_past, arm_split}
-use Rattle.value_tables.proofs.BuildLemmas.{operand, term_table, not_table, binary_table, braces_table, IsTable-grows, IsSetTable-grows, arm_evaluable_at, elements_some, elements_evaluable, arm_nodes_at, nodes-some, halves_nodes, halves_evaluable, halves_values, only_element, only_nodes, element_table, united_table, no_cells, no_arms, last_arm}
+use Rattle.value_tables.proofs.BuildLemmas.{operand, term_table, not_table, binary_table, braces_table, IsTable-grows, IsSetTable-grows, arm_evaluable_at, elements_some, elements_evaluable, arm_nodes_at, nodes-some, halves_nodes, halves_evaluable, halves_values, only_element, only_nodes, only_evaluable, element_table, only_table, united_table, no_cells, no_arms, last_arm}
 use Rattle.value_tables.specs.declared.cells.Cell.{Cell}
 use Rattle.value_tables.specs.Work.{Spends, allowance}
 use Rattle.std.proofs.lemmas.Result.{err_from_is_err_and, on_ok_weaker}
@@ -66,10 +66,17 @@ build-returns-in_ok-right-in-Binary-clause-table g t c =
     (IsTable-grows s z c.build-in-Binary-2.ensures.keeps.grows _ _ (meaning_of lay m c.args.next a) c.in_ok-left-in-Binary.ensures.table) c.in_ok-right-in-Binary.ensures.table
     (λ bits. eval_proper m a _ _ good.0) (λ bits. eval_proper m b _ _ good.1) c.binary_of.result c.binary_of.ensures.cells c.binary_of.ensures.reads c.binary_of.ensures.single)
 
-pub build-returns-in_ok-cells-in-Braces-clause-table : goal.build-returns-in_ok-cells-in-Braces-clause-table
-build-returns-in_ok-cells-in-Braces-clause-table g t c =
-    braces_table c.build_elements.new.engine.store c.args.layout.now c.args.model.now c.args.next (terms_in c.deref-in-Braces.result.now) (term_of c.args.expr.now)
-    (sym (ap term_of c.in-Braces.is ∙ braces_term c.in-Braces.elements ∙ ap (λ (x : List Expr). Term.Braces (terms_in x)) (sym c.deref-in-Braces.ensures.value))) _ c.in_ok-cells-in-Braces.ensures.table
+pub build-returns-in-Braces-clause-table : goal.build-returns-in-Braces-clause-table
+build-returns-in-Braces-clause-table g t c =
+    let es : List Expr = c.in-Braces.elements.items in
+    let e : Expr = c.index.result.now in
+    let one : length es ≡ 1 = omega (arith, c.len.ensures, c.if-len-eq1.true, c.in-Braces.elements.ok) in
+    only_table c.build-in-Braces.new.engine.store c.args.layout.now c.args.model.now c.args.next es e (term_of c.args.expr.now) (only_element es e one c.index.ensures) (sym (ap term_of c.in-Braces.is ∙ braces_term c.in-Braces.elements)) c.build-in-Braces.result c.build-in-Braces.ensures.table
+
+pub build-returns-in_ok-cells-in-Braces-2-clause-table : goal.build-returns-in_ok-cells-in-Braces-2-clause-table
+build-returns-in_ok-cells-in-Braces-2-clause-table g t c =
+    braces_table c.build_elements.new.engine.store c.args.layout.now c.args.model.now c.args.next (terms_in c.deref-in-Braces-2.result.now) (term_of c.args.expr.now)
+    (sym (ap term_of c.in-Braces-2.is ∙ braces_term c.in-Braces-2.elements ∙ ap (λ (x : List Expr). Term.Braces (terms_in x)) (sym c.deref-in-Braces-2.ensures.value))) _ c.in_ok-cells-in-Braces-2.ensures.table
 
 pub build-returns-in-Case-clause-table : goal.build-returns-in-Case-clause-table
 build-returns-in-Case-clause-table g t c =
@@ -103,14 +110,26 @@ build_arms-loop-arm-preserved g t c =
       keeps = keeps_join i.keeps c.build_arm.ensures.keeps;
     }
 
+pub build-build-requires-in-Braces : goal.build-build-requires-in-Braces
+build-build-requires-in-Braces g t c =
+    let es : List Expr = c.in-Braces.elements.items in
+    let e : Expr = c.index.result.now in
+    let one : length es ≡ 1 = omega (arith, c.len.ensures, c.if-len-eq1.true, c.in-Braces.elements.ok) in
+    let only = only_element es e one c.index.ensures in
+    let is : term_of c.args.expr.now ≡ Term.Braces (terms_in es) = ap term_of c.in-Braces.is ∙ braces_term c.in-Braces.elements in
+    let w = ap node_count is in
+    let smaller : 2 * node_count (term_of e) < 2 * node_count (term_of c.args.expr.now) = omega (arith, w, only_nodes es e only) in
+    let good : IsEvaluable c.args.model.now (term_of e) = only_evaluable c.args.model.now es e only (subst (λ (x : Term). IsEvaluable c.args.model.now x) is c.requires.evaluable) in
+    search rules
+
 pub build-build_elements-requires : goal.build-build_elements-requires
 build-build_elements-requires g t c =
-    let e : term_of c.args.expr.now ≡ Term.Braces (terms_in c.deref-in-Braces.result.now) = ap term_of c.in-Braces.is ∙ braces_term c.in-Braces.elements ∙ ap (λ (x : List Expr). Term.Braces (terms_in x)) (sym c.deref-in-Braces.ensures.value) in
+    let e : term_of c.args.expr.now ≡ Term.Braces (terms_in c.deref-in-Braces-2.result.now) = ap term_of c.in-Braces-2.is ∙ braces_term c.in-Braces-2.elements ∙ ap (λ (x : List Expr). Term.Braces (terms_in x)) (sym c.deref-in-Braces-2.ensures.value) in
     let w = ap node_count e in
-    let smaller : 2 * element_nodes (terms_in c.deref-in-Braces.result.now) + 1 < 2 * node_count (term_of c.args.expr.now) = omega (arith, w) in
+    let smaller : 2 * element_nodes (terms_in c.deref-in-Braces-2.result.now) + 1 < 2 * node_count (term_of c.args.expr.now) = omega (arith, w) in
     let whole = subst (λ (x : Term). IsEvaluable c.args.model.now x) e c.requires.evaluable in
-    let some : 0 < length c.deref-in-Braces.result.now = elements_some c.args.model.now _ whole in
-    let good : AreEvaluable c.args.model.now (terms_in c.deref-in-Braces.result.now) = elements_evaluable c.args.model.now _ whole in
+    let some : 0 < length c.deref-in-Braces-2.result.now = elements_some c.args.model.now _ whole in
+    let good : AreEvaluable c.args.model.now (terms_in c.deref-in-Braces-2.result.now) = elements_evaluable c.args.model.now _ whole in
     search rules
 
 pub build-build_arms-requires : goal.build-build_arms-requires
@@ -437,10 +456,19 @@ build-returns-in_ok-right-in-Binary-clause-spends g t c =
     (table-few s left.cells.items left.single f (node_count a) c.in_ok-left-in-Binary.ensures.table (λ bits. eval_amount m a (state_shown lay c.args.next bits) (state_shown lay true bits)))
     (table-few z right.cells.items right.single h (node_count b) c.in_ok-right-in-Binary.ensures.table (λ bits. eval_amount m b (state_shown lay c.args.next bits) (state_shown lay true bits)))
 
-pub build-returns-in_ok-cells-in-Braces-clause-spends : goal.build-returns-in_ok-cells-in-Braces-clause-spends
-build-returns-in_ok-cells-in-Braces-clause-spends g t c =
-    list_spends c.args.engine.now.store c.build_elements.new.engine.store (element_nodes (terms_in c.deref-in-Braces.result.now)) (node_count (term_of c.args.expr.now))
-    (ap node_count (ap term_of c.in-Braces.is ∙ braces_term c.in-Braces.elements ∙ ap (λ (x : List Expr). Term.Braces (terms_in x)) (sym c.deref-in-Braces.ensures.value))) c.build_elements.ensures.spends
+pub build-returns-in-Braces-clause-spends : goal.build-returns-in-Braces-clause-spends
+build-returns-in-Braces-clause-spends g t c =
+    let es : List Expr = c.in-Braces.elements.items in
+    let e : Expr = c.index.result.now in
+    let one : length es ≡ 1 = omega (arith, c.len.ensures, c.if-len-eq1.true, c.in-Braces.elements.ok) in
+    let w = ap node_count (ap term_of c.in-Braces.is ∙ braces_term c.in-Braces.elements) in
+    next_spends c.args.engine.now.store c.build-in-Braces.new.engine.store (node_count (term_of e)) (node_count (term_of c.args.expr.now))
+    (omega (arith, w, only_nodes es e (only_element es e one c.index.ensures))) c.build-in-Braces.ensures.spends
+
+pub build-returns-in_ok-cells-in-Braces-2-clause-spends : goal.build-returns-in_ok-cells-in-Braces-2-clause-spends
+build-returns-in_ok-cells-in-Braces-2-clause-spends g t c =
+    list_spends c.args.engine.now.store c.build_elements.new.engine.store (element_nodes (terms_in c.deref-in-Braces-2.result.now)) (node_count (term_of c.args.expr.now))
+    (ap node_count (ap term_of c.in-Braces-2.is ∙ braces_term c.in-Braces-2.elements ∙ ap (λ (x : List Expr). Term.Braces (terms_in x)) (sym c.deref-in-Braces-2.ensures.value))) c.build_elements.ensures.spends
 
 pub build-returns-in-Case-clause-spends : goal.build-returns-in-Case-clause-spends
 build-returns-in-Case-clause-spends g t c =
@@ -474,10 +502,10 @@ build-returns-in_err-right-in-Binary-clause-spends g t c =
     both_spend c.args.engine.now.store c.build-in-Binary.new.engine.store c.build-in-Binary-2.new.engine.store c.build-in-Binary.ensures.keeps.grows (node_count a) (node_count b) (node_count (term_of c.args.expr.now)) (ap node_count is)
     c.build-in-Binary.ensures.spends c.build-in-Binary-2.ensures.spends
 
-pub build-returns-in_err-cells-in-Braces-clause-spends : goal.build-returns-in_err-cells-in-Braces-clause-spends
-build-returns-in_err-cells-in-Braces-clause-spends g t c =
-    list_spends c.args.engine.now.store c.build_elements.new.engine.store (element_nodes (terms_in c.deref-in-Braces.result.now)) (node_count (term_of c.args.expr.now))
-    (ap node_count (ap term_of c.in-Braces.is ∙ braces_term c.in-Braces.elements ∙ ap (λ (x : List Expr). Term.Braces (terms_in x)) (sym c.deref-in-Braces.ensures.value))) c.build_elements.ensures.spends
+pub build-returns-in_err-cells-in-Braces-2-clause-spends : goal.build-returns-in_err-cells-in-Braces-2-clause-spends
+build-returns-in_err-cells-in-Braces-2-clause-spends g t c =
+    list_spends c.args.engine.now.store c.build_elements.new.engine.store (element_nodes (terms_in c.deref-in-Braces-2.result.now)) (node_count (term_of c.args.expr.now))
+    (ap node_count (ap term_of c.in-Braces-2.is ∙ braces_term c.in-Braces-2.elements ∙ ap (λ (x : List Expr). Term.Braces (terms_in x)) (sym c.deref-in-Braces-2.ensures.value))) c.build_elements.ensures.spends
 
 pub build_arms-returns-in_err-add-clause-spends : goal.build_arms-returns-in_err-add-clause-spends
 build_arms-returns-in_err-add-clause-spends g t c =
