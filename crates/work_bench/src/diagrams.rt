@@ -10,6 +10,7 @@
 ghost use Rattle.std.specs.Prelude.{◌≡◌, ◌<◌, true};
 ghost use Rattle.std.specs.List.Sorted.{IsStrictlyIncreasing};
 
+use crate::limits::{CACHE, LIMIT};
 use anyhow::{Result, bail};
 use bdd_nodes::{Ref, Steps, Store, StoreRefusal};
 use bdd_ops::Engine;
@@ -18,12 +19,6 @@ use std::alloc::{AllocError, Global};
 use std::marker::Brand;
 use std::sync::ledger::{Blank, Ledger};
 use std::time::CpuClock;
-
-/// The most triples that a store takes.
-const LIMIT: u32 = 2_000_000_000;
-
-/// How many answers the engine remembers.
-const CACHE: u32 = 1_000_000;
 
 /// Why a count has no answer.
 #[derive(Drop)]

@@ -9,6 +9,7 @@ mod counting;
 mod diagrams;
 mod file_reading;
 mod files;
+mod limits;
 mod long_files;
 mod made_proofs;
 mod making;

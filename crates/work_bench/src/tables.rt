@@ -14,6 +14,7 @@ ghost use Rattle.kripke_model.specs.Evaluable.{IsEvaluable};
 ghost use Rattle.kripke_model.specs.Reading.{term_of};
 ghost use Rattle.work_bench.specs.Ranges.{numbers, range_model};
 
+use crate::limits::{CACHE, LIMIT};
 use anyhow::{Result, bail};
 use bdd_nodes::{Steps, Store, StoreRefusal};
 use bdd_ops::Engine;
@@ -26,12 +27,6 @@ use std::marker::Brand;
 use std::sync::ledger::{Blank, Ledger};
 use std::time::CpuClock;
 use value_tables::{Regions, table};
-
-/// The most triples that a store takes.
-const LIMIT: u32 = 2_000_000_000;
-
-/// How many answers the engine remembers.
-const CACHE: u32 = 1_000_000;
 
 /// The numbers from 0 on, `count` of them.
 fn numbers(alloc: Global, count: u32) -> std::result::Result<Vec<Value>, AllocError>
