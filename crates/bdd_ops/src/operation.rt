@@ -126,6 +126,8 @@ fn answer_ite(f: Ref, g: Ref, h: Ref) -> Option<Ref>
         Some(g)
     } else if f == Ref::FALSE {
         Some(h)
+    } else if f == h && g == Ref::FALSE {
+        Some(Ref::FALSE)
     } else {
         None
     }
