@@ -5,8 +5,9 @@ ghost use Rattle.std.specs.Map.{lookup as found};
 ghost use Rattle.std.specs.List.Sorted.{IsPermutation};
 ghost use Rattle.std.specs.NonZero.{non_zero_usize_get};
 ghost use Rattle.answer_memo.specs.Memo.{memo, entries_in};
-ghost use Rattle.answer_memo.specs.declared.memo.Held.{Held as Entry};
-ghost use Rattle.answer_memo.specs.Slots.{swept, slot_value, settled, IsSpread};
+ghost use Rattle.answer_memo.specs.declared.memo.Slot.{Slot as Cell};
+ghost use Rattle.answer_memo.specs.declared.memo.Slot.TheVariants.{Free};
+ghost use Rattle.answer_memo.specs.Slots.{swept, slot_value, may_rest, is_in, is_full, IfFull, settled, IsSpread};
 ghost use Rattle.lru.specs.LruCache.{lru_cache};
 
 use crate::place::place_of;
@@ -28,6 +29,15 @@ pub(crate) struct Held<K, V> {
     key: K,
     value: V,
     round: u32,
+    // whether it took the slot from another entry of its round, so that the cache may have one
+    shared: bool,
+}
+
+/// What stands in a slot.
+#[derive(Clone, Copy)]
+pub(crate) enum Slot<K, V> {
+    Full(Held<K, V>),
+    Free,
 }
 
 /// A memo of bounded size. An entry of this round is kept as long as there are fewer of them than
@@ -36,7 +46,7 @@ pub(crate) struct Held<K, V> {
 #[derive(Drop)]
 pub struct Memo<K: Copy + Eq + Hash, V: Copy> {
     // each key has one slot, by its hash
-    slots: Vec<Option<Held<K, V>>>,
+    slots: Vec<Slot<K, V>>,
     // how many of the slots hold an entry
     filled: usize,
     // entries of this round whose slot was wanted by another
@@ -91,6 +101,9 @@ impl<K: Copy + Eq + Hash, V: Copy> Memo<K, V> {
         if let Some(value) = value_at(self.slots.as_slice(), at, *key) {
             return Some(value);
         }
+        if !is_shared(self.slots.as_slice(), at) {
+            return None;
+        }
         if self.rest.is_empty() {
             return None;
         }
@@ -118,20 +131,21 @@ impl<K: Copy + Eq + Hash, V: Copy> Memo<K, V> {
     {
         self.renew();
         self.make_room();
-        let held = Held {
-            key,
-            value,
-            round: self.round,
-        };
         let at = place_of(&key, self.slots.len());
         if at >= self.slots.len() {
-            settle(&mut self.rest, Some(held), self.round)?;
+            set_aside(&mut self.rest, key, value)?;
             self.fresh += 1;
             return Ok(());
         }
-        let newly = settle(&mut self.rest, self.slots[at], self.round)?;
+        let slot = self.slots[at];
+        let newly = settle(&mut self.rest, slot, self.round)?;
         self.filled += newly;
-        self.slots[at] = Some(held);
+        self.slots[at] = Slot::Full(Held {
+            key,
+            value,
+            round: self.round,
+            shared: is_of(slot, self.round),
+        });
         self.fresh += 1;
         Ok(())
     }
@@ -184,8 +198,8 @@ impl<K: Copy + Eq + Hash, V: Copy> Memo<K, V> {
         self.widen();
     }
 
-    /// Doubles the slots where more than half of them are filled, as far as there may be more and
-    /// memory allows. Of two entries that now want one slot the first is forgotten.
+    /// Makes four times as many slots where more than half of them are filled, as far as there may be
+    /// more and memory allows. Of two entries that now want one slot the first is forgotten.
     fn widen(&mut self)
         requires { self.old.fresh ≡ [] }
         ensures fresh { self.new.fresh ≡ [] }
@@ -198,7 +212,7 @@ impl<K: Copy + Eq + Hash, V: Copy> Memo<K, V> {
         if self.filled <= held / 2 {
             return;
         }
-        let wanted = most_slots(self.capacity).min(2 * held);
+        let wanted = most_slots(self.capacity).min(4 * held);
         if wanted <= held {
             return;
         }
@@ -224,12 +238,35 @@ impl<K: Copy + Eq + Hash, V: Copy> Memo<K, V> {
 
 /// The value in this slot, if it holds the key.
 #[inline(always)]
-fn value_at<K: Copy + Eq, V: Copy>(slots: &[Option<Held<K, V>>], at: usize, key: K) -> Option<V>
+fn value_at<K: Copy + Eq, V: Copy>(slots: &[Slot<K, V>], at: usize, key: K) -> Option<V>
     ensures { result ≡ slot_value (K.eq key) (slice_get slots.now at) }
 {
     match slots.get(at) {
-        Some(Some(held)) if held.key == key => Some(held.value),
+        Some(Slot::Full(held)) if held.key == key => Some(held.value),
         _ => None,
+    }
+}
+
+/// Whether the cache may have an entry whose slot is this one.
+#[inline(always)]
+fn is_shared<K: Copy, V: Copy>(slots: &[Slot<K, V>], at: usize) -> bool
+    ensures { result ≡ may_rest (slice_get slots.now at) }
+{
+    match slots.get(at) {
+        Some(Slot::Full(held)) => held.shared,
+        Some(Slot::Free) => false,
+        None => true,
+    }
+}
+
+/// Whether the slot holds an entry of this round.
+#[inline(always)]
+fn is_of<K: Copy, V: Copy>(slot: Slot<K, V>, round: u32) -> bool
+    ensures { result ≡ is_in round slot }
+{
+    match slot {
+        Slot::Full(held) => held.round == round,
+        Slot::Free => false,
     }
 }
 
@@ -243,11 +280,11 @@ fn most_slots(capacity: usize) -> usize
 }
 
 /// The slots, all empty, or none where they find no memory.
-fn empty_slots<K: Copy, V: Copy>(alloc: Global, count: usize) -> Vec<Option<Held<K, V>>>
-    ensures empty { result.items ≡ replicate (length result.items) None }
+fn empty_slots<K: Copy, V: Copy>(alloc: Global, count: usize) -> Vec<Slot<K, V>>
+    ensures empty { result.items ≡ replicate (length result.items) Free }
     ensures few { length result.items ≤ count }
 {
-    match Vec::from_elem(alloc, None, count) {
+    match Vec::from_elem(alloc, Slot::Free, count) {
         Ok(slots) => slots,
         Err(_) => Vec::new(alloc),
     }
@@ -265,31 +302,43 @@ fn forget<K: Copy + Eq + Hash, V: Copy>(rest: &mut LruCache<K, V>)
 /// Moves an entry of this round out of a slot into the cache. Gives 1 where the slot was empty.
 fn settle<K: Copy + Eq + Hash, V: Copy>(
     rest: &mut LruCache<K, V>,
-    slot: Option<Held<K, V>>,
+    slot: Slot<K, V>,
     round: u32,
 ) -> Result<usize, AllocError>
-    requires apart { IfSome slot (λ h. found (K.eq h.key) rest.old.entries ≡ None) }
+    requires apart { IfFull slot (λ h. found (K.eq h.key) rest.old.entries ≡ None) }
     requires room { length rest.old.entries < rest.old.cap }
-    ensures empty { IfOk result (λ n. n ≡ (if is_some slot then 0 else 1)) }
+    ensures empty { IfOk result (λ n. n ≡ (if is_full slot then 0 else 1)) }
     ensures rest { OnOk result
         (rest.new ≡ lru_cache (settled round slot rest.old.entries) rest.old.cap) }
     ensures err { OnErr result (rest.new ≡ rest.old) }
 {
-    let Some(held) = slot else {
+    let Slot::Full(held) = slot else {
         return Ok(1);
     };
     if held.round == round {
-        rest.put(held.key, held.value)?;
+        set_aside(rest, held.key, held.value)?;
     }
     Ok(0)
 }
 
+/// Puts an entry into the cache, which has none with its key.
+fn set_aside<K: Copy + Eq + Hash, V: Copy>(
+    rest: &mut LruCache<K, V>,
+    key: K,
+    value: V,
+) -> Result<(), AllocError>
+    requires apart { found (K.eq key) rest.old.entries ≡ None }
+    requires room { length rest.old.entries < rest.old.cap }
+    ensures ok { OnOk result (rest.new ≡ lru_cache ((key, value) ∷ rest.old.entries) rest.old.cap) }
+    ensures err { OnErr result (rest.new ≡ rest.old) }
+{
+    rest.put(key, value)?;
+    Ok(())
+}
+
 /// Moves the entries of the slots into others, which are empty. Gives how many are filled.
-fn spread<K: Copy + Eq + Hash, V: Copy>(
-    from: &[Option<Held<K, V>>],
-    to: &mut Vec<Option<Held<K, V>>>,
-) -> usize
-    requires empty { to.old.items ≡ replicate (length to.old.items) None }
+fn spread<K: Copy + Eq + Hash, V: Copy>(from: &[Slot<K, V>], to: &mut Vec<Slot<K, V>>) -> usize
+    requires empty { to.old.items ≡ replicate (length to.old.items) Free }
     requires few { length to.old.items ≤ 2 ^ 20 }
     ensures spread { IsSpread K.hash_input from.now to.new.items result }
     ensures length { length to.new.items ≡ length to.old.items }
@@ -304,39 +353,39 @@ fn spread<K: Copy + Eq + Hash, V: Copy>(
 }
 
 /// Moves the entry of a slot into its place. Gives 1 where that was empty.
-fn move_in<K: Copy + Eq + Hash, V: Copy>(
-    slot: Option<Held<K, V>>,
-    to: &mut Vec<Option<Held<K, V>>>,
-) -> usize
+fn move_in<K: Copy + Eq + Hash, V: Copy>(slot: Slot<K, V>, to: &mut Vec<Slot<K, V>>) -> usize
     requires { length to.old.items ≤ 2 ^ 20 }
-    ensures spread { (from : List (Option (Entry K V))) (i n : ℕ) → slice_get from i ≡ Some slot
+    ensures spread { (from : List (Cell K V)) (i n : ℕ) → slice_get from i ≡ Some slot
         → IsSpread K.hash_input from to.old.items n
         → IsSpread K.hash_input from to.new.items (n + result) }
     ensures length { length to.new.items ≡ length to.old.items }
     ensures one { result ≤ 1 }
 {
-    let Some(held) = slot else {
+    let Slot::Full(held) = slot else {
         return 0;
     };
     let at = place_of(&held.key, to.len());
     if at >= to.len() {
         return 0;
     }
-    let newly = one_if_empty(&to[at]);
-    to[at] = Some(held);
+    let newly = one_if_free(&to[at]);
+    to[at] = Slot::Full(held);
     newly
 }
 
-/// 1 for an empty slot, and else 0.
+/// 1 for a free slot, and else 0.
 #[inline(always)]
-fn one_if_empty<K: Copy, V: Copy>(slot: &Option<Held<K, V>>) -> usize
-    ensures { result ≡ (if is_some slot.now then 0 else 1) }
+fn one_if_free<K: Copy, V: Copy>(slot: &Slot<K, V>) -> usize
+    ensures { result ≡ (if is_full slot.now then 0 else 1) }
 {
-    if slot.is_none() { 1 } else { 0 }
+    match slot {
+        Slot::Full(_) => 0,
+        Slot::Free => 1,
+    }
 }
 
 /// Empties the slots but for those with an entry of this round.
-fn sweep<K: Copy, V: Copy>(slots: &mut Vec<Option<Held<K, V>>>, round: Option<u32>)
+fn sweep<K: Copy, V: Copy>(slots: &mut Vec<Slot<K, V>>, round: Option<u32>)
     ensures { slots.new.items ≡ map (swept round) slots.old.items }
 {
     let mut i = 0;
@@ -348,11 +397,11 @@ fn sweep<K: Copy, V: Copy>(slots: &mut Vec<Option<Held<K, V>>>, round: Option<u3
 
 /// The slot, emptied where its entry is of another round.
 #[inline(always)]
-fn left_of<K: Copy, V: Copy>(slot: Option<Held<K, V>>, round: Option<u32>) -> Option<Held<K, V>>
+fn left_of<K: Copy, V: Copy>(slot: Slot<K, V>, round: Option<u32>) -> Slot<K, V>
     ensures { result ≡ swept round slot }
 {
     match (slot, round) {
-        (Some(held), Some(kept)) if held.round == kept => Some(held),
-        _ => None,
+        (Slot::Full(held), Some(kept)) if held.round == kept => Slot::Full(held),
+        _ => Slot::Free,
     }
 }
