@@ -10,3 +10,4 @@ mod operation;
 
 pub use engine::Engine;
 pub use key::Key;
+pub use operand::{Cofactors, cofactors_of};

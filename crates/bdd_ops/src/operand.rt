@@ -63,15 +63,19 @@ fn operand_of(store: &Store, r: Ref) -> Operand
     }
 }
 
-/// The least level of two operands, and their children there.
+/// The cofactors of two diagrams at the least of their levels: the children of one that lies there,
+/// and else the diagram itself.
 #[derive(Clone, Copy)]
-struct Pair {
-    level: u32,
-    low: (Ref, Ref),
-    high: (Ref, Ref),
+pub struct Cofactors {
+    pub level: u32,
+    /// The cofactors for a bit that isn't set.
+    pub low: (Ref, Ref),
+    /// The cofactors for a bit that is set.
+    pub high: (Ref, Ref),
 }
 
-fn pair_of(store: &Store, f: Ref, g: Ref) -> Pair
+/// The cofactors of two diagrams. The node of each is looked up once.
+pub fn cofactors_of(store: &Store, f: Ref, g: Ref) -> Cofactors
     requires f { Has store.now f }
     requires g { Has store.now g }
     ensures level { result.level ≡ min (level_of store.now f) (level_of store.now g) }
@@ -83,7 +87,7 @@ fn pair_of(store: &Store, f: Ref, g: Ref) -> Pair
     let f = operand_of(store, f);
     let g = operand_of(store, g);
     let level = f.level.min(g.level);
-    Pair {
+    Cofactors {
         level,
         low: (f.part(level, false), g.part(level, false)),
         high: (f.part(level, true), g.part(level, true)),
@@ -139,7 +143,7 @@ pub(crate) fn split(store: &Store, operation: Operation) -> Sides
             }
         }
         Operation::And(f, g) => {
-            let p = pair_of(store, f, g);
+            let p = cofactors_of(store, f, g);
             Sides {
                 level: p.level,
                 low: Operation::And(p.low.0, p.low.1),
@@ -147,7 +151,7 @@ pub(crate) fn split(store: &Store, operation: Operation) -> Sides
             }
         }
         Operation::Or(f, g) => {
-            let p = pair_of(store, f, g);
+            let p = cofactors_of(store, f, g);
             Sides {
                 level: p.level,
                 low: Operation::Or(p.low.0, p.low.1),
@@ -155,7 +159,7 @@ pub(crate) fn split(store: &Store, operation: Operation) -> Sides
             }
         }
         Operation::Iff(f, g) => {
-            let p = pair_of(store, f, g);
+            let p = cofactors_of(store, f, g);
             Sides {
                 level: p.level,
                 low: Operation::Iff(p.low.0, p.low.1),

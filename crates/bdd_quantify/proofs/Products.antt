@@ -11,7 +11,7 @@ use Rattle.bdd_ops.specs.Answer.{some_choice, list_at, meaning_of, IsAnswer}
 use Rattle.bdd_ops.proofs.AnswerLemmas.{some_choice-same}
 use Rattle.bdd_ops.proofs.Depth.{IsAnswer-law}
 use Rattle.bdd_ops.proofs.Parts.{part_of-grows, part_of-value, part_of-le, part_of-less, part_of-deeper}
-use Rattle.bdd_quantify.specs.declared.node.Sides.{Sides}
+use Rattle.bdd_ops.specs.declared.operand.Cofactors.{Cofactors}
 use Rattle.bdd_quantify.specs.Product.{product_of, IsProduct, key_of}
 use Rattle.bdd_ops.proofs.Values.{value-above, value-made}
 use Rattle.bdd_ops.proofs.Choices.{IsAway, Rises, Ignores, IsBranch, some_choice-ignored, some_choice-branch, some_choice-named}
@@ -111,7 +111,7 @@ IsProduct-past old new w ls f g level r hf hg top past has value = record {
     ignores l less bits b = λ j. value-above old.levels old.nodes.keys old.good f hf l (omega arith) bits b j && value-above old.levels old.nodes.keys old.good g hg l (omega arith) bits b j
 
 -- two diagrams at their least level, and their children there
-pub record AreSides (s : Store) (f g : ℕ) (n : Sides) : Type 0 where
+pub record AreSides (s : Store) (f g : ℕ) (n : Cofactors) : Type 0 where
   pub has_f : Has s f
   pub has_g : Has s g
   pub some : 2 ≤ max f g
@@ -121,7 +121,7 @@ pub record AreSides (s : Store) (f g : ℕ) (n : Sides) : Type 0 where
   pub high_f : n.high.0 ≡ part_of (triples s) n.level true f
   pub high_g : n.high.1 ≡ part_of (triples s) n.level true g
 
-pub AreSides-grows : (old new : Store) → Grows old new → (f g : ℕ) (n : Sides) → AreSides old f g n → AreSides new f g n
+pub AreSides-grows : (old new : Store) → Grows old new → (f g : ℕ) (n : Cofactors) → AreSides old f g n → AreSides new f g n
 AreSides-grows old new w f g n a = record {
   has_f = w.has f a.has_f;
   has_g = w.has g a.has_g;
@@ -141,7 +141,7 @@ pub record IsSide (s : Store) (f g level x y : ℕ) : Type 0 where
   pub deep_y : level < level_of s y
   pub smaller : x + y < f + g
 
-module _ (s : Store) (f g : ℕ) (n : Sides) (a : AreSides s f g n) where
+module _ (s : Store) (f g : ℕ) (n : Cofactors) (a : AreSides s f g n) where
   pub sides-inside : n.level < levels_of s
   sides-inside = elim (cases_lt f 2) [
     | inl constant ↦ omega (arith, a.top, inside g a.has_g (omega (arith, a.some)))

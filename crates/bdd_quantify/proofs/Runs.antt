@@ -3,7 +3,7 @@ use Rattle.std.proofs.Common.{◌≡◌, ℕ, zero, suc, ◌+◌, ◌-◌, ◌*�
 use Rattle.bdd_nodes.specs.declared.store.Store.{Store}
 use Rattle.bdd_nodes.specs.Store.{triples, levels_of, Has, level_of, value_of, Grows, IsNodeOf}
 use Rattle.bdd_ops.specs.Answer.{list_at, some_choice}
-use Rattle.bdd_quantify.specs.declared.node.Sides.{Sides}
+use Rattle.bdd_ops.specs.declared.operand.Cofactors.{Cofactors}
 use Rattle.bdd_quantify.specs.Product.{IsProduct, IsEntry}
 use Rattle.bdd_ops.proofs.Choices.{IsAway, Rises}
 use Rattle.bdd_quantify.proofs.Counts.{count-one, count-low, count-both}
@@ -37,7 +37,7 @@ past_result old new w ls f g level hf hg top past (Ok r) value has = IsProduct-p
 past_result old new w ls f g level hf hg top past (Err e) value has = tt
 
 -- what joins both sides is the product
-pub joined : (old new : Store) → Grows old new → (f g : ℕ) (n : Sides) → AreSides old f g n → (ls : List ℕ) → Rises ls → (low high r : ℕ) → IsProduct old ls n.low.0 n.low.1 low → IsProduct old ls n.high.0 n.high.1 high → Has new r
+pub joined : (old new : Store) → Grows old new → (f g : ℕ) (n : Cofactors) → AreSides old f g n → (ls : List ℕ) → Rises ls → (low high r : ℕ) → IsProduct old ls n.low.0 n.low.1 low → IsProduct old ls n.high.0 n.high.1 high → Has new r
     → (named : Bool) → (named ≡ true → (k : ℕ) × (k < length ls) × (slice_index_or ls k 0 ≡ n.level)) → (named ≡ false → IsAway n.level ls)
     → (named ≡ true → (bits : List Bool) → value_of new r bits ≡ (value_of old low bits || value_of old high bits)) → (named ≡ false → IsNodeOf new n.level low high r) → IsProduct new ls f g r
 joined old new w f g n a ls up low high r p q has true there away union node =
@@ -50,7 +50,7 @@ joined old new w f g n a ls up low high r p q has false there away union node =
 abbrev pub IsWithin : ℕ → ℕ → ℕ → Store → Type 0
 IsWithin f g n s = n + 2 ^ levels_of s ≤ length (triples s) + 2 ^ levels_of s * 2 ^ (levels_of s - min (level_of s f) (level_of s g))
 
-module _ (s : Store) (f g : ℕ) (n : Sides) (a : AreSides s f g n) where
+module _ (s : Store) (f g : ℕ) (n : Cofactors) (a : AreSides s f g n) where
   inside : min (level_of s f) (level_of s g) < levels_of s
   inside = omega (arith, a.top, sides-inside s f g n a)
 

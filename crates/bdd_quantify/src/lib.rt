@@ -8,5 +8,6 @@ mod node;
 mod quantification;
 mod renaming;
 
+pub use level::skip;
 pub use quantification::{and_exists, exists};
 pub use renaming::rename;
