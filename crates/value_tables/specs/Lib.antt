@@ -8,3 +8,4 @@ pub mod States
 pub mod Regions
 pub mod Weights
 pub mod Rows
+pub mod Operators

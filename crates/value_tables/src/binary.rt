@@ -1,15 +1,16 @@
 //! The operators of two operands.
 
-ghost use Rattle.std.specs.Prelude.{◌≡◌, ◌≤◌, ◌+◌, ◌*◌, ◌^◌, true, List, Bool, IfOk, IfErr, length};
-ghost use Rattle.bdd_nodes.specs.Store.{levels_of, value_of};
+ghost use Rattle.std.specs.Prelude.{◌≤◌, ◌+◌, ◌*◌, List, Bool, IfOk, IfErr, length};
+ghost use Rattle.bdd_nodes.specs.Store.{value_of};
 ghost use Rattle.bdd_nodes.specs.Refusal.{IsRefusalOf};
 ghost use Rattle.bdd_ops.specs.Engine.{store_of};
 ghost use Rattle.kripke_model.specs.declared.expressions.Value.{Value as Values};
-ghost use Rattle.kripke_model.specs.Evaluation.{Checked, binary};
-ghost use Rattle.value_tables.specs.Work.{Keeps, Spends, operator_allowance};
+ghost use Rattle.kripke_model.specs.Evaluation.{Checked};
+ghost use Rattle.value_tables.specs.Work.{Keeps, Spends};
 ghost use Rattle.value_tables.specs.Weights.{AreOperands};
 ghost use Rattle.value_tables.specs.Cells.{Reads, AreCells};
-ghost use Rattle.value_tables.specs.Tables.{IsOperand, IsSingle, one_tested, IsUnion, IsMember, IsEquality, IsConnective, IsOrder, IsArithmetic};
+ghost use Rattle.value_tables.specs.Operators.{ReadsAs, IsSingleAs, SpendsFor};
+ghost use Rattle.value_tables.specs.Tables.{IsOperand, one_tested, IsUnion, IsMember, IsEquality, IsConnective, IsOrder, IsArithmetic};
 
 use crate::cell_lists::CellList;
 use crate::operands::{Table, tested};
@@ -75,19 +76,12 @@ fn union_of<L: Ledger>(
     requires left { AreCells (store_of engine.old) left.now.cells.items }
     requires right { AreCells (store_of engine.old) right.now.cells.items }
     ensures cells { IfOk result (λ t. AreCells (store_of engine.new) t.cells.items) }
-    ensures reads { IfOk result (λ t. (bits : List Bool) (c d : Checked (List Values))
-        → IsOperand (λ r. value_of (store_of engine.old) r bits) left.now.cells.items
-        left.now.single c
-        → IsOperand (λ r. value_of (store_of engine.old) r bits) right.now.cells.items
-        right.now.single d → Reads (λ r. value_of (store_of engine.new) r bits) t.cells.items
-        (binary op c d)) }
-    ensures single { IfOk result (λ t. t.single ≡ true → (c d : Checked (List Values))
-        → IsSingle (binary op c d)) }
+    ensures reads { IfOk result (ReadsAs op left.now right.now (store_of engine.old)
+        (store_of engine.new)) }
+    ensures single { IfOk result (IsSingleAs op) }
     ensures held { IfErr result (IsRefusalOf (store_of engine.new)) }
     ensures keeps { Keeps engine.old engine.new steps.old steps.new }
-    ensures spends { Spends (operator_allowance (length left.now.cells.items)
-        (length right.now.cells.items) (2 ^ levels_of (store_of engine.old))) (store_of engine.old)
-        (store_of engine.new) }
+    ensures spends { SpendsFor left.now right.now (store_of engine.old) (store_of engine.new) }
 {
     let cells = united(alloc, engine, &left.cells, &right.cells, steps)?;
     Ok(Table {
@@ -108,19 +102,12 @@ fn member_of<L: Ledger>(
     requires left { AreCells (store_of engine.old) left.now.cells.items }
     requires right { AreCells (store_of engine.old) right.now.cells.items }
     ensures cells { IfOk result (λ t. AreCells (store_of engine.new) t.cells.items) }
-    ensures reads { IfOk result (λ t. (bits : List Bool) (c d : Checked (List Values))
-        → IsOperand (λ r. value_of (store_of engine.old) r bits) left.now.cells.items
-        left.now.single c
-        → IsOperand (λ r. value_of (store_of engine.old) r bits) right.now.cells.items
-        right.now.single d → Reads (λ r. value_of (store_of engine.new) r bits) t.cells.items
-        (binary op c d)) }
-    ensures single { IfOk result (λ t. t.single ≡ true → (c d : Checked (List Values))
-        → IsSingle (binary op c d)) }
+    ensures reads { IfOk result (ReadsAs op left.now right.now (store_of engine.old)
+        (store_of engine.new)) }
+    ensures single { IfOk result (IsSingleAs op) }
     ensures held { IfErr result (IsRefusalOf (store_of engine.new)) }
     ensures keeps { Keeps engine.old engine.new steps.old steps.new }
-    ensures spends { Spends (operator_allowance (length left.now.cells.items)
-        (length right.now.cells.items) (2 ^ levels_of (store_of engine.old))) (store_of engine.old)
-        (store_of engine.new) }
+    ensures spends { SpendsFor left.now right.now (store_of engine.old) (store_of engine.new) }
 {
     let one = tested(alloc, engine, left, Test::Any, steps)?;
     compared(alloc, engine, &one, &right.cells, steps)
@@ -138,19 +125,12 @@ fn equality_of<L: Ledger>(
     requires left { AreCells (store_of engine.old) left.now.cells.items }
     requires right { AreCells (store_of engine.old) right.now.cells.items }
     ensures cells { IfOk result (λ t. AreCells (store_of engine.new) t.cells.items) }
-    ensures reads { IfOk result (λ t. (bits : List Bool) (c d : Checked (List Values))
-        → IsOperand (λ r. value_of (store_of engine.old) r bits) left.now.cells.items
-        left.now.single c
-        → IsOperand (λ r. value_of (store_of engine.old) r bits) right.now.cells.items
-        right.now.single d → Reads (λ r. value_of (store_of engine.new) r bits) t.cells.items
-        (binary op c d)) }
-    ensures single { IfOk result (λ t. t.single ≡ true → (c d : Checked (List Values))
-        → IsSingle (binary op c d)) }
+    ensures reads { IfOk result (ReadsAs op left.now right.now (store_of engine.old)
+        (store_of engine.new)) }
+    ensures single { IfOk result (IsSingleAs op) }
     ensures held { IfErr result (IsRefusalOf (store_of engine.new)) }
     ensures keeps { Keeps engine.old engine.new steps.old steps.new }
-    ensures spends { Spends (operator_allowance (length left.now.cells.items)
-        (length right.now.cells.items) (2 ^ levels_of (store_of engine.old))) (store_of engine.old)
-        (store_of engine.new) }
+    ensures spends { SpendsFor left.now right.now (store_of engine.old) (store_of engine.new) }
 {
     let pair = tested_pair(alloc, engine, Test::Any, left, right, steps)?;
     compared(alloc, engine, &pair.left, &pair.right, steps)
@@ -168,19 +148,12 @@ fn connective_of<L: Ledger>(
     requires left { AreCells (store_of engine.old) left.now.cells.items }
     requires right { AreCells (store_of engine.old) right.now.cells.items }
     ensures cells { IfOk result (λ t. AreCells (store_of engine.new) t.cells.items) }
-    ensures reads { IfOk result (λ t. (bits : List Bool) (c d : Checked (List Values))
-        → IsOperand (λ r. value_of (store_of engine.old) r bits) left.now.cells.items
-        left.now.single c
-        → IsOperand (λ r. value_of (store_of engine.old) r bits) right.now.cells.items
-        right.now.single d → Reads (λ r. value_of (store_of engine.new) r bits) t.cells.items
-        (binary op c d)) }
-    ensures single { IfOk result (λ t. t.single ≡ true → (c d : Checked (List Values))
-        → IsSingle (binary op c d)) }
+    ensures reads { IfOk result (ReadsAs op left.now right.now (store_of engine.old)
+        (store_of engine.new)) }
+    ensures single { IfOk result (IsSingleAs op) }
     ensures held { IfErr result (IsRefusalOf (store_of engine.new)) }
     ensures keeps { Keeps engine.old engine.new steps.old steps.new }
-    ensures spends { Spends (operator_allowance (length left.now.cells.items)
-        (length right.now.cells.items) (2 ^ levels_of (store_of engine.old))) (store_of engine.old)
-        (store_of engine.new) }
+    ensures spends { SpendsFor left.now right.now (store_of engine.old) (store_of engine.new) }
 {
     let pair = tested_pair(alloc, engine, Test::Boolean, left, right, steps)?;
     combined(alloc, engine, op, &pair.left, &pair.right, steps)
@@ -198,19 +171,12 @@ fn comparison_of<L: Ledger>(
     requires left { AreCells (store_of engine.old) left.now.cells.items }
     requires right { AreCells (store_of engine.old) right.now.cells.items }
     ensures cells { IfOk result (λ t. AreCells (store_of engine.new) t.cells.items) }
-    ensures reads { IfOk result (λ t. (bits : List Bool) (c d : Checked (List Values))
-        → IsOperand (λ r. value_of (store_of engine.old) r bits) left.now.cells.items
-        left.now.single c
-        → IsOperand (λ r. value_of (store_of engine.old) r bits) right.now.cells.items
-        right.now.single d → Reads (λ r. value_of (store_of engine.new) r bits) t.cells.items
-        (binary op c d)) }
-    ensures single { IfOk result (λ t. t.single ≡ true → (c d : Checked (List Values))
-        → IsSingle (binary op c d)) }
+    ensures reads { IfOk result (ReadsAs op left.now right.now (store_of engine.old)
+        (store_of engine.new)) }
+    ensures single { IfOk result (IsSingleAs op) }
     ensures held { IfErr result (IsRefusalOf (store_of engine.new)) }
     ensures keeps { Keeps engine.old engine.new steps.old steps.new }
-    ensures spends { Spends (operator_allowance (length left.now.cells.items)
-        (length right.now.cells.items) (2 ^ levels_of (store_of engine.old))) (store_of engine.old)
-        (store_of engine.new) }
+    ensures spends { SpendsFor left.now right.now (store_of engine.old) (store_of engine.new) }
 {
     let pair = tested_pair(alloc, engine, Test::Number, left, right, steps)?;
     ordered(alloc, engine, op, &pair.left, &pair.right, steps)
@@ -228,20 +194,14 @@ fn outcome_of<L: Ledger>(
     requires left { AreCells (store_of engine.old) left.now.cells.items }
     requires right { AreCells (store_of engine.old) right.now.cells.items }
     ensures cells { IfOk result (λ t. AreCells (store_of engine.new) t.cells.items) }
-    ensures reads { IfOk result (λ t. (bits : List Bool) (c d : Checked (List Values))
-        → IsOperand (λ r. value_of (store_of engine.old) r bits) left.now.cells.items
-        left.now.single c
-        → IsOperand (λ r. value_of (store_of engine.old) r bits) right.now.cells.items
-        right.now.single d → Reads (λ r. value_of (store_of engine.new) r bits) t.cells.items
-        (binary op c d)) }
-    ensures single { IfOk result (λ t. t.single ≡ true → (c d : Checked (List Values))
-        → IsSingle (binary op c d)) }
+    ensures reads { IfOk result (ReadsAs op left.now right.now (store_of engine.old)
+        (store_of engine.new)) }
+    ensures single { IfOk result (IsSingleAs op) }
     ensures held { IfErr result (IsRefusalOf (store_of engine.new)) }
     ensures keeps { Keeps engine.old engine.new steps.old steps.new }
     ensures spends { AreOperands (store_of engine.old) left.now.cells.items left.now.single
         → AreOperands (store_of engine.old) right.now.cells.items right.now.single
-        → Spends (operator_allowance (length left.now.cells.items) (length right.now.cells.items)
-        (2 ^ levels_of (store_of engine.old))) (store_of engine.old) (store_of engine.new) }
+        → SpendsFor left.now right.now (store_of engine.old) (store_of engine.new) }
 {
     let pair = tested_pair(alloc, engine, Test::Number, left, right, steps)?;
     calculated(alloc, engine, op, &pair.left, &pair.right, steps)
@@ -259,20 +219,14 @@ pub(crate) fn binary_of<L: Ledger>(
     requires left { AreCells (store_of engine.old) left.now.cells.items }
     requires right { AreCells (store_of engine.old) right.now.cells.items }
     ensures cells { IfOk result (λ t. AreCells (store_of engine.new) t.cells.items) }
-    ensures reads { IfOk result (λ t. (bits : List Bool) (c d : Checked (List Values))
-        → IsOperand (λ r. value_of (store_of engine.old) r bits) left.now.cells.items
-        left.now.single c
-        → IsOperand (λ r. value_of (store_of engine.old) r bits) right.now.cells.items
-        right.now.single d → Reads (λ r. value_of (store_of engine.new) r bits) t.cells.items
-        (binary op c d)) }
-    ensures single { IfOk result (λ t. t.single ≡ true → (c d : Checked (List Values))
-        → IsSingle (binary op c d)) }
+    ensures reads { IfOk result (ReadsAs op left.now right.now (store_of engine.old)
+        (store_of engine.new)) }
+    ensures single { IfOk result (IsSingleAs op) }
     ensures held { IfErr result (IsRefusalOf (store_of engine.new)) }
     ensures keeps { Keeps engine.old engine.new steps.old steps.new }
     ensures spends { AreOperands (store_of engine.old) left.now.cells.items left.now.single
         → AreOperands (store_of engine.old) right.now.cells.items right.now.single
-        → Spends (operator_allowance (length left.now.cells.items) (length right.now.cells.items)
-        (2 ^ levels_of (store_of engine.old))) (store_of engine.old) (store_of engine.new) }
+        → SpendsFor left.now right.now (store_of engine.old) (store_of engine.new) }
 {
     match op {
         BinOp::Union => union_of(alloc, engine, op, left, right, steps),
