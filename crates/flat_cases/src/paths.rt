@@ -10,7 +10,7 @@ use crate::words::{push_gap, push_none, push_number, push_word};
 use case_text::fault::Fault;
 use smv_instances::Instances;
 use smv_names::resolving::Targets;
-use smv_names::tables::{ends_of, numbers_of, sizes_of};
+use smv_names::tables::tables_of;
 use smv_names::targets::Target;
 use smv_names::uses::order_of_uses;
 use smv_parser::{Condition, Expr, ExprKind, Path, Program, SectionKind};
@@ -97,13 +97,12 @@ fn push_known<'p>(
         .named(alloc, instances, 0, path)?
         .ok_or(Fault::Unasked)?;
     let order = order_of_uses(alloc, instances, &targets)?;
-    let numbers = numbers_of(alloc, instances, &targets, &order)?;
-    match numbers.get(node) {
+    let tables = tables_of(alloc, instances, &targets, &order)?;
+    match tables.numbers.get(node) {
         Some(Some(number)) => write!(answer, "{number}")?,
         _ => answer.push('-')?,
     }
-    let sizes = sizes_of(alloc, instances, &targets, &order)?;
-    let size = sizes.get(node).ok_or(Fault::Unasked)?;
+    let size = tables.sizes.get(node).ok_or(Fault::Unasked)?;
     let nodes = size.nodes;
     let nesting = size.nesting;
     write!(answer, " nodes {nodes} depth {nesting}")?;
@@ -135,7 +134,8 @@ fn push_ends<'p>(alloc: Global, instances: &Instances<'p>, answer: &mut String) 
 {
     let targets = Targets::build(alloc, instances)?;
     let order = order_of_uses(alloc, instances, &targets)?;
-    for found in &ends_of(alloc, instances, &targets, &order)? {
+    let tables = tables_of(alloc, instances, &targets, &order)?;
+    for found in &tables.ends {
         push_gap(answer, " ")?;
         match found {
             Some(end) => {

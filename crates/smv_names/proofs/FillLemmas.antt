@@ -49,6 +49,12 @@ module _ {A : Type 0} {start : A} {property : Abbreviation → A → Type 0} {p 
       subst (λ z. Works start property p order (set table z x) (k + 1)) (sym read)
       (works_written ordered w h (λ a at. found a (ap (abbreviation_at p) read ∙ at) (λ v b named used. works_known ordered w h bare a at (subst (λ z. get_or circular z false ≡ false) read flag) v b (numbered_within p v b named) named used)))
 
+  -- those that it uses are worked off
+  pub used_known : {table : List A} {k node : ℕ} → ((a : Abbreviation) → text_of a ≡ None → property a start) → Works start property p order table k → k < length order → node ≡ get_or order k 0 → get_or circular node false ≡ false
+      → (a : Abbreviation) → abbreviation_at p node ≡ Some a → HasUsed start property p a table
+  used_known bare w h read flag a at = λ v b named used.
+      works_known ordered w h bare a (sym (ap (abbreviation_at p) read) ∙ at) (subst (λ z. get_or circular z false ≡ false) read flag) v b (numbered_within p v b named) named used
+
   pub fill_end : {table : List A} {k : ℕ} → Works start property p order table k → length order ≤ k → (v : ℕ) (a : Abbreviation) → abbreviation_at p v ≡ Some a → property a (get_or table v start)
   fill_end w full v a at = works_end ordered w full v a (numbered_within p v a at) at
 
@@ -71,6 +77,9 @@ bare_size_of p a z i none = subst (λ o. IsSizeOfText p o z) (sym none) i
 
 pub leaf_is : IsSize leaf 1 1
 leaf_is = record { nodes_are = refl; nesting_is = refl }
+
+pub leaf_only : (z : Size) → IsSize z 1 1 → z ≡ leaf
+leaf_only z is = ap (λ (n : ℕ). let s : Size = record { nodes = n; nesting = z.nesting } in s) is.nodes_are ∙ ap (λ (n : ℕ). let s : Size = record { nodes = 1; nesting = n } in s) is.nesting_is
 
 pub stuck_size : (p : Program) (a : Abbreviation) → IsCircular p a → SizeOf p a leaf
 stuck_size p a circular = go (text_of a) refl

@@ -17,5 +17,6 @@ pub mod Works
 pub mod Known
 pub mod Asking
 pub mod Ends
+pub mod Filling
 pub mod Definitions
 pub mod Paths

@@ -248,11 +248,12 @@ fn is_indexed<'p>(
         → denotes.Denotes p s (plain_path path.now) t
         → IfOk result (IndexedBy p s (plain_path path.now)) }
 {
+    let count = written_indexes(path);
+    if count == 0 {
+        return Ok(true);
+    }
     match targets.resolve(alloc, instances, i, path)? {
-        Some(target) => {
-            let count = written_indexes(path);
-            target_is_indexed(alloc, instances, targets, numbers, &target, count)
-        }
+        Some(target) => { target_is_indexed(alloc, instances, targets, numbers, &target, count) }
         None => Ok(true),
     }
 }

@@ -9,7 +9,7 @@ ghost use Rattle.smv_instances.specs.Instances.{Scope, all_entries, child, insta
 ghost use Rattle.smv_instances.specs.Numbered.{scope_at};
 ghost use Rattle.smv_instances.specs.Answers.{Refused};
 ghost use Rattle.smv_instances.specs.Built.{AreInstances, HasInstance};
-ghost use Rattle.smv_names.specs.Abbreviations.{actual_mentions, definition, mentions, path_rows};
+ghost use Rattle.smv_names.specs.Abbreviations.{actual_mentions, definition, mentions as mentions_of, path_rows};
 ghost use Rattle.smv_names.specs.Nodes.{AreNodes, entries_before};
 ghost use Rattle.smv_names.specs.Ordered.{AreOrdered};
 ghost use Rattle.smv_names.specs.Ready.{AreTargets};
@@ -19,7 +19,7 @@ ghost use Rattle.smv_names.specs.Asking.{CanAsk};
 ghost use Rattle.smv_names.specs.Definitions.{AreDefinedUpTo, AreReady, HasCircles, HasCircularBy, HasPlace, IsCircularBy, IsDefined};
 
 use crate::checks::check_paths;
-use crate::mentions::{push_actuals, push_mentions};
+use crate::mentions::{Mention, push_actuals, push_mentions};
 use crate::resolving::Targets;
 use graph_order::Order;
 use kripke_model::refusals::FlatRefusal;
@@ -106,16 +106,17 @@ fn check_right<'p>(
     numbers: &[Option<i64>],
     i: usize,
     right: &'p Expr,
+    mentions: &mut Vec<Mention<'p>>,
 ) -> Result<(), FlatRefusal>
     requires { CanAsk instances.now targets.now (length numbers.now) i }
     ensures { (p : Plain) (s : Scope) → AreTargets p instances.now targets.now
         → scope_at p i ≡ Some s → AreNumbers p numbers.now
-        → MatchResult result (λ _. AreSound p s (mentions (plain_expr right.now)))
-        (Refused (path_rows p s (mentions (plain_expr right.now)))) }
+        → MatchResult result (λ _. AreSound p s (mentions_of (plain_expr right.now)))
+        (Refused (path_rows p s (mentions_of (plain_expr right.now)))) }
 {
-    let mut mentions = Vec::new(alloc);
-    push_mentions(right, &mut mentions)?;
-    check_paths(alloc, instances, targets, numbers, i, &mentions)
+    mentions.clear();
+    push_mentions(right, mentions)?;
+    check_paths(alloc, instances, targets, numbers, i, mentions)
 }
 
 /// The same for actual parameters.
@@ -126,6 +127,7 @@ fn check_actuals<'p>(
     numbers: &[Option<i64>],
     i: usize,
     actuals: &'p [Expr],
+    mentions: &mut Vec<Mention<'p>>,
 ) -> Result<(), FlatRefusal>
     requires { CanAsk instances.now targets.now (length numbers.now) i }
     ensures { (p : Plain) (s : Scope) → AreTargets p instances.now targets.now
@@ -134,9 +136,9 @@ fn check_actuals<'p>(
         (λ _. AreSound p s (flat_map actual_mentions (map plain_expr actuals.now)))
         (Refused (path_rows p s (flat_map actual_mentions (map plain_expr actuals.now)))) }
 {
-    let mut mentions = Vec::new(alloc);
-    push_actuals(actuals, &mut mentions)?;
-    check_paths(alloc, instances, targets, numbers, i, &mentions)
+    mentions.clear();
+    push_actuals(actuals, mentions)?;
+    check_paths(alloc, instances, targets, numbers, i, mentions)
 }
 
 /// Refuses a defined symbol that is circular, then its paths.
@@ -150,6 +152,7 @@ fn check_defined<'p>(
     k: usize,
     line: u32,
     right: &'p Expr,
+    mentions: &mut Vec<Mention<'p>>,
 ) -> Result<(), FlatRefusal>
     requires { HasPlace instances.now targets.now order.now numbers.now i k }
     ensures { (p : Plain) (s : Scope) (e : Line)
@@ -161,7 +164,7 @@ fn check_defined<'p>(
     if is_circular(targets, order, i, k) {
         return Err(FlatRefusal::CircularDefine { line });
     }
-    check_right(alloc, instances, targets, numbers, i, right)
+    check_right(alloc, instances, targets, numbers, i, right, mentions)
 }
 
 /// Refuses the declaration of an instance with a circular formal parameter, then the paths of its actual
@@ -176,6 +179,7 @@ fn check_declared<'p>(
     k: usize,
     line: u32,
     actuals: &'p [Expr],
+    mentions: &mut Vec<Mention<'p>>,
 ) -> Result<(), FlatRefusal>
     requires { HasPlace instances.now targets.now order.now numbers.now i k }
     ensures { (p : Plain) (s : Scope) (e : Line) (process : Bool) (module_name : Name)
@@ -187,7 +191,7 @@ fn check_declared<'p>(
     if declares_circular(instances, targets, order, i, k) {
         return Err(FlatRefusal::CircularDefine { line });
     }
-    check_actuals(alloc, instances, targets, numbers, i, actuals)
+    check_actuals(alloc, instances, targets, numbers, i, actuals, mentions)
 }
 
 /// Refuses an entry of the instance i.
@@ -199,6 +203,7 @@ fn check_entry<'p>(
     numbers: &[Option<i64>],
     i: usize,
     k: usize,
+    mentions: &mut Vec<Mention<'p>>,
 ) -> Result<(), FlatRefusal>
     requires { HasPlace instances.now targets.now order.now numbers.now i k }
     ensures { (p : Plain) (s : Scope) (e : Line)
@@ -210,11 +215,13 @@ fn check_entry<'p>(
     let line = entry.line;
     match entry.entity {
         Entity::Defined(right) => {
-            check_defined(alloc, instances, targets, order, numbers, i, k, line, right)
+            check_defined(
+                alloc, instances, targets, order, numbers, i, k, line, right, mentions,
+            )
         }
         Entity::Instance { actuals, .. } => {
             check_declared(
-                alloc, instances, targets, order, numbers, i, k, line, actuals,
+                alloc, instances, targets, order, numbers, i, k, line, actuals, mentions,
             )
         }
         Entity::Parameter => Ok(()),
@@ -241,6 +248,7 @@ fn check_body<'p>(
     order: &Order,
     numbers: &[Option<i64>],
     i: usize,
+    mentions: &mut Vec<Mention<'p>>,
 ) -> Result<(), FlatRefusal>
     requires { (p : Plain) × AreReady p instances.now targets.now order.now numbers.now
         × (i < length (all_instances p)) }
@@ -250,7 +258,7 @@ fn check_body<'p>(
         (Refused (first_of (all_entries p) (definition p))) }
 {
     for k in 0..entry_count(instances, i) {
-        check_entry(alloc, instances, targets, order, numbers, i, k)?;
+        check_entry(alloc, instances, targets, order, numbers, i, k, mentions)?;
     }
     Ok(())
 }
@@ -271,8 +279,9 @@ pub fn check_definitions<'p>(
     ensures refused { (p : Plain) → AreReady p instances.now targets.now order.now numbers.now
         → IfErr result (λ r. (r ≡ FlatRefusal.Memory) ⊎ first_of (all_entries p) (definition p) r) }
 {
+    let mut mentions = Vec::new(alloc);
     for i in 0..instances.len() {
-        check_body(alloc, instances, targets, order, numbers, i)?;
+        check_body(alloc, instances, targets, order, numbers, i, &mut mentions)?;
     }
     Ok(())
 }

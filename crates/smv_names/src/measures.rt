@@ -4,13 +4,13 @@ ghost use Rattle.std.specs.Prelude.{◌≡◌, Some, IfOk, length, map};
 ghost use Rattle.smv_parser.specs.Tree as tree;
 ghost use Rattle.smv_parser.specs.View.{tree_of, arm_pair};
 ghost use Rattle.smv_instances.specs.Abstract as abstract;
-ghost use Rattle.smv_instances.specs.Program.{Expr as PlainExpr, Program as Plain};
+ghost use Rattle.smv_instances.specs.Program.{Expr as PlainExpr, Path as Written, Program as Plain};
 ghost use Rattle.smv_instances.specs.Plain.{plain_expr};
-ghost use Rattle.smv_instances.specs.Instances.{Scope};
+ghost use Rattle.smv_instances.specs.Instances.{Scope, all_entries};
 ghost use Rattle.smv_instances.specs.Numbered.{scope_at};
 ghost use Rattle.smv_names.specs.Abbreviations.{mentions, element_mentions, arm_mentions};
 ghost use Rattle.smv_names.specs.Written.{plain_path};
-ghost use Rattle.smv_names.specs.Ready.{AreTargets};
+ghost use Rattle.smv_names.specs.Ready.{AreTargets, NamesNode};
 ghost use Rattle.smv_names.specs.Values.{IsSizeOf, AreSizesOf, AreArmSizesOf};
 ghost use Rattle.smv_names.specs.Asking.{CanAsk};
 ghost use Rattle.smv_names.specs.Known.{AreSizesIn};
@@ -20,6 +20,20 @@ use crate::sizes::Size;
 use smv_instances::Instances;
 use smv_parser::{Arm, Expr, ExprKind, Path};
 use std::alloc::{AllocError, Global};
+
+/// The size of a path that names the abbreviation with this number, or no expression.
+pub(crate) fn size_named(sizes: &[Size], named: Option<usize>) -> Size
+    requires { (p : Plain) × (s : Scope) × (q : Written) × NamesNode p s q named
+        × (length sizes.now ≡ length (all_entries p)) }
+    ensures { (p : Plain) (s : Scope) (q : Written) → NamesNode p s q named
+        → AreSizesIn p sizes.now s (mentions (PlainExpr.At q))
+        → IsSizeOf p s (PlainExpr.At q) result }
+{
+    match named {
+        Some(node) => sizes[node],
+        None => Size::leaf(),
+    }
+}
 
 /// The size of what a path names: that of the abbreviation, or a leaf where it has no text.
 fn path_size<'p>(
@@ -36,10 +50,8 @@ fn path_size<'p>(
         → AreSizesIn p sizes.now s (mentions (PlainExpr.At (plain_path path.now)))
         → IfOk result (IsSizeOf p s (PlainExpr.At (plain_path path.now))) }
 {
-    match targets.named(alloc, instances, i, path)? {
-        Some(node) => Ok(sizes[node]),
-        None => Ok(Size::leaf()),
-    }
+    let named = targets.named(alloc, instances, i, path)?;
+    Ok(size_named(sizes, named))
 }
 
 /// The size of what an expression, read in the instance i, stands for, from those of the

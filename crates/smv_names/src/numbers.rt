@@ -5,10 +5,10 @@ ghost use Rattle.smv_instances.specs.Program.{Program as Plain};
 ghost use Rattle.smv_instances.specs.Plain.{plain_expr};
 ghost use Rattle.smv_instances.specs.Instances.{Scope, all_entries, instances as all_instances};
 ghost use Rattle.smv_instances.specs.Numbered.{scope_at};
-ghost use Rattle.smv_instances.specs.Program.{Expr as PlainExpr};
+ghost use Rattle.smv_instances.specs.Program.{Expr as PlainExpr, Path as Written};
 ghost use Rattle.smv_names.specs.Abbreviations.{mentions};
 ghost use Rattle.smv_names.specs.Written.{plain_path};
-ghost use Rattle.smv_names.specs.Ready.{AreTargets};
+ghost use Rattle.smv_names.specs.Ready.{AreTargets, NamesNode};
 ghost use Rattle.smv_names.specs.Values.{IsNumber};
 ghost use Rattle.smv_names.specs.Asking.{CanAsk};
 ghost use Rattle.smv_names.specs.Known.{AreNumbersIn};
@@ -18,6 +18,20 @@ use crate::resolving::Targets;
 use smv_instances::Instances;
 use smv_parser::{Expr, ExprKind, Path};
 use std::alloc::{AllocError, Global};
+
+/// The number of a path that names the abbreviation with this number, or no expression.
+pub fn number_named(numbers: &[Option<i64>], named: Option<usize>) -> Option<i64>
+    requires { (p : Plain) × (s : Scope) × (q : Written) × NamesNode p s q named
+        × (length numbers.now ≡ length (all_entries p)) }
+    ensures { (p : Plain) (s : Scope) (q : Written) → NamesNode p s q named
+        → AreNumbersIn p numbers.now s (mentions (PlainExpr.At q))
+        → IsNumber p s (PlainExpr.At q) result }
+{
+    match named {
+        Some(node) => numbers[node],
+        None => None,
+    }
+}
 
 /// The number of what a path names, if that is an expression that has one.
 fn path_number<'p>(
@@ -34,10 +48,8 @@ fn path_number<'p>(
         → AreNumbersIn p numbers.now s (mentions (PlainExpr.At (plain_path path.now)))
         → IfOk result (IsNumber p s (PlainExpr.At (plain_path path.now))) }
 {
-    match targets.named(alloc, instances, i, path)? {
-        Some(node) => Ok(numbers[node]),
-        None => Ok(None),
-    }
+    let named = targets.named(alloc, instances, i, path)?;
+    Ok(number_named(numbers, named))
 }
 
 /// The number of an expression that is read in the instance i, if it has one, from those of the

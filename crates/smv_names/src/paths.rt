@@ -11,7 +11,7 @@ ghost use Rattle.smv_names.specs.Paths.{ArePaths};
 use crate::definitions::check_definitions;
 use crate::resolving::Targets;
 use crate::sizes::Size;
-use crate::tables::{End, ends_of, numbers_of, sizes_of};
+use crate::tables::{End, Tables, tables_of};
 use crate::uses::order_of_uses;
 use kripke_model::refusals::FlatRefusal;
 use smv_instances::Instances;
@@ -43,10 +43,13 @@ impl<'p> Paths<'p> {
     {
         let targets = Targets::build(alloc, instances)?;
         let order = order_of_uses(alloc, instances, &targets)?;
-        let numbers = numbers_of(alloc, instances, &targets, &order)?;
-        check_definitions(alloc, instances, &targets, &order, &numbers)?;
-        let sizes = sizes_of(alloc, instances, &targets, &order)?;
-        let ends = ends_of(alloc, instances, &targets, &order)?;
+        let tables = tables_of(alloc, instances, &targets, &order)?;
+        check_definitions(alloc, instances, &targets, &order, &tables.numbers)?;
+        let Tables {
+            numbers,
+            sizes,
+            ends,
+        } = tables;
         Ok(Paths {
             targets,
             numbers,

@@ -1,7 +1,8 @@
-//! Tables over all abbreviations: their numbers, their sizes, and the ends of their chains. Each is
-//! filled in an order in which an abbreviation stands after those that it uses.
+//! Tables over all abbreviations: their numbers, their sizes, and the ends of their chains. They are
+//! filled in one pass, in an order in which an abbreviation stands after those that it uses, so that a
+//! text that is a path alone is looked up once.
 
-ghost use Rattle.std.specs.Prelude.{◌≡◌, ◌<◌, IfOk, length, slice_index_or, Some, None};
+ghost use Rattle.std.specs.Prelude.{◌≡◌, ◌<◌, IfOk, length, slice_index_or, Some, None, ◌+◌, ℕ, List, OnOk};
 ghost use Rattle.smv_instances.specs.Program.{Expr as PlainExpr, Path, Program as Plain};
 ghost use Rattle.smv_instances.specs.Plain.{plain_expr};
 ghost use Rattle.smv_instances.specs.Instances.{Scope, all_entries};
@@ -9,15 +10,16 @@ ghost use Rattle.smv_instances.specs.Numbered.{scope_at};
 ghost use Rattle.smv_names.specs.Denotes.{bare};
 ghost use Rattle.smv_names.specs.Abbreviations.{Abbreviation, Names, mentions};
 ghost use Rattle.smv_names.specs.Nodes.{abbreviation_at};
-ghost use Rattle.smv_names.specs.Ready.{AreTargets};
+ghost use Rattle.smv_names.specs.Ready.{AreTargets, NamesNode};
 ghost use Rattle.smv_names.specs.Ordered.{AreOrdered};
 ghost use Rattle.smv_names.specs.Works.{HasUsed};
 ghost use Rattle.smv_names.specs.Asking.{CanAsk};
-ghost use Rattle.smv_names.specs.Known.{AreNumbers, AreSizes, NumberOf, SizeOf, leaf};
+ghost use Rattle.smv_names.specs.Known.{AreNumbers, AreSizes, NumberOf, SizeOf, leaf, AreNumbersIn, AreSizesIn};
 ghost use Rattle.smv_names.specs.Ends.{AreEnds, AreEndsIn, EndOf, IsEndOf};
+ghost use Rattle.smv_names.specs.Filling.{AreFilled, IsRow, RowOf};
 
-use crate::measures::size;
-use crate::numbers::number;
+use crate::measures::{size, size_named};
+use crate::numbers::{number, number_named};
 use crate::resolving::Targets;
 use crate::sizes::Size;
 use crate::texts::text_at;
@@ -26,91 +28,6 @@ use graph_order::Order;
 use smv_instances::Instances;
 use smv_parser::Expr;
 use std::alloc::{AllocError, Global};
-
-/// The number of an abbreviation from those of the abbreviations that it uses.
-fn number_at<'p>(
-    alloc: Global,
-    instances: &Instances<'p>,
-    targets: &Targets<'p>,
-    numbers: &[Option<i64>],
-    node: usize,
-) -> Result<Option<i64>, AllocError>
-    requires { (p : Plain) × AreTargets p instances.now targets.now
-        × (length numbers.now ≡ length (all_entries p)) × (node < length (all_entries p)) }
-    ensures { (p : Plain) (a : Abbreviation) → AreTargets p instances.now targets.now
-        → abbreviation_at p node ≡ Some a → HasUsed None (NumberOf p) p a numbers.now
-        → IfOk result (NumberOf p a) }
-{
-    match text_at(instances, targets, node) {
-        Some((home, text)) => number(alloc, instances, targets, numbers, home, text),
-        None => Ok(None),
-    }
-}
-
-/// The number of each abbreviation that has one.
-pub fn numbers_of<'p>(
-    alloc: Global,
-    instances: &Instances<'p>,
-    targets: &Targets<'p>,
-    order: &Order,
-) -> Result<Vec<Option<i64>>, AllocError>
-    requires { (p : Plain) × AreTargets p instances.now targets.now
-        × AreOrdered p order.now.order.items order.now.circular.items }
-    ensures { (p : Plain) → AreTargets p instances.now targets.now
-        → AreOrdered p order.now.order.items order.now.circular.items
-        → IfOk result (λ ns. AreNumbers p ns.items × (length ns.items ≡ length (all_entries p))) }
-{
-    let mut numbers = vec![in alloc; None; targets.nodes.count]?;
-    for node in &order.order {
-        if !order.circular[*node] {
-            numbers[*node] = number_at(alloc, instances, targets, &numbers, *node)?;
-        }
-    }
-    Ok(numbers)
-}
-
-/// The size of an abbreviation from those of the abbreviations that it uses.
-fn size_at<'p>(
-    alloc: Global,
-    instances: &Instances<'p>,
-    targets: &Targets<'p>,
-    sizes: &[Size],
-    node: usize,
-) -> Result<Size, AllocError>
-    requires { (p : Plain) × AreTargets p instances.now targets.now
-        × (length sizes.now ≡ length (all_entries p)) × (node < length (all_entries p)) }
-    ensures { (p : Plain) (a : Abbreviation) → AreTargets p instances.now targets.now
-        → abbreviation_at p node ≡ Some a → HasUsed leaf (SizeOf p) p a sizes.now
-        → IfOk result (SizeOf p a) }
-{
-    match text_at(instances, targets, node) {
-        Some((home, text)) => size(alloc, instances, targets, sizes, home, text),
-        None => Ok(Size::leaf()),
-    }
-}
-
-/// The size of each abbreviation, where it stands for a term.
-pub fn sizes_of<'p>(
-    alloc: Global,
-    instances: &Instances<'p>,
-    targets: &Targets<'p>,
-    order: &Order,
-) -> Result<Vec<Size>, AllocError>
-    requires { (p : Plain) × AreTargets p instances.now targets.now
-        × AreOrdered p order.now.order.items order.now.circular.items }
-    ensures { (p : Plain) → AreTargets p instances.now targets.now
-        → AreOrdered p order.now.order.items order.now.circular.items
-        → IfOk result (λ sizes. AreSizes p sizes.items
-        × (length sizes.items ≡ length (all_entries p))) }
-{
-    let mut sizes = vec![in alloc; Size::leaf(); targets.nodes.count]?;
-    for node in &order.order {
-        if !order.circular[*node] {
-            sizes[*node] = size_at(alloc, instances, targets, &sizes, *node)?;
-        }
-    }
-    Ok(sizes)
-}
 
 /// Where a chain of definitions that are a path alone ends: at an expression that is no path to a
 /// further one.
@@ -143,6 +60,29 @@ fn end_through<'p>(
     }
 }
 
+/// The end of the chain that begins with a path, which names the abbreviation with this number, or no
+/// expression.
+fn end_named<'p>(
+    instances: &Instances<'p>,
+    targets: &Targets<'p>,
+    ends: &[Option<End<'p>>],
+    here: End<'p>,
+    named: Option<usize>,
+) -> Option<End<'p>>
+    requires { (p : Plain) × (s : Scope) × (q : Path) × AreTargets p instances.now targets.now
+        × (length ends.now ≡ length (all_entries p)) × NamesNode p s q named }
+    ensures { (p : Plain) (s : Scope) (q : Path) → AreTargets p instances.now targets.now
+        → scope_at p here.entry.home ≡ Some s
+        → bare (plain_expr here.entry.right.now) ≡ PlainExpr.At q → NamesNode p s q named
+        → AreEndsIn p ends.now s (mentions (plain_expr here.entry.right.now))
+        → IsEndOf p s (plain_expr here.entry.right.now) result }
+{
+    match named {
+        Some(node) => end_through(instances, targets, ends, here, node),
+        None => Some(here),
+    }
+}
+
 /// The end of the chain that begins with an expression, which is read in the instance i.
 fn end_of<'p>(
     alloc: Global,
@@ -164,51 +104,165 @@ fn end_of<'p>(
     let Some(path) = path_of(bare_of(expr)) else {
         return Ok(Some(here));
     };
-    match targets.named(alloc, instances, i, path)? {
-        Some(node) => Ok(end_through(instances, targets, ends, here, node)),
-        None => Ok(Some(here)),
-    }
+    let named = targets.named(alloc, instances, i, path)?;
+    Ok(end_named(instances, targets, ends, here, named))
 }
 
-/// The end of an abbreviation's chain from those of the abbreviations that it uses.
-fn end_at<'p>(
+/// The tables, with an entry for each abbreviation.
+#[derive(Drop)]
+pub struct Tables<'p> {
+    pub numbers: Vec<Option<i64>>,
+    pub sizes: Vec<Size>,
+    pub ends: Vec<Option<End<'p>>>,
+}
+
+/// What stands in the tables for one abbreviation.
+#[derive(Clone, Copy)]
+struct Row<'p> {
+    pub number: Option<i64>,
+    pub size: Size,
+    pub end: Option<End<'p>>,
+}
+
+/// The row of an expression, which is read in the instance i.
+fn text_row<'p>(
     alloc: Global,
     instances: &Instances<'p>,
     targets: &Targets<'p>,
+    numbers: &[Option<i64>],
+    sizes: &[Size],
     ends: &[Option<End<'p>>],
-    node: usize,
-) -> Result<Option<End<'p>>, AllocError>
-    requires { (p : Plain) × AreTargets p instances.now targets.now
-        × (length ends.now ≡ length (all_entries p)) × (node < length (all_entries p)) }
-    ensures { (p : Plain) (a : Abbreviation) → AreTargets p instances.now targets.now
-        → abbreviation_at p node ≡ Some a → HasUsed None (EndOf p) p a ends.now
-        → IfOk result (EndOf p a) }
+    i: usize,
+    text: &'p Expr,
+) -> Result<Row<'p>, AllocError>
+    requires numbers { CanAsk instances.now targets.now (length numbers.now) i }
+    requires sizes { CanAsk instances.now targets.now (length sizes.now) i }
+    requires ends { CanAsk instances.now targets.now (length ends.now) i }
+    ensures { (p : Plain) (s : Scope) → AreTargets p instances.now targets.now
+        → scope_at p i ≡ Some s → AreNumbersIn p numbers.now s (mentions (plain_expr text.now))
+        → AreSizesIn p sizes.now s (mentions (plain_expr text.now))
+        → AreEndsIn p ends.now s (mentions (plain_expr text.now))
+        → IfOk result (IsRow p s (plain_expr text.now)) }
 {
-    match text_at(instances, targets, node) {
-        Some((home, text)) => end_of(alloc, instances, targets, ends, home, text),
-        None => Ok(None),
+    match path_of(text) {
+        Some(path) => {
+            let named = targets.named(alloc, instances, i, path)?;
+            let here = End {
+                home: i,
+                right: text,
+            };
+            Ok(Row {
+                number: number_named(numbers, named),
+                size: size_named(sizes, named),
+                end: end_named(instances, targets, ends, here, named),
+            })
+        }
+        None => Ok(Row {
+            number: number(alloc, instances, targets, numbers, i, text)?,
+            size: size(alloc, instances, targets, sizes, i, text)?,
+            end: end_of(alloc, instances, targets, ends, i, text)?,
+        }),
     }
 }
 
-/// For each abbreviation the end of its chain of definitions that are a path alone.
-pub fn ends_of<'p>(
+/// The row of an abbreviation from those of the abbreviations that it uses.
+fn row_at<'p>(
+    alloc: Global,
+    instances: &Instances<'p>,
+    targets: &Targets<'p>,
+    numbers: &[Option<i64>],
+    sizes: &[Size],
+    ends: &[Option<End<'p>>],
+    node: usize,
+) -> Result<Row<'p>, AllocError>
+    requires { (p : Plain) × AreTargets p instances.now targets.now
+        × (length numbers.now ≡ length (all_entries p))
+        × (length sizes.now ≡ length (all_entries p))
+        × (length ends.now ≡ length (all_entries p)) × (node < length (all_entries p)) }
+    ensures { (p : Plain) (a : Abbreviation) → AreTargets p instances.now targets.now
+        → abbreviation_at p node ≡ Some a → HasUsed None (NumberOf p) p a numbers.now
+        → HasUsed leaf (SizeOf p) p a sizes.now → HasUsed None (EndOf p) p a ends.now
+        → IfOk result (RowOf p a) }
+{
+    match text_at(instances, targets, node) {
+        Some((home, text)) => {
+            text_row(alloc, instances, targets, numbers, sizes, ends, home, text)
+        }
+        None => Ok(Row {
+            number: None,
+            size: Size::leaf(),
+            end: None,
+        }),
+    }
+}
+
+/// Fills the row of the abbreviation at a place of the order. A circular one keeps what it has.
+fn fill_at<'p>(
     alloc: Global,
     instances: &Instances<'p>,
     targets: &Targets<'p>,
     order: &Order,
-) -> Result<Vec<Option<End<'p>>>, AllocError>
+    k: usize,
+    tables: &mut Tables<'p>,
+) -> Result<(), AllocError>
+    requires { (p : Plain) × AreTargets p instances.now targets.now
+        × AreOrdered p order.now.order.items order.now.circular.items
+        × AreFilled p order.now.order.items k tables.old × (k < length order.now.order.items) }
+    ensures { (p : Plain) → AreTargets p instances.now targets.now
+        → AreOrdered p order.now.order.items order.now.circular.items
+        → AreFilled p order.now.order.items k tables.old
+        → OnOk result (AreFilled p order.now.order.items (k + 1) tables.new) }
+{
+    let node = order.order[k];
+    if order.circular[node] {
+        return Ok(());
+    }
+    let row = row_at(
+        alloc,
+        instances,
+        targets,
+        &tables.numbers,
+        &tables.sizes,
+        &tables.ends,
+        node,
+    )?;
+    tables.numbers[node] = row.number;
+    tables.sizes[node] = row.size;
+    tables.ends[node] = row.end;
+    Ok(())
+}
+
+/// Tables of which nothing is filled.
+fn blank<'p>(alloc: Global, count: usize) -> Result<Tables<'p>, AllocError>
+    ensures { (p : Plain) (order : List ℕ) → count ≡ length (all_entries p)
+        → IfOk result (AreFilled p order 0) }
+{
+    Ok(Tables {
+        numbers: vec![in alloc; None; count]?,
+        sizes: vec![in alloc; Size::leaf(); count]?,
+        ends: vec![in alloc; None; count]?,
+    })
+}
+
+/// The tables of all abbreviations.
+pub fn tables_of<'p>(
+    alloc: Global,
+    instances: &Instances<'p>,
+    targets: &Targets<'p>,
+    order: &Order,
+) -> Result<Tables<'p>, AllocError>
     requires { (p : Plain) × AreTargets p instances.now targets.now
         × AreOrdered p order.now.order.items order.now.circular.items }
     ensures { (p : Plain) → AreTargets p instances.now targets.now
         → AreOrdered p order.now.order.items order.now.circular.items
-        → IfOk result (λ ends. AreEnds p ends.items
-        × (length ends.items ≡ length (all_entries p))) }
+        → IfOk result (λ t. AreNumbers p t.numbers.items
+        × (length t.numbers.items ≡ length (all_entries p)) × AreSizes p t.sizes.items
+        × (length t.sizes.items ≡ length (all_entries p)) × AreEnds p t.ends.items
+        × (length t.ends.items ≡ length (all_entries p))) }
 {
-    let mut ends = vec![in alloc; None; targets.nodes.count]?;
-    for node in &order.order {
-        if !order.circular[*node] {
-            ends[*node] = end_at(alloc, instances, targets, &ends, *node)?;
-        }
+    let mut tables = blank(alloc, targets.nodes.count)?;
+    for k in 0..order.order.len() {
+        fill_at(alloc, instances, targets, order, k, &mut tables)?;
     }
-    Ok(ends)
+    Ok(tables)
 }

@@ -1,13 +1,13 @@
 //! The order in which abbreviations can be worked off, and those that are circular.
 
-ghost use Rattle.std.specs.Prelude.{◌≡◌, ◌++◌, ◌∷◌, ◌+◌, ◌<◌, [], List, Some, None, IfOk, OnOk, length, slice_get};
+ghost use Rattle.std.specs.Prelude.{◌≡◌, ◌++◌, ◌∷◌, ◌+◌, ◌<◌, [], List, Some, None, IfOk, OnOk, length, map, slice_get};
 ghost use Rattle.smv_instances.specs.Program.{Path as Written, Program as Plain};
 ghost use Rattle.smv_instances.specs.Plain.{plain_expr};
 ghost use Rattle.smv_instances.specs.Entries.{Entry, entries};
 ghost use Rattle.smv_instances.specs.Instances.{Scope, all_entries, module_of};
 ghost use Rattle.smv_instances.specs.Numbered.{scope_at};
 ghost use Rattle.smv_names.specs.Abbreviations.{Mention as PlainMention, mentions as mentions_of};
-ghost use Rattle.smv_names.specs.Mentions.{plain_mention};
+ghost use Rattle.smv_names.specs.Mentions.{first_mention, plain_mention};
 ghost use Rattle.smv_names.specs.Written.{extended};
 ghost use Rattle.graph_order.specs.Graphs.{IsGraph, IsStarted};
 ghost use Rattle.smv_names.specs.Nodes.{entries_before};
@@ -59,7 +59,32 @@ fn push_number(number: Option<usize>, numbers: &mut Vec<usize>) -> Result<(), Al
     Ok(())
 }
 
-/// Adds the numbers of the abbreviations that a path and its fronts name. It goes along the path once.
+/// Adds the numbers of the abbreviations that the fronts of a path with more than one part name, and
+/// that the path itself names. It goes along the path once.
+fn push_longer<'p>(
+    alloc: Global,
+    instances: &Instances<'p>,
+    targets: &Targets<'p>,
+    i: usize,
+    mention: &Mention<'p>,
+    numbers: &mut Vec<usize>,
+) -> Result<(), AllocError>
+    requires { HasTargets instances.now targets.now i }
+    ensures { (p : Plain) (s : Scope) (ms : List PlainMention)
+        → AreTargets p instances.now targets.now → scope_at p i ≡ Some s
+        → AreNamed p s (ms ++ first_mention mention.now ∷ []) numbers.old.items
+        → OnOk result (AreNamed p s (ms ++ plain_mention mention.now ∷ []) numbers.new.items) }
+{
+    let path = mention.path;
+    let mut front = first(alloc, instances, targets, i, &path.first)?;
+    for part in &path.parts {
+        push_number(named_next(instances, targets, &front, part), numbers)?;
+        front = follow(alloc, instances, targets, i, front, part)?;
+    }
+    Ok(())
+}
+
+/// Adds the numbers of the abbreviations that a path and its fronts name.
 fn push_fronts<'p>(
     alloc: Global,
     instances: &Instances<'p>,
@@ -76,54 +101,91 @@ fn push_fronts<'p>(
 {
     let path = mention.path;
     push_number(entry_node(instances, targets, i, &path.first), numbers)?;
-    let mut front = first(alloc, instances, targets, i, &path.first)?;
-    for part in &path.parts {
-        push_number(named_next(instances, targets, &front, part), numbers)?;
-        front = follow(alloc, instances, targets, i, front, part)?;
+    if path.parts.is_empty() {
+        return Ok(());
+    }
+    push_longer(alloc, instances, targets, i, mention, numbers)
+}
+
+/// Adds the numbers of the abbreviations that some paths name.
+fn push_named<'p>(
+    alloc: Global,
+    instances: &Instances<'p>,
+    targets: &Targets<'p>,
+    i: usize,
+    mentions: &[Mention<'p>],
+    numbers: &mut Vec<usize>,
+) -> Result<(), AllocError>
+    requires ready { HasTargets instances.now targets.now i }
+    requires empty { numbers.old.items ≡ [] }
+    ensures { (p : Plain) (s : Scope) → AreTargets p instances.now targets.now
+        → scope_at p i ≡ Some s
+        → OnOk result (AreNamed p s (map plain_mention mentions.now) numbers.new.items) }
+{
+    for mention in mentions {
+        push_fronts(alloc, instances, targets, i, mention, numbers)?;
     }
     Ok(())
 }
 
-/// The numbers of the abbreviations that the paths of an expression name, which is read in the
+/// What is found of one abbreviation, in vectors that are used again for the next one.
+#[derive(Drop)]
+struct Found<'p> {
+    /// The paths of its expression.
+    mentions: Vec<Mention<'p>>,
+    /// The numbers of the abbreviations that they name.
+    numbers: Vec<usize>,
+}
+
+/// Finds the numbers of the abbreviations that the paths of an expression name, which is read in the
 /// instance i.
-fn named_in<'p>(
+fn find_named<'p>(
     alloc: Global,
     instances: &Instances<'p>,
     targets: &Targets<'p>,
     i: usize,
     expr: &'p Expr,
-) -> Result<Vec<usize>, AllocError>
+    found: &mut Found<'p>,
+) -> Result<(), AllocError>
     requires { HasTargets instances.now targets.now i }
     ensures { (p : Plain) (s : Scope) → AreTargets p instances.now targets.now
         → scope_at p i ≡ Some s
-        → IfOk result (λ ns. AreNamed p s (mentions_of (plain_expr expr.now)) ns.items) }
+        → OnOk result (AreNamed p s (mentions_of (plain_expr expr.now)) found.new.numbers.items) }
 {
-    let mut mentions = Vec::new(alloc);
-    push_mentions(expr, &mut mentions)?;
-    let mut numbers = Vec::new(alloc);
-    for mention in &mentions {
-        push_fronts(alloc, instances, targets, i, mention, &mut numbers)?;
-    }
-    Ok(numbers)
+    found.mentions.clear();
+    push_mentions(expr, &mut found.mentions)?;
+    found.numbers.clear();
+    push_named(
+        alloc,
+        instances,
+        targets,
+        i,
+        &found.mentions,
+        &mut found.numbers,
+    )
 }
 
-/// The numbers of the abbreviations that the expression of the one of an entry names.
-fn used_by<'p>(
+/// Finds the numbers of the abbreviations that the expression of the one of an entry names.
+fn find_used<'p>(
     alloc: Global,
     instances: &Instances<'p>,
     targets: &Targets<'p>,
     i: usize,
     place: usize,
-) -> Result<Vec<usize>, AllocError>
+    found: &mut Found<'p>,
+) -> Result<(), AllocError>
     requires { (p : Plain) × (s : Scope) × AreTargets p instances.now targets.now
         × (scope_at p i ≡ Some s) × (place < length (entries (module_of s))) }
     ensures { (p : Plain) (s : Scope) (e : Entry) → AreTargets p instances.now targets.now
         → scope_at p i ≡ Some s → slice_get (entries (module_of s)) place ≡ Some e
-        → IfOk result (λ ns. AreUsed p (record { scope = s; name = e.name }) ns.items) }
+        → OnOk result (AreUsed p (record { scope = s; name = e.name }) found.new.numbers.items) }
 {
     match text_at_entry(instances, i, place) {
-        Some((home, right)) => named_in(alloc, instances, targets, home, right),
-        None => Ok(Vec::new(alloc)),
+        Some((home, right)) => find_named(alloc, instances, targets, home, right, found),
+        None => {
+            found.numbers.clear();
+            Ok(())
+        }
     }
 }
 
@@ -148,6 +210,7 @@ fn push_entries<'p>(
     instances: &Instances<'p>,
     targets: &Targets<'p>,
     i: usize,
+    found: &mut Found<'p>,
     graph: &mut Graph,
 ) -> Result<(), AllocError>
     requires ready { HasTargets instances.now targets.now i }
@@ -159,8 +222,8 @@ fn push_entries<'p>(
         (entries_before p (i + 1))) }
 {
     for place in 0..instances.entries(i).len() {
-        let used = used_by(alloc, instances, targets, i, place)?;
-        push_node(graph, &used)?;
+        find_used(alloc, instances, targets, i, place, found)?;
+        push_node(graph, &found.numbers)?;
     }
     Ok(())
 }
@@ -179,8 +242,12 @@ fn graph_of<'p>(
         → IfOk result (λ g. AreUses p g.firsts.items g.targets.items (length (all_entries p))) }
 {
     let mut graph = Graph::new(alloc)?;
+    let mut found = Found {
+        mentions: Vec::new(alloc),
+        numbers: Vec::new(alloc),
+    };
     for i in 0..instances.len() {
-        push_entries(alloc, instances, targets, i, &mut graph)?;
+        push_entries(alloc, instances, targets, i, &mut found, &mut graph)?;
     }
     Ok(graph)
 }

@@ -3,13 +3,14 @@
 ghost use Rattle.std.specs.Prelude.{◌≡◌, ℕ, List, Some, None, IfOk, IfSome, IfNone, IsTrue, false};
 ghost use Rattle.smv_instances.specs.Program.{Expr as Body, Path as Written, Plain as Stored, Program as Plain};
 ghost use Rattle.smv_instances.specs.Plain.{plain_expr, plain_type};
-ghost use Rattle.smv_instances.specs.Instances.{Scope};
+ghost use Rattle.smv_instances.specs.Instances.{Scope, module_of};
 ghost use Rattle.smv_instances.specs.Numbered.{IsFound, scope_at};
-ghost use Rattle.smv_instances.specs.Built.{AreInstances, HasInstance};
+ghost use Rattle.smv_instances.specs.Built.{AreInstances, HasInstance, IsEntryOf};
 ghost use Rattle.smv_names.specs.declared.states.States.{States};
 ghost use Rattle.smv_names.specs.Denotes.{bare, meaning};
 ghost use Rattle.smv_names.specs.Expands.{is_array};
 ghost use Rattle.smv_names.specs.Written.{extended, followed, is_path, plain_path};
+ghost use Rattle.smv_names.specs.Nodes.{AreNodes};
 ghost use Rattle.smv_names.specs.Targets.{LeadsTo, Resolves};
 ghost use Rattle.smv_names.specs.Passed.{AreStates, Deciding, Finding, IsParameter, Walking, state_at};
 ghost use Rattle.smv_names.specs.Ready.{AreStarted, AreTargets, HasMeaning, HasStarted, HasTargets, IsNamed, LeadsInto, NamesNode};
@@ -62,17 +63,20 @@ fn stands(instances: &Instances<'_>, i: usize, found: Found<'_>) -> bool
     }
 }
 
-/// What the instance's module declares under a name, if it stands for something there.
-fn found_at<'p>(instances: &Instances<'p>, i: usize, name: &Name) -> Option<Found<'p>>
+/// What the instance's module declares under a name, if it stands for something there, and the place
+/// of its entry.
+fn found_at<'p>(instances: &Instances<'p>, i: usize, name: &Name) -> Option<(usize, Found<'p>)>
     requires { HasInstance instances.now i }
     ensures some { (p : Plain) (s : Scope) → AreInstances p instances.now → scope_at p i ≡ Some s
-        → IfSome result (λ f. IsFound p s name.now f × HasMeaning p s name.now) }
+        → IfSome result (λ f. IsEntryOf (module_of s) name.now f.0 × IsFound p s name.now f.1
+        × HasMeaning p s name.now) }
     ensures none { (p : Plain) (s : Scope) → AreInstances p instances.now → scope_at p i ≡ Some s
         → IfNone result (meaning p s name.now ≡ None) }
 {
-    let found = instances.find(i, name)?;
+    let place = instances.entry_at(i, name)?;
+    let found = instances.found_at(i, place);
     if stands(instances, i, found) {
-        return Some(found);
+        return Some((place, found));
     }
     None
 }
@@ -115,46 +119,48 @@ pub fn entry_node(
     Some(targets.nodes.node(i, k))
 }
 
-/// What a defined symbol leads to.
-fn defined<'p>(
-    instances: &Instances<'p>,
-    targets: &Targets<'p>,
-    i: usize,
-    name: &Name,
-    right: &'p Expr,
-) -> Outcome<'p>
-    requires { HasStarted instances.now targets.now i }
-    ensures { (p : Plain) (s : Scope) → AreStarted p instances.now targets.now
-        → scope_at p i ≡ Some s → IsFound p s name.now (Found.Defined right.entry)
-        → Finding p targets.now.states s name.now result }
+/// What a defined symbol leads to, whose entry stands at the place.
+fn defined<'p>(targets: &Targets<'p>, i: usize, place: usize, right: &'p Expr) -> Outcome<'p>
+    requires { (p : Plain) × (s : Scope) × (x : List ℕ) × AreNodes p targets.now.nodes
+        × (scope_at p i ≡ Some s) × IsEntryOf (module_of s) x place }
+    ensures { (p : Plain) (s : Scope) (x : List ℕ) → AreNodes p targets.now.nodes
+        → scope_at p i ≡ Some s → IsEntryOf (module_of s) x place
+        → IsFound p s x (Found.Defined right.entry) → Finding p targets.now.states s x result }
 {
-    match entry_node(instances, targets, i, name) {
-        None => Outcome::Nothing,
-        Some(node) => Outcome::Found(Target::Reading {
-            home: i,
-            right,
-            node,
-        }),
-    }
+    Outcome::Found(Target::Reading {
+        home: i,
+        right,
+        node: targets.nodes.node(i, place),
+    })
 }
 
-/// What a name of an instance leads to, which its module declares as found.
+/// What a name of an instance leads to, which its module declares as found, at the place.
 fn outcome_of<'p>(
     alloc: Global,
-    instances: &Instances<'p>,
     targets: &Targets<'p>,
     i: usize,
     name: &'p Name,
+    place: usize,
     found: Found<'p>,
 ) -> Result<Outcome<'p>, AllocError>
-    requires { (p : Plain) × (s : Scope) × AreStarted p instances.now targets.now
-        × (scope_at p i ≡ Some s) × IsFound p s name.now found }
-    ensures { (p : Plain) (s : Scope) → AreStarted p instances.now targets.now
-        → scope_at p i ≡ Some s → IsFound p s name.now found.entry
+    requires { (p : Plain) × (s : Scope) × AreNodes p targets.now.nodes
+        × AreStates p targets.now.states × (scope_at p i ≡ Some s)
+        × IsEntryOf (module_of s) name.now place × IsFound p s name.now found }
+    ensures { (p : Plain) (s : Scope) → AreNodes p targets.now.nodes
+        → AreStates p targets.now.states → scope_at p i ≡ Some s
+        → IsEntryOf (module_of s) name.now place → IsFound p s name.now found.entry
         → IfOk result (Finding p targets.now.states s name.now) }
 {
     match found {
-        Found::Parameter(place) => parameter(targets, Parameter { instance: i, place }),
+        Found::Parameter(formal) => {
+            parameter(
+                targets,
+                Parameter {
+                    instance: i,
+                    place: formal,
+                },
+            )
+        }
         Found::Stored(plain) => Ok(Outcome::Found(Target::Stored {
             home: i,
             name,
@@ -162,7 +168,7 @@ fn outcome_of<'p>(
             indexes: Vec::new(alloc),
         })),
         Found::Instance(number) => Ok(Outcome::Found(Target::Instance(number))),
-        Found::Defined(right) => Ok(defined(instances, targets, i, name, right)),
+        Found::Defined(right) => Ok(defined(targets, i, place, right)),
     }
 }
 
@@ -180,7 +186,7 @@ pub fn first<'p>(
         → IfOk result (Walking p targets.now.states s (Written.Here line name.now)) }
 {
     match found_at(instances, i, name) {
-        Some(found) => outcome_of(alloc, instances, targets, i, name, found),
+        Some((place, found)) => outcome_of(alloc, targets, i, name, place, found),
         None => match instances.symbol(name) {
             Some(place) => Ok(Outcome::Found(Target::Constant(place))),
             None => Ok(Outcome::Nothing),
@@ -206,7 +212,7 @@ fn field<'p>(
         return Ok(Outcome::Nothing);
     };
     match found_at(instances, number, name) {
-        Some(found) => outcome_of(alloc, instances, targets, number, name, found),
+        Some((place, found)) => outcome_of(alloc, targets, number, name, place, found),
         None => Ok(Outcome::Nothing),
     }
 }

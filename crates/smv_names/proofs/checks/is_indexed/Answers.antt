@@ -1,4 +1,4 @@
-use Rattle.std.proofs.Common.{◌≤◌, subst, arith, length, take, Some}
+use Rattle.std.proofs.Common.{◌≡◌, ◌≤◌, sym, subst, arith, length, take, true, Some}
 use Rattle.smv_instances.specs.Instances.{instances}
 use Rattle.smv_names.specs.Written.{plain_path}
 use Rattle.smv_names.specs.Targets.{IsTarget, Resolves}
@@ -8,6 +8,12 @@ use Rattle.smv_names.proofs.NumberLemmas.{if_ok_by}
 use Rattle.smv_names.proofs.WaitLemmas.{member_at}
 use Rattle.smv_names.proofs.CheckLemmas.{indexes_within, path_indexed}
 use Rattle.smv_names.proofs.checks.is_indexed.Goals as goal
+
+pub returns-then-count-eq0 : goal.returns-then-count-eq0
+returns-then-count-eq0 c = λ p s t targets at numbers denotes.
+    let q = plain_path c.args.path.now in
+    let none : index_count q ≡ 0 = omega (arith, c.written_indexes-count.ensures, c.if-count-eq0.true) in
+    path_indexed p s q t true denotes (subst (λ n. AreIndexedBy p (take n (brackets_of t)) true) (sym none) tt)
 
 pub target_is_indexed-requires : goal.target_is_indexed-requires
 target_is_indexed-requires c =

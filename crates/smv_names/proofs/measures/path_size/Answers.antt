@@ -1,31 +1,12 @@
-use Rattle.std.proofs.Common.{◌<◌, arith, get_or, length, subst, Some}
-use Rattle.std.proofs.lemmas.List.{get_or_default}
-use Rattle.smv_instances.specs.Program.{Expr}
-use Rattle.smv_instances.specs.Instances.{instances, all_entries}
+use Rattle.smv_instances.specs.Instances.{instances}
 use Rattle.smv_names.specs.Written.{plain_path}
-use Rattle.smv_names.specs.Ready.{NamesNode}
-use Rattle.smv_names.specs.Values.{IsSizeOf}
-use Rattle.smv_names.specs.Known.{leaf}
-use Rattle.smv_names.proofs.KnownLemmas.{path_is_size}
-use Rattle.smv_names.proofs.SizeLemmas.{leaf_size}
-use Rattle.smv_names.proofs.TextLemmas.{numbered_within}
 use Rattle.smv_names.proofs.WaitLemmas.{member_at}
 use Rattle.smv_names.proofs.measures.path_size.Goals as goal
 
-pub returns-in-Some : goal.returns-in-Some
-returns-in-Some c = λ p s targets at known.
-    let q = plain_path c.args.path.now in
-    let p0 = c.requires.0 in
-    let s0 = member_at (instances p0) c.args.i c.requires.2 in
-    let node = c.in-Some.node in
-    let named0 : NamesNode p0 s0.0 q (Some node) = subst (λ z. NamesNode p0 s0.0 q z) c.in-Some.is (c.in_ok-node.ensures p0 s0.0 c.requires.1 s0.1) in
-    let within : node < length (all_entries p0) = numbered_within p0 node named0.0 named0.1 in
-    let below : node < length c.args.sizes.now = omega (arith, within, c.requires.3) in
-    let named : NamesNode p s q (Some node) = subst (λ z. NamesNode p s q z) c.in-Some.is (c.in_ok-node.ensures p s targets at) in
-    let whole : IsSizeOf p s (Expr.At q) (get_or c.args.sizes.now node leaf) = path_is_size p s q named.0 node c.args.sizes.now named.2 named.1 known in
-    subst (λ z. IsSizeOf p s (Expr.At q) z) (get_or_default c.args.sizes.now node leaf (record { nodes = 0; nesting = 0 }) below) whole
+pub size_named-requires : goal.size_named-requires
+size_named-requires c =
+    let s = member_at (instances c.requires.0) c.args.i c.requires.2 in
+    (c.requires.0, s.0, plain_path c.args.path.now, c.in_ok-named.ensures c.requires.0 s.0 c.requires.1 s.1, c.requires.3)
 
-pub returns-in-None : goal.returns-in-None
-returns-in-None c = λ p s targets at known.
-    let q = plain_path c.args.path.now in
-    leaf_size p s q (subst (λ z. NamesNode p s q z) c.in-None.is (c.in_ok-node.ensures p s targets at)) c.leaf.ensures
+pub returns : goal.returns
+returns c = λ p s targets at known. c.size_named.ensures p s (plain_path c.args.path.now) (c.in_ok-named.ensures p s targets at) known

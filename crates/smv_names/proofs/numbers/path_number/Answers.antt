@@ -1,17 +1,12 @@
-use Rattle.std.proofs.Common.{subst, Some}
+use Rattle.smv_instances.specs.Instances.{instances}
 use Rattle.smv_names.specs.Written.{plain_path}
-use Rattle.smv_names.specs.Ready.{NamesNode}
-use Rattle.smv_names.proofs.KnownLemmas.{path_is_number}
-use Rattle.smv_names.proofs.NumberLemmas.{leaf_is_number}
+use Rattle.smv_names.proofs.WaitLemmas.{member_at}
 use Rattle.smv_names.proofs.numbers.path_number.Goals as goal
 
-pub returns-in-Some : goal.returns-in-Some
-returns-in-Some c = λ p s targets at known.
-    let q = plain_path c.args.path.now in
-    let named : NamesNode p s q (Some c.in-Some.node) = subst (λ z. NamesNode p s q z) c.in-Some.is (c.in_ok-node.ensures p s targets at) in
-    path_is_number p s q named.0 c.in-Some.node c.args.numbers.now named.2 named.1 known
+pub number_named-requires : goal.number_named-requires
+number_named-requires c =
+    let s = member_at (instances c.requires.0) c.args.i c.requires.2 in
+    (c.requires.0, s.0, plain_path c.args.path.now, c.in_ok-named.ensures c.requires.0 s.0 c.requires.1 s.1, c.requires.3)
 
-pub returns-in-None : goal.returns-in-None
-returns-in-None c = λ p s targets at known.
-    let q = plain_path c.args.path.now in
-    leaf_is_number p s q (subst (λ z. NamesNode p s q z) c.in-None.is (c.in_ok-node.ensures p s targets at))
+pub returns : goal.returns
+returns c = λ p s targets at known. c.number_named.ensures p s (plain_path c.args.path.now) (c.in_ok-named.ensures p s targets at) known

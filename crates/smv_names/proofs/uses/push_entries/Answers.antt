@@ -11,8 +11,8 @@ use Rattle.smv_names.proofs.WaitLemmas.{member_at}
 use Rattle.smv_names.proofs.UseLemmas.{uses_at, uses_more}
 use Rattle.smv_names.proofs.uses.push_entries.Goals as goal
 
-pub used_by-requires : goal.used_by-requires
-used_by-requires c =
+pub find_used-requires : goal.find_used-requires
+find_used-requires c =
     let p = c.requires.ready.0 in
     let s = member_at (instances p) c.args.i c.requires.ready.2 in
     let sized : length c.entries-place-end.result.now ≡ length (entries (module_of s.0)) =
@@ -33,10 +33,10 @@ loop-place-preserved c = record {
       let at = numbered_by p n s.0 e.0.name e.0 (entry_numbered p c.args.i c.loop-place.place s.0 e.0 s.1 e.1) refl in
       let firsts = c.loop-place.graph.firsts.items in
       let targets = c.loop-place.graph.targets.items in
-      let used = c.in_ok-used.used.items in
+      let used = c.find_used.new.found.numbers.items in
       let targets_are : c.push_node.new.graph.targets.items ≡ targets ++ used = c.in_ok-push_node.ensures.targets ∙ ap (λ z. targets ++ z) c.deref.ensures.value in
       let firsts_are : c.push_node.new.graph.firsts.items ≡ firsts ++ length (targets ++ used) ∷ [] = c.in_ok-push_node.ensures.firsts ∙ ap (λ z. firsts ++ length z ∷ []) targets_are in
-      uses_at p firsts_are targets_are (omega arith) (uses_more p firsts targets used n a c.loop-place.invariant.started (c.loop-place.invariant.uses p are before) at (c.in_ok-used.ensures p s.0 e.0 are s.1 e.1));
+      uses_at p firsts_are targets_are (omega arith) (uses_more p firsts targets used n a c.loop-place.invariant.started (c.loop-place.invariant.uses p are before) at (c.in_ok-find_used.ensures p s.0 e.0 are s.1 e.1));
 }
 
 pub returns-clause-uses : goal.returns-clause-uses

@@ -16,11 +16,21 @@ found_at-requires c =
     let at = into_instance c.requires.0 c.requires.1 c.requires.2 c.in-Instance.number (subst (λ (t : Held). Resolves c.requires.0 c.requires.1 c.requires.2 (Some t)) c.in-Instance.is c.requires.4) in
     (c.requires.0, c.requires.3.instances_are, slice_get_within (instances c.requires.0) c.in-Instance.number at.0 at.1)
 
+pub outcome_of-requires : goal.outcome_of-requires
+outcome_of-requires c =
+    let p = c.requires.0 in
+    let started = c.requires.3 in
+    let at = into_instance p c.requires.1 c.requires.2 c.in-Instance.number (subst (λ (t : Held). Resolves p c.requires.1 c.requires.2 (Some t)) c.in-Instance.is c.requires.4) in
+    let found = c.in-Some.ensures.some p at.0 started.instances_are at.1 in
+    (p, at.0, started.nodes_are, started.states_are, at.1, found.0, found.1)
+
 pub returns-in-Some : goal.returns-in-Some
 returns-in-Some c p s q started front =
     let at = subst (λ (t : Held). Resolves p s q (Some t)) c.in-Instance.is front in
     field_result p c.args.targets.now.states s q c.args.name.now c.in-Instance.number c.outcome_of.result at
-    (λ i numbered. c.outcome_of.ensures p i started numbered (c.in-Some.ensures.some p i started.instances_are numbered).0)
+    (λ i numbered.
+    let found = c.in-Some.ensures.some p i started.instances_are numbered in
+    c.outcome_of.ensures p i started.nodes_are started.states_are numbered found.0 found.1)
 
 pub returns-in-None : goal.returns-in-None
 returns-in-None c p s q started front =
