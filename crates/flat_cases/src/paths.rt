@@ -6,7 +6,7 @@ ghost use Rattle.smv_instances.specs.Built.{AreInstances};
 
 use crate::questions::PathPart;
 use crate::refusals::push_refusal;
-use crate::words::{push_gap, push_none, push_number, push_word};
+use crate::words::{push_none, push_number, push_word};
 use case_text::fault::Fault;
 use smv_instances::Instances;
 use smv_names::resolving::Targets;
@@ -128,22 +128,18 @@ fn push_order<'p>(
     Ok(())
 }
 
-/// Adds the end of each chain: the instance in which it is read and its line, or a dash.
+/// Adds the end of each chain: the number of an abbreviation, or a dash.
 fn push_ends<'p>(alloc: Global, instances: &Instances<'p>, answer: &mut String) -> Result<(), Fault>
     requires { (p : Plain) × AreInstances p instances.now }
 {
     let targets = Targets::build(alloc, instances)?;
     let order = order_of_uses(alloc, instances, &targets)?;
     let tables = tables_of(alloc, instances, &targets, &order)?;
-    for found in &tables.ends {
-        push_gap(answer, " ")?;
-        match found {
-            Some(end) => {
-                let home = end.home;
-                let line = end.right.line;
-                write!(answer, "{home}:{line}")?;
-            }
-            None => answer.push('-')?,
+    for end in &tables.ends {
+        if *end < tables.ends.len() {
+            push_number(answer, *end)?;
+        } else {
+            push_word(answer, "-")?;
         }
     }
     Ok(())

@@ -1,5 +1,5 @@
 -- What silence about the declarations of a written program gives: distinct names of the right form, and few of them.
-use Rattle.std.proofs.Common.{◌≡◌, refl, sym, ◌∙◌, ap, subst, ℕ, zero, suc, ◌<◌, ◌≤◌, ◌+◌, ◌-◌, ◌*◌, arith, List, [], ◌∷◌, ◌++◌, length, take, drop, Bool, true, false, cond, Some, None, Option, ◌⊎◌, inl, inr, append-nil}
+use Rattle.std.proofs.Common.{◌≡◌, refl, sym, ◌∙◌, ap, subst, ℕ, zero, suc, ◌<◌, ◌≤◌, ◌+◌, ◌*◌, arith, List, [], ◌∷◌, ◌++◌, length, take, drop, Bool, true, false, cond, Some, None, Option, ◌⊎◌, inl, inr, append-nil}
 use Rattle.std.specs.Prelude.{map, flat_map, filter, option_map, All, ℤ, pos, ◌+ℤ◌, sum_by, ◌||◌, not}
 use Rattle.std.specs.List.{cons_option, list_any}
 use Rattle.std.proofs.lemmas.Bool.{false≢true, cases_lt}

@@ -19,9 +19,9 @@ use Rattle.smv_instances.specs.Plain.{plain_expr}
 use Rattle.smv_instances.specs.Program.{Name, Expr, Exprs, Path, Program}
 use Rattle.smv_instances.specs.Program
 use Rattle.smv_instances.specs.Instances.{Scope, instances, process_name, processes, place_of, symbols, truth_value}
-use Rattle.smv_names.specs.declared.tables.End.{End}
 use Rattle.smv_names.specs.Denotes.{Target, Denotes, bare}
 use Rattle.smv_names.specs.Expands.{Expands, ExpandElements, ExpandArms, Selects}
+use Rattle.smv_instantiate.specs.declared.expansion.End.{End}
 use Rattle.smv_instantiate.specs.Written.{IsWrittenExpr, AreWritten, AreWrittenArms}
 use Rattle.smv_instantiate.specs.Expanded.{prefix_term}
 use Rattle.smv_instantiate.specs.Expansion.{IsWrittenValue, HasWrittenNumbers, HaveWrittenNumbers, ArmsHaveWrittenNumbers, StandsFor, ElementsStandFor, ArmsStandFor, plain_exprs, plain_arms, DenotesNoText, CanExpand, IsNode, IsNodeOf}

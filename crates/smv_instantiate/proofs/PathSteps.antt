@@ -1,11 +1,11 @@
 -- What the targets of paths say, and the names by which flat variables are found.
 use Rattle.std.proofs.Common.{◌≡◌, refl, sym, ◌∙◌, ap, subst, ℕ, suc, ◌+◌, ◌<◌, arith, List, [], ◌∷◌, ◌++◌, length, take, get_or, reverse, Bool, true, false, cond, Option, Some, None}
-use Rattle.std.specs.Prelude.{map, not, ◌||◌, if◌then◌else◌, slice_get, option_map, IfSome, IfNone}
+use Rattle.std.specs.Prelude.{map, not, ◌||◌, if◌then◌else◌, slice_get, IfSome, IfNone}
 use Rattle.std.specs.List.{list_any}
 use Rattle.std.specs.Str.{bytes_eq}
 use Rattle.std.proofs.lemmas.Bool.{false≢true}
 use Rattle.std.proofs.lemmas.List.{get_or-take, length-take-le, take_more, take-map, reverse-append}
-use Rattle.std.proofs.lemmas.Option.{slice_get_read, slice_get_within, get_or_from_slice_get}
+use Rattle.std.proofs.lemmas.Option.{same_Some, slice_get_read, slice_get_within, get_or_from_slice_get}
 use Rattle.kripke_model.specs.Flat.{AreDistinct}
 use Rattle.kripke_model.specs.System.{Variable}
 use Rattle.kripke_model.specs.Term.{Term}
@@ -16,19 +16,20 @@ use Rattle.smv_instances.specs.Numbered.{scope_at}
 use Rattle.smv_names.specs.declared.targets.Bracket.{Bracket as Held_bracket}
 use Rattle.smv_names.specs.declared.targets.Target.{Target as Code}
 use Rattle.smv_names.specs.declared.targets.Target.TheVariants as held
-use Rattle.smv_names.specs.declared.tables.End.{End}
-use Rattle.smv_names.specs.Abbreviations.{Abbreviation}
 use Rattle.smv_names.specs.Denotes.{Bracket, Target, Denotes, bare}
 use Rattle.smv_names.specs.Expands.{is_array, element_name, Expands, Selects, AreIndexes}
-use Rattle.smv_names.specs.Ends.{IsEndOf, AreEnds}
-use Rattle.smv_names.specs.Nodes.{abbreviation_at}
+use Rattle.smv_names.specs.Ends.{IsEnd, AreEnds, no_end}
 use Rattle.smv_names.specs.Sound.{AreDefined}
 use Rattle.smv_names.specs.Targets.{AreBrackets, IsText, IsTarget, Resolves}
+use Rattle.smv_names.specs.Uses.{IsTextIn}
 use Rattle.smv_instances.proofs.ListSteps.{take_map}
+use Rattle.smv_names.proofs.EndLemmas.{end_defined}
 use Rattle.smv_names.proofs.NamedLemmas.{reading_expands, to_bare}
 use Rattle.smv_names.proofs.Once.{denotes_one}
+use Rattle.smv_names.proofs.TextLemmas.{numbered_within}
+use Rattle.smv_instantiate.specs.declared.expansion.End.{End}
 use Rattle.smv_instantiate.specs.Expansion.{IsSelected, DenotesNoText, IsWrittenAt, EndsPath, IsNodeOf}
-use Rattle.smv_instantiate.proofs.Members.{In, not_some}
+use Rattle.smv_instantiate.proofs.Members.{In}
 use Rattle.smv_instantiate.proofs.NameLemmas.{names_same}
 use Rattle.smv_instantiate.proofs.BodySteps.{read_mapped}
 use Rattle.smv_instantiate.proofs.TargetLemmas.{IsKept, selected_below}
@@ -224,27 +225,25 @@ not_reading p s q t other r h e d = by t other (subst (IsTarget p t) (denotes_on
     by (held.Instance number) f is = is
     by (held.Constant place) f is = is
 
-numbered_below : (p : Program) (node : ℕ) (a : Abbreviation) → abbreviation_at p node ≡ Some a → node < length (all_entries p)
-numbered_below p node a is = by (slice_get (all_entries p) node) refl is
-  where
-    by : (o : Option _) → slice_get (all_entries p) node ≡ o → option_map (λ e. record { scope = e.0; name = e.1.name }) o ≡ Some a → node < length (all_entries p)
-    by None e f = absurd (not_some f)
-    by (Some x) e f = slice_get_within (all_entries p) node x e
+-- where nothing is circular, an abbreviation with a text has the end of its chain in the table
+pub end_of_node : (p : Program) (node : ℕ) (s : Scope) (e : Expr) (ends : List ℕ) (found : ℕ) → AreEnds p ends → length ends ≡ length (all_entries p) → AreDefined p → IsText p node s e → found ≡ get_or ends node found → IsEnd p s e found
+end_of_node p node s e ends found are count defined text is =
+    let below : node < length ends = omega (arith, numbered_within p node text.abbreviation text.numbered, count) in
+    let read : found ≡ get_or ends node (no_end p) = sym (get_or_from_slice_get ends node found (no_end p) (slice_get_read ends (length ends) node found refl below is)) in
+    subst (IsEnd p s e) (sym read) (end_defined p ends are defined.straight node s e text)
 
-pub reading_below : (p : Program) (s : Scope) (q : Path) (node : ℕ) → IsReadingAt p s q node → node < length (all_entries p)
-reading_below p s q node at = numbered_below p node at.text.abbreviation at.text.numbered
+-- where the text of that end is written
+pub written_end : (p : Program) (s : Scope) (e : Expr) (node : ℕ) (end : End) (is : IsEnd p s e node) → IsTextIn p is.text.abbreviation end.home (plain_expr end.right.now) → IsWrittenAt p s e end
+written_end p s e node end is (h, home, text) =
+    let both : (is.scope, is.expr) ≡ (h, plain_expr end.right.now) = same_Some _ _ (sym is.text.text ∙ text) in record {
+      scope = h;
+      home = home;
+      same = λ t x. subst (λ (r : Scope × Expr). Expands p r.0 r.1 t) both (is.same t x);
+      last = subst (λ (r : Scope × Expr). (q : Path) → bare r.1 ≡ Expr.At q → DenotesNoText p r.0 q) both (λ q path g f d. is.last q g f path d);
+    }
 
-pub end_read : (ends : List (Option End)) (node : ℕ) (found : Option End) → node < length ends → found ≡ get_or ends node found → found ≡ get_or ends node None
-end_read ends node found lt is = sym (get_or_from_slice_get ends node found None (slice_get_read ends (length ends) node found refl lt is))
-
-pub reading_end : (p : Program) (s : Scope) (q : Path) (node : ℕ) (ends : List (Option End)) (found : Option End) → AreEnds p ends → AreDefined p → IsReadingAt p s q node → found ≡ get_or ends node None → EndsPath p s q found
-reading_end p s q node ends found are defined at is =
-    let a = at.text.abbreviation in
-    by found (subst (IsEndOf p at.scope at.expr) (sym is) (are node a at.text.numbered at.scope at.expr at.text.text))
-  where
-    by : (o : Option End) → IsEndOf p at.scope at.expr o → EndsPath p s q o
-    by None stuck = absurd (defined.straight stuck.2.number stuck.2.circle stuck.2.numbered stuck.2.circular)
-    by (Some end) ends = record { scope = ends.scope; home = ends.home; same = λ t x. ends.same t (reading_expands at.denotes x); last = λ r f i e d. ends.last r i e f d }
+pub reading_end : (p : Program) (s : Scope) (q : Path) (node : ℕ) (end : End) (at : IsReadingAt p s q node) → IsWrittenAt p at.scope at.expr end → EndsPath p s q (Some end)
+reading_end p s q node end at w = record { scope = w.scope; home = w.home; same = λ t x. w.same t (reading_expands at.denotes x); last = w.last }
 
 pub bare_bare : (e : Expr) → bare (bare e) ≡ bare e
 bare_bare (Expr.Parens e) = bare_bare e

@@ -1,5 +1,5 @@
 -- The values of a type: none twice, at least one, and as many whatever the symbols are numbered by.
-use Rattle.std.proofs.Common.{◌≡◌, refl, sym, ◌∙◌, ap, subst, ℕ, zero, suc, ◌<◌, ◌≤◌, ◌+◌, ◌-◌, arith, List, [], ◌∷◌, length, get_or, Bool, true, false, cond}
+use Rattle.std.proofs.Common.{◌≡◌, refl, sym, ◌∙◌, ap, subst, ℕ, zero, suc, ◌<◌, ◌+◌, ◌-◌, arith, List, [], ◌∷◌, length, get_or, Bool, true, false, cond}
 use Rattle.std.specs.Prelude.{filter_map, map, filter, not, ◌||◌, ◌==◌, ℤ, pos, negsuc, ◌+ℤ◌, int_lt, ltb}
 use Rattle.std.specs.Int.{int_gap}
 use Rattle.std.specs.Str.{bytes_eq}

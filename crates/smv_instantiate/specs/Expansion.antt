@@ -16,10 +16,10 @@ use Rattle.smv_instances.specs.Program
 use Rattle.smv_instances.specs.Instances.{Scope}
 use Rattle.smv_instances.specs.Numbered.{scope_at}
 use Rattle.smv_names.specs.declared.paths.Paths.{Paths}
-use Rattle.smv_names.specs.declared.tables.End.{End}
 use Rattle.smv_names.specs.Denotes.{Target, Denotes, bare}
 use Rattle.smv_names.specs.Expands.{Expands, ExpandElements, ExpandArms, Selects}
 use Rattle.smv_names.specs.Paths.{ArePaths}
+use Rattle.smv_instantiate.specs.declared.expansion.End.{End}
 use Rattle.smv_instantiate.specs.Names.{AreVariableNames}
 use Rattle.smv_instantiate.specs.Written.{IsWritten}
 

@@ -10,12 +10,10 @@ ghost use Rattle.smv_instances.specs.Plain.{plain_expr, plain_type};
 ghost use Rattle.smv_instances.specs.Instances.{Scope, all_entries, truth_value as value_of_truth};
 ghost use Rattle.smv_instances.specs.Numbered.{scope_at};
 ghost use Rattle.smv_names.specs.Expands.{Expands, element_name, is_array as is_array_type};
-ghost use Rattle.smv_names.specs.Ends.{AreEnds};
 ghost use Rattle.smv_names.specs.Paths.{ArePaths};
-ghost use Rattle.smv_names.specs.Sound.{AreDefined};
-ghost use Rattle.smv_names.specs.Targets.{Resolves};
+ghost use Rattle.smv_names.specs.Targets.{IsText, Resolves};
 ghost use Rattle.smv_names.specs.Written.{plain_path};
-ghost use Rattle.smv_instantiate.specs.Expansion.{ArmsStandFor, CanExpand, DenotesNoText, ElementsStandFor, EndsPath, IsNode, IsNodeOf, IsSelected, StandsFor, plain_arms, plain_exprs};
+ghost use Rattle.smv_instantiate.specs.Expansion.{ArmsStandFor, CanExpand, DenotesNoText, ElementsStandFor, EndsPath, IsNode, IsNodeOf, IsSelected, IsWrittenAt, StandsFor, plain_arms, plain_exprs};
 ghost use Rattle.smv_instantiate.specs.Written.{IsWrittenExpr};
 
 use crate::fronts::spelled_name;
@@ -26,7 +24,7 @@ use kripke_model::Name;
 use kripke_model::expressions::{Arm as FlatArm, Expr as FlatExpr, Value};
 use smv_instances::Instances;
 use smv_names::checks::index_values;
-use smv_names::tables::End;
+use smv_names::texts::text_at;
 use smv_names::walk::{bare_of, path_of};
 use smv_names::{Paths, Target};
 use smv_parser::{Arm, Expr, ExprKind, Path, Plain as Type, PlainKind};
@@ -112,15 +110,40 @@ pub fn selected<'p>(
 
 // ---- chains of definitions
 
+/// Where an expression is written.
+#[derive(Clone, Copy)]
+pub struct End<'p> {
+    /// The number of the instance in which it is read.
+    pub home: usize,
+    pub right: &'p Expr,
+}
+
+/// The end of the chain of definitions that begins with an abbreviation, which has a text.
+fn node_end<'p>(instances: &Instances<'p>, paths: &Paths<'p>, node: usize) -> End<'p>
+    requires { (p : Plain) × (s : Scope) × (e : Body) × ArePaths p instances.now paths.now
+        × IsText p node s e }
+    ensures { (p : Plain) (s : Scope) (e : Body) → ArePaths p instances.now paths.now
+        → IsText p node s e → IsWrittenAt p s e result }
+{
+    match text_at(instances, &paths.targets, paths.ends[node]) {
+        Some((home, right)) => End { home, right },
+        None => unreachable!(),
+    }
+}
+
 /// The end of the chain of definitions that begins with a target, if that is an expression.
-fn target_end<'p>(ends: &[Option<End<'p>>], target: &Target<'p>) -> Option<End<'p>>
-    requires { (p : Plain) × (s : Scope) × (q : Written)
-        × (length ends.now ≡ length (all_entries p)) × Resolves p s q (Some target.now) }
-    ensures { (p : Plain) (s : Scope) (q : Written) → AreEnds p ends.now → AreDefined p
+fn target_end<'p>(
+    instances: &Instances<'p>,
+    paths: &Paths<'p>,
+    target: &Target<'p>,
+) -> Option<End<'p>>
+    requires { (p : Plain) × (s : Scope) × (q : Written) × ArePaths p instances.now paths.now
+        × Resolves p s q (Some target.now) }
+    ensures { (p : Plain) (s : Scope) (q : Written) → ArePaths p instances.now paths.now
         → Resolves p s q (Some target.now) → EndsPath p s q result }
 {
     match target {
-        Target::Reading { node, .. } => ends[*node],
+        Target::Reading { node, .. } => Some(node_end(instances, paths, *node)),
         Target::Stored { .. } => None,
         Target::Instance(_) => None,
         Target::Constant(_) => None,
@@ -141,7 +164,7 @@ fn path_end<'p>(
         → IfOk result (EndsPath p s (plain_path path.now)) }
 {
     match paths.targets.resolve(alloc, instances, i, path)? {
-        Some(target) => Ok(target_end(&paths.ends, &target)),
+        Some(target) => Ok(target_end(instances, paths, &target)),
         None => Ok(None),
     }
 }

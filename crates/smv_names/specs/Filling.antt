@@ -7,7 +7,7 @@ use Rattle.smv_names.specs.declared.tables.Tables.{Tables}
 use Rattle.smv_names.specs.Abbreviations.{Abbreviation}
 use Rattle.smv_names.specs.Values.{IsNumber, IsSizeOf}
 use Rattle.smv_names.specs.Known.{NumberOf, SizeOf, leaf}
-use Rattle.smv_names.specs.Ends.{EndOf, IsEndOf}
+use Rattle.smv_names.specs.Ends.{EndOf, IsEndOf, no_end}
 use Rattle.smv_names.specs.Works.{Works}
 
 -- what the expression e, read in s, has in them
@@ -26,4 +26,4 @@ pub record RowOf (p : Program) (a : Abbreviation) (row : Row) : Type 0 where
 pub record AreFilled (p : Program) (order : List ℕ) (k : ℕ) (tables : Tables) : Type 0 where
   pub numbers : Works None (NumberOf p) p order tables.numbers.items k
   pub sizes : Works leaf (SizeOf p) p order tables.sizes.items k
-  pub ends : Works None (EndOf p) p order tables.ends.items k
+  pub ends : Works (no_end p) (EndOf p) p order tables.ends.items k

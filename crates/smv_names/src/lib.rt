@@ -15,11 +15,10 @@ pub mod sizes;
 mod states;
 pub mod tables;
 pub mod targets;
-mod texts;
+pub mod texts;
 pub mod uses;
 pub mod walk;
 
 pub use paths::Paths;
 pub use resolving::Targets;
-pub use tables::End;
 pub use targets::{Bracket, Target};

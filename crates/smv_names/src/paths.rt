@@ -11,7 +11,7 @@ ghost use Rattle.smv_names.specs.Paths.{ArePaths};
 use crate::definitions::check_definitions;
 use crate::resolving::Targets;
 use crate::sizes::Size;
-use crate::tables::{End, Tables, tables_of};
+use crate::tables::{Tables, tables_of};
 use crate::uses::order_of_uses;
 use kripke_model::refusals::FlatRefusal;
 use smv_instances::Instances;
@@ -25,8 +25,8 @@ pub struct Paths<'p> {
     /// The numbers that abbreviations stand for, where they are arithmetic on numbers alone.
     pub numbers: Vec<Option<i64>>,
     pub sizes: Vec<Size>,
-    /// The ends of chains of definitions that are a path alone.
-    pub ends: Vec<Option<End<'p>>>,
+    /// The ends of chains of definitions that are a path alone, by their numbers.
+    pub ends: Vec<usize>,
 }
 
 impl<'p> Paths<'p> {

@@ -10,12 +10,13 @@ ghost use Rattle.smv_instances.specs.Numbered.{scope_at};
 ghost use Rattle.smv_names.specs.Denotes.{bare};
 ghost use Rattle.smv_names.specs.Abbreviations.{Abbreviation, Names, mentions};
 ghost use Rattle.smv_names.specs.Nodes.{abbreviation_at};
+ghost use Rattle.smv_names.specs.Targets.{IsText};
 ghost use Rattle.smv_names.specs.Ready.{AreTargets, NamesNode};
 ghost use Rattle.smv_names.specs.Ordered.{AreOrdered};
 ghost use Rattle.smv_names.specs.Works.{HasUsed};
 ghost use Rattle.smv_names.specs.Asking.{CanAsk};
 ghost use Rattle.smv_names.specs.Known.{AreNumbers, AreSizes, NumberOf, SizeOf, leaf, AreNumbersIn, AreSizesIn};
-ghost use Rattle.smv_names.specs.Ends.{AreEnds, AreEndsIn, EndOf, IsEndOf};
+ghost use Rattle.smv_names.specs.Ends.{AreEnds, AreEndsIn, EndOf, IsEndOf, no_end};
 ghost use Rattle.smv_names.specs.Filling.{AreFilled, IsRow, RowOf};
 
 use crate::measures::{size, size_named};
@@ -29,117 +30,108 @@ use smv_instances::Instances;
 use smv_parser::Expr;
 use std::alloc::{AllocError, Global};
 
-/// Where a chain of definitions that are a path alone ends: at an expression that is no path to a
-/// further one.
-#[derive(Clone, Copy)]
-pub struct End<'p> {
-    /// The number of the instance in which it is read.
-    pub home: usize,
-    pub right: &'p Expr,
-}
-
-/// The end of a chain that goes on with an abbreviation, or `here` where that has no text.
+/// The end of a chain that goes on with an abbreviation, or the one that begins it where that has no
+/// text.
 fn end_through<'p>(
     instances: &Instances<'p>,
     targets: &Targets<'p>,
-    ends: &[Option<End<'p>>],
-    here: End<'p>,
+    ends: &[usize],
+    own: usize,
     node: usize,
-) -> Option<End<'p>>
+) -> usize
     requires { (p : Plain) × AreTargets p instances.now targets.now
         × (length ends.now ≡ length (all_entries p)) × (node < length (all_entries p)) }
-    ensures { (p : Plain) (s : Scope) (q : Path) (a : Abbreviation)
-        → AreTargets p instances.now targets.now → scope_at p here.entry.home ≡ Some s
-        → bare (plain_expr here.entry.right.now) ≡ PlainExpr.At q → Names p s q a
-        → abbreviation_at p node ≡ Some a → EndOf p a (slice_index_or ends.now node None)
-        → IsEndOf p s (plain_expr here.entry.right.now) result }
+    ensures { (p : Plain) (s : Scope) (e : PlainExpr) (q : Path) (a : Abbreviation)
+        → AreTargets p instances.now targets.now → IsText p own s e → bare e ≡ PlainExpr.At q
+        → Names p s q a → abbreviation_at p node ≡ Some a
+        → EndOf p a (slice_index_or ends.now node (no_end p)) → IsEndOf p s e result }
 {
     match text_at(instances, targets, node) {
         Some(_) => ends[node],
-        None => Some(here),
+        None => own,
     }
 }
 
-/// The end of the chain that begins with a path, which names the abbreviation with this number, or no
-/// expression.
+/// The end of the chain that begins with an abbreviation whose text is a path. The path names the
+/// abbreviation with this number, or no expression.
 fn end_named<'p>(
     instances: &Instances<'p>,
     targets: &Targets<'p>,
-    ends: &[Option<End<'p>>],
-    here: End<'p>,
+    ends: &[usize],
+    own: usize,
     named: Option<usize>,
-) -> Option<End<'p>>
+) -> usize
     requires { (p : Plain) × (s : Scope) × (q : Path) × AreTargets p instances.now targets.now
         × (length ends.now ≡ length (all_entries p)) × NamesNode p s q named }
-    ensures { (p : Plain) (s : Scope) (q : Path) → AreTargets p instances.now targets.now
-        → scope_at p here.entry.home ≡ Some s
-        → bare (plain_expr here.entry.right.now) ≡ PlainExpr.At q → NamesNode p s q named
-        → AreEndsIn p ends.now s (mentions (plain_expr here.entry.right.now))
-        → IsEndOf p s (plain_expr here.entry.right.now) result }
+    ensures { (p : Plain) (s : Scope) (e : PlainExpr) (q : Path)
+        → AreTargets p instances.now targets.now → IsText p own s e → bare e ≡ PlainExpr.At q
+        → NamesNode p s q named → AreEndsIn p ends.now s (mentions e) → IsEndOf p s e result }
 {
     match named {
-        Some(node) => end_through(instances, targets, ends, here, node),
-        None => Some(here),
+        Some(node) => end_through(instances, targets, ends, own, node),
+        None => own,
     }
 }
 
-/// The end of the chain that begins with an expression, which is read in the instance i.
+/// The end of the chain that begins with an abbreviation, whose text is read in the instance i.
 fn end_of<'p>(
     alloc: Global,
     instances: &Instances<'p>,
     targets: &Targets<'p>,
-    ends: &[Option<End<'p>>],
+    ends: &[usize],
+    own: usize,
     i: usize,
-    expr: &'p Expr,
-) -> Result<Option<End<'p>>, AllocError>
+    text: &'p Expr,
+) -> Result<usize, AllocError>
     requires { CanAsk instances.now targets.now (length ends.now) i }
     ensures { (p : Plain) (s : Scope) → AreTargets p instances.now targets.now
-        → scope_at p i ≡ Some s → AreEndsIn p ends.now s (mentions (plain_expr expr.now))
-        → IfOk result (IsEndOf p s (plain_expr expr.now)) }
+        → scope_at p i ≡ Some s → IsText p own s (plain_expr text.now)
+        → AreEndsIn p ends.now s (mentions (plain_expr text.now))
+        → IfOk result (IsEndOf p s (plain_expr text.now)) }
 {
-    let here = End {
-        home: i,
-        right: expr,
-    };
-    let Some(path) = path_of(bare_of(expr)) else {
-        return Ok(Some(here));
+    let Some(path) = path_of(bare_of(text)) else {
+        return Ok(own);
     };
     let named = targets.named(alloc, instances, i, path)?;
-    Ok(end_named(instances, targets, ends, here, named))
+    Ok(end_named(instances, targets, ends, own, named))
 }
 
 /// The tables, with an entry for each abbreviation.
 #[derive(Drop)]
-pub struct Tables<'p> {
+pub struct Tables {
     pub numbers: Vec<Option<i64>>,
     pub sizes: Vec<Size>,
-    pub ends: Vec<Option<End<'p>>>,
+    /// By its number, the abbreviation at which a chain of definitions that are a path alone ends: its
+    /// text is no path to a further expression. Where there is none, how many there are.
+    pub ends: Vec<usize>,
 }
 
 /// What stands in the tables for one abbreviation.
 #[derive(Clone, Copy)]
-struct Row<'p> {
+struct Row {
     pub number: Option<i64>,
     pub size: Size,
-    pub end: Option<End<'p>>,
+    pub end: usize,
 }
 
-/// The row of an expression, which is read in the instance i.
+/// The row of an abbreviation from its text, which is read in the instance i.
 fn text_row<'p>(
     alloc: Global,
     instances: &Instances<'p>,
     targets: &Targets<'p>,
     numbers: &[Option<i64>],
     sizes: &[Size],
-    ends: &[Option<End<'p>>],
+    ends: &[usize],
+    own: usize,
     i: usize,
     text: &'p Expr,
-) -> Result<Row<'p>, AllocError>
+) -> Result<Row, AllocError>
     requires numbers { CanAsk instances.now targets.now (length numbers.now) i }
     requires sizes { CanAsk instances.now targets.now (length sizes.now) i }
     requires ends { CanAsk instances.now targets.now (length ends.now) i }
     ensures { (p : Plain) (s : Scope) → AreTargets p instances.now targets.now
-        → scope_at p i ≡ Some s → AreNumbersIn p numbers.now s (mentions (plain_expr text.now))
+        → scope_at p i ≡ Some s → IsText p own s (plain_expr text.now)
+        → AreNumbersIn p numbers.now s (mentions (plain_expr text.now))
         → AreSizesIn p sizes.now s (mentions (plain_expr text.now))
         → AreEndsIn p ends.now s (mentions (plain_expr text.now))
         → IfOk result (IsRow p s (plain_expr text.now)) }
@@ -147,20 +139,16 @@ fn text_row<'p>(
     match path_of(text) {
         Some(path) => {
             let named = targets.named(alloc, instances, i, path)?;
-            let here = End {
-                home: i,
-                right: text,
-            };
             Ok(Row {
                 number: number_named(numbers, named),
                 size: size_named(sizes, named),
-                end: end_named(instances, targets, ends, here, named),
+                end: end_named(instances, targets, ends, own, named),
             })
         }
         None => Ok(Row {
             number: number(alloc, instances, targets, numbers, i, text)?,
             size: size(alloc, instances, targets, sizes, i, text)?,
-            end: end_of(alloc, instances, targets, ends, i, text)?,
+            end: end_of(alloc, instances, targets, ends, own, i, text)?,
         }),
     }
 }
@@ -172,26 +160,28 @@ fn row_at<'p>(
     targets: &Targets<'p>,
     numbers: &[Option<i64>],
     sizes: &[Size],
-    ends: &[Option<End<'p>>],
+    ends: &[usize],
     node: usize,
-) -> Result<Row<'p>, AllocError>
+) -> Result<Row, AllocError>
     requires { (p : Plain) × AreTargets p instances.now targets.now
         × (length numbers.now ≡ length (all_entries p))
         × (length sizes.now ≡ length (all_entries p))
         × (length ends.now ≡ length (all_entries p)) × (node < length (all_entries p)) }
     ensures { (p : Plain) (a : Abbreviation) → AreTargets p instances.now targets.now
         → abbreviation_at p node ≡ Some a → HasUsed None (NumberOf p) p a numbers.now
-        → HasUsed leaf (SizeOf p) p a sizes.now → HasUsed None (EndOf p) p a ends.now
+        → HasUsed leaf (SizeOf p) p a sizes.now → HasUsed (no_end p) (EndOf p) p a ends.now
         → IfOk result (RowOf p a) }
 {
     match text_at(instances, targets, node) {
         Some((home, text)) => {
-            text_row(alloc, instances, targets, numbers, sizes, ends, home, text)
+            text_row(
+                alloc, instances, targets, numbers, sizes, ends, node, home, text,
+            )
         }
         None => Ok(Row {
             number: None,
             size: Size::leaf(),
-            end: None,
+            end: ends.len(),
         }),
     }
 }
@@ -203,7 +193,7 @@ fn fill_at<'p>(
     targets: &Targets<'p>,
     order: &Order,
     k: usize,
-    tables: &mut Tables<'p>,
+    tables: &mut Tables,
 ) -> Result<(), AllocError>
     requires { (p : Plain) × AreTargets p instances.now targets.now
         × AreOrdered p order.now.order.items order.now.circular.items
@@ -233,14 +223,14 @@ fn fill_at<'p>(
 }
 
 /// Tables of which nothing is filled.
-fn blank<'p>(alloc: Global, count: usize) -> Result<Tables<'p>, AllocError>
+fn blank(alloc: Global, count: usize) -> Result<Tables, AllocError>
     ensures { (p : Plain) (order : List ℕ) → count ≡ length (all_entries p)
         → IfOk result (AreFilled p order 0) }
 {
     Ok(Tables {
         numbers: vec![in alloc; None; count]?,
         sizes: vec![in alloc; Size::leaf(); count]?,
-        ends: vec![in alloc; None; count]?,
+        ends: vec![in alloc; count; count]?,
     })
 }
 
@@ -250,7 +240,7 @@ pub fn tables_of<'p>(
     instances: &Instances<'p>,
     targets: &Targets<'p>,
     order: &Order,
-) -> Result<Tables<'p>, AllocError>
+) -> Result<Tables, AllocError>
     requires { (p : Plain) × AreTargets p instances.now targets.now
         × AreOrdered p order.now.order.items order.now.circular.items }
     ensures { (p : Plain) → AreTargets p instances.now targets.now

@@ -1,7 +1,6 @@
-use Rattle.std.proofs.Common.{rules, ◌≡◌, refl, sym, ◌∙◌, ap, ◌<◌, ◌≤◌, ◌-◌, arith, length, true}
+use Rattle.std.proofs.Common.{rules, ◌≡◌, refl, sym, ◌∙◌, ap, ◌<◌, ◌≤◌, arith, length, true}
 use Rattle.std.proofs.lemmas.Bool.{false≢true}
 use Rattle.std.proofs.lemmas.Option.{slice_get_read, slice_get_within}
-use Rattle.kripke_model.specs.declared.expressions.Value.TheVariants.{Number}
 use Rattle.kripke_model.specs.Reading.{arm_of, term_of}
 use Rattle.kripke_model.specs.Term.{Term}
 use Rattle.kripke_model.proofs.ReadingLemmas.{braces_term, case_term}

@@ -1,8 +1,8 @@
 use Rattle.std.proofs.Common.{refl, sym, ◌∙◌, ap, subst, Option}
 use Rattle.std.proofs.lemmas.Bool.{false≢true}
 use Rattle.smv_instances.specs.Plain.{plain_expr}
-use Rattle.smv_names.specs.declared.tables.End.{End}
 use Rattle.smv_names.specs.Written.{is_path, plain_path}
+use Rattle.smv_instantiate.specs.declared.expansion.End.{End}
 use Rattle.smv_instantiate.specs.Expansion.{EndsPath}
 use Rattle.smv_instantiate.proofs.PathSteps.{node_here, node_there, same_path}
 use Rattle.smv_instantiate.proofs.expansion.node_of.Goals as goal

@@ -1,5 +1,4 @@
 use Rattle.std.proofs.Common.{subst, Some}
-use Rattle.smv_instances.specs.Plain.{plain_expr}
 use Rattle.smv_names.specs.Ready.{NamesNode}
 use Rattle.smv_names.proofs.EndLemmas.{bare_named, leaf_end}
 use Rattle.smv_names.proofs.TextLemmas.{numbered_within}
@@ -12,9 +11,9 @@ end_through-requires c =
     (p, c.requires.3, c.requires.4, numbered_within p c.in-Some.node named.0 named.1)
 
 pub returns-in-Some : goal.returns-in-Some
-returns-in-Some c = λ p s q targets at path names known.
+returns-in-Some c = λ p s e q targets text path names known.
     let named : NamesNode p s q (Some c.in-Some.node) = subst (λ z. NamesNode p s q z) c.in-Some.is names in
-    c.end_through.ensures p s q named.0 targets at path named.2 named.1 (known c.in-Some.node named.0 named.1 (bare_named p s (plain_expr c.args.here.right.now) q named.0 path named.2))
+    c.end_through.ensures p s e q named.0 targets text path named.2 named.1 (known c.in-Some.node named.0 named.1 (bare_named p s e q named.0 path named.2))
 
 pub returns-in-None : goal.returns-in-None
-returns-in-None c = λ p s q targets at path names known. leaf_end p s c.args.here q at path (subst (λ z. NamesNode p s q z) c.in-None.is names)
+returns-in-None c = λ p s e q targets text path names known. leaf_end p s e c.args.own q text path (subst (λ z. NamesNode p s q z) c.in-None.is names)

@@ -4,7 +4,7 @@ use Rattle.smv_names.specs.Abbreviations.{Abbreviation}
 use Rattle.smv_names.specs.Nodes.{abbreviation_at}
 use Rattle.smv_names.specs.Works.{HasUsed}
 use Rattle.smv_names.specs.Known.{NumberOf, SizeOf, leaf}
-use Rattle.smv_names.specs.Ends.{EndOf}
+use Rattle.smv_names.specs.Ends.{EndOf, no_end}
 use Rattle.smv_names.specs.Filling.{RowOf}
 use Rattle.smv_names.proofs.EndLemmas.{bare_end, stuck_end}
 use Rattle.smv_names.proofs.FillLemmas.{bare_number, bare_size_of, fill_circular, fill_straight, flag_is, leaf_is, stuck_number, stuck_size, used_known}
@@ -34,9 +34,9 @@ returns c = λ p targets ordered filled.
     c.in_ok-row.ensures p a targets at
     (subst (λ xs. HasUsed None (NumberOf p) p a xs) (sym c.deref.ensures.value) (used_known ordered (bare_number p) filled.numbers below is flag a at))
     (subst (λ xs. HasUsed leaf (SizeOf p) p a xs) (sym c.deref-2.ensures.value) (used_known ordered (λ b none. bare_size_of p b leaf leaf_is none) filled.sizes below is flag a at))
-    (subst (λ xs. HasUsed None (EndOf p) p a xs) (sym c.deref-3.ensures.value) (used_known ordered (bare_end p) filled.ends below is flag a at)) in
+    (subst (λ xs. HasUsed (no_end p) (EndOf p) p a xs) (sym c.deref-3.ensures.value) (used_known ordered (λ b none. bare_end p b (no_end p) none) filled.ends below is flag a at)) in
     record {
       numbers = fill_straight ordered (bare_number p) filled.numbers below is flag (λ a at known. (row a at).number);
       sizes = fill_straight ordered (λ b none. bare_size_of p b leaf leaf_is none) filled.sizes below is flag (λ a at known. (row a at).size);
-      ends = fill_straight ordered (bare_end p) filled.ends below is flag (λ a at known. (row a at).end);
+      ends = fill_straight ordered (λ b none. bare_end p b (no_end p) none) filled.ends below is flag (λ a at known. (row a at).end);
     }

@@ -29,12 +29,12 @@ end_named-requires c =
     (ask.0, s.0, plain_path c.in-Some.path.now, ask.1, ask.3, c.in_ok-named-in-Some.ensures ask.0 s.0 ask.1 s.1)
 
 pub returns-in_ok-named-in-Some : goal.returns-in_ok-named-in-Some
-returns-in_ok-named-in-Some c = λ p s targets at numbers sizes ends.
+returns-in_ok-named-in-Some c = λ p s targets at text numbers sizes ends.
     let q = plain_path c.in-Some.path.now in
     let is : plain_expr c.args.text.now ≡ Expr.At q = c.in-Some.ensures.some in
     let named = c.in_ok-named-in-Some.ensures p s targets at in
     record {
       number = subst (λ e. IsNumber p s e c.number_named.result) (sym is) (c.number_named.ensures p s q named (subst (λ e. AreNumbersIn p c.args.numbers.now s (mentions e)) is numbers));
       size = subst (λ e. IsSizeOf p s e c.size_named.result) (sym is) (c.size_named.ensures p s q named (subst (λ e. AreSizesIn p c.args.sizes.now s (mentions e)) is sizes));
-      end = c.end_named.ensures p s q targets at (ap bare is) named ends;
+      end = c.end_named.ensures p s (plain_expr c.args.text.now) q targets text (ap bare is) named ends;
     }
