@@ -33,6 +33,7 @@ use Rattle.proof_lines.specs.declared.frames.Frame.{Frame}
 use Rattle.claim_sets.specs.ConstraintClaims.{IsGiven, constraint_list}
 use Rattle.proof_lines.specs.Frames.{IsFrameOf}
 use Rattle.proof_lines.specs.Tested.{AreTested, next_count}
+use Rattle.proof_lines.specs.Told.{fair_lines, release_lines}
 use Rattle.claim_sets.proofs.ClaimPins.{if_ok}
 use Rattle.proof_lines.proofs.Counting.{none_tested, one_holds, one_fails, then_tested}
 use Rattle.claim_sets.proofs.Given.{list_kept}
@@ -150,10 +151,6 @@ pub lists_mapped : (g : Pin → StateSet) (lists : List (Vec Pin)) → map (λ (
 lists_mapped g [] = refl
 lists_mapped g (l ∷ lists) = ap (λ rest. map g l.items ∷ rest) (lists_mapped g lists)
 
-abbrev pub fair_lines : Sets → Constraints → Pin → FairPart Pin → List (List Check)
-fair_lines s c last fair =
-    [] ∷ (Check.Inside (region s fair.inside) (region s last) ∷ []) ∷ reach_lines (region s fair.inside) (constraint_list s c true) (map (map (region s)) fair.reach)
-
 pub reach_live : (now : Sets) (own fair : FairPart Pin) (lists : List (Vec Pin)) → own ≡ fair → lists_of lists ≡ own.reach → AreLive now (slots (fair_sets fair)) → AreLive now (lists_slots lists)
 reach_live now own fair lists is reach_is live k h =
     subst (λ (part : FairPart Pin). AreLive now (slots (fair_sets part))) (sym is) live k
@@ -190,11 +187,11 @@ module _ (s0 : Sets) (c : Constraints) (last : Pin) (own fair : FairPart Pin) (i
 
 -- what follows was tested after a test that left no pin
 pub release_after : (s0 s1 : Sets) (first last fair : Pin) (list : List Pin) (xs : List (List Check)) (before now : ℕ) (r : Result Bool SetRefusal) (after : ℕ) → Adds s0 s1 [] → AreTested s0.over xs before true now
-    → IfOk r (λ good. AreTested s1.over ([] ∷ until_lines (region s1 last) (both (region s1 first) (both (region s1 last) (region s1 fair))) (regions s1 list)) now good after)
-    → IfOk r (λ good. AreTested s0.over (xs ++ ([] ∷ until_lines (region s0 last) (both (region s0 first) (both (region s0 last) (region s0 fair))) (regions s0 list))) before good after)
+    → IfOk r (λ good. AreTested s1.over (release_lines s1 fair first last list) now good after)
+    → IfOk r (λ good. AreTested s0.over (xs ++ release_lines s0 fair first last list) before good after)
 release_after s0 s1 first last fair list xs before now r after none held t =
     let same : region s1 ≡ region s0 = λ i pin. has_state (none.kept pin.slot refl i) in
-    then_result s0.over xs ([] ∷ until_lines (region s0 last) (both (region s0 first) (both (region s0 last) (region s0 fair))) (regions s0 list)) before now r after held
+    then_result s0.over xs (release_lines s0 fair first last list) before now r after held
     (subst (λ (T : Type 0). T)
     (λ i. IfOk r (λ good. AreTested (none.over i) ([] ∷ until_lines (same i last) (both (same i first) (both (same i last) (same i fair))) (map (same i) list)) now good after)) t)
 

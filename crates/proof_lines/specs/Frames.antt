@@ -13,7 +13,7 @@ use Rattle.claim_sets.specs.declared.claims.Asks.{Asks}
 use Rattle.claim_sets.specs.declared.claims.Asks.TheVariants as asks
 use Rattle.proof_lines.specs.declared.frames.Frame.{Frame}
 use Rattle.claim_sets.specs.Claimed.{ClaimView, view_at}
-use Rattle.claim_sets.specs.ConstraintClaims.{IsGiven}
+use Rattle.claim_sets.specs.ConstraintClaims.{IsGiven, constraint_list}
 
 -- the pins are live, and two of them stand for all states and for none
 pub record IsFrame (sets : Sets) (frame : Frame) : Type 0 where
@@ -29,6 +29,14 @@ pub record IsFrame (sets : Sets) (frame : Frame) : Type 0 where
 pub record IsFrameOf (sets : Sets) (frame : Frame) (p : claims.Proof) : Type 0 where
   pub fair : p.fair ≡ region sets frame.fair.now
   pub nonfair : join_layers p.nonfair ≡ region sets frame.nonfair.now
+
+-- the states that the constraints' formulas are true at, in turn
+abbrev pub visited_in : Sets → Frame → List StateSet
+visited_in sets frame = constraint_list sets frame.constraints true
+
+-- and those that they are false at
+abbrev pub avoided_in : Sets → Frame → List StateSet
+avoided_in sets frame = constraint_list sets frame.constraints false
 
 -- the set of a first argument that isn't there
 abbrev pub absent_pin : Frame → Rule → Pin

@@ -1,6 +1,6 @@
 //! The lines of a formula's entries, in order, by the claims of its nodes.
 
-ghost use Rattle.std.specs.Prelude.{◌≡◌, ◌+◌, ◌-◌, ◌<◌, ◌≤◌, [], All, IfOk, List, Some, ℕ, false, length, map, true};
+ghost use Rattle.std.specs.Prelude.{◌≡◌, ◌+◌, ◌-◌, ◌<◌, ◌≤◌, [], All, IfOk, List, Some, ℕ, length, map};
 ghost use Rattle.kripke_model.specs.Ctl.{Ctl};
 ghost use Rattle.kripke_model.specs.Signs.{node_count};
 ghost use Rattle.path_laws.specs.StateSet.{StateSet};
@@ -14,8 +14,8 @@ ghost use Rattle.proof_form.specs.Seen.{seen_rule};
 ghost use Rattle.proof_form.specs.Shape.{FitsConstraints};
 ghost use Rattle.claim_sets.specs.declared.constraint_pins.Constraints.TheVariants as constraints;
 ghost use Rattle.claim_sets.specs.Claimed.{AreClaims, ClaimView, claims_of, claims_slots, demand_in};
-ghost use Rattle.claim_sets.specs.ConstraintClaims.{HaveClaims, claims_at, constraint_list, constraints_count, lists_claims_slots};
-ghost use Rattle.proof_lines.specs.Frames.{IsFrame, IsFrameOf};
+ghost use Rattle.claim_sets.specs.ConstraintClaims.{HaveClaims, claims_at, constraints_count, lists_claims_slots};
+ghost use Rattle.proof_lines.specs.Frames.{IsFrame, IsFrameOf, avoided_in, visited_in};
 ghost use Rattle.claim_sets.specs.Claimed.{AreBefore};
 ghost use Rattle.proof_lines.specs.LineCounts.{entries_line_count, free_entries_line_count, rule_line_count};
 ghost use Rattle.proof_lines.specs.Tested.{AreTested};
@@ -47,8 +47,8 @@ fn node_lines<S: StateSets>(
         → IsFrameOf (S.seen sets.old) frame.now p
         → AreClaims (S.seen sets.old).over (S.seen sets.old) claims.now views → AreBefore views
         → AreTested (S.seen sets.old).over
-        (asked_lines (constraint_list (S.seen sets.old) frame.now.constraints true)
-        (constraint_list (S.seen sets.old) frame.now.constraints false) p
+        (asked_lines (visited_in (S.seen sets.old) frame.now)
+        (avoided_in (S.seen sets.old) frame.now) p
         (demand_in views place sign)
         (entry_of (map_rule (region (S.seen sets.old)) (seen_rule rule.now)))) line.old yes
         line.new) }
@@ -96,8 +96,8 @@ fn asked_entry<S: StateSets>(
         → AreClaims (S.seen sets.old).over (S.seen sets.old) claims.now
         (claims_of (S.seen sets.old).over p f 1 0)
         → AreTested (S.seen sets.old).over
-        (asked_lines (constraint_list (S.seen sets.old) frame.now.constraints true)
-        (constraint_list (S.seen sets.old) frame.now.constraints false) p
+        (asked_lines (visited_in (S.seen sets.old) frame.now)
+        (avoided_in (S.seen sets.old) frame.now) p
         (demand_at (S.seen sets.old).over p f 1 entry.now.node entry.now.plus)
         (entry_of (map_rule (region (S.seen sets.old)) entry.now.rule))) line.old yes line.new) }
     ensures products { S.products sets.new ≤ S.products sets.old + rule_line_count entry.now.rule }
@@ -126,8 +126,7 @@ pub fn own_lines<S: StateSets>(
         → AreClaims (S.seen sets.old).over (S.seen sets.old) claims.now
         (claims_of (S.seen sets.old).over p f 1 0)
         → AreTested (S.seen sets.old).over (listed_lines (S.seen sets.old).over
-        (constraint_list (S.seen sets.old) frame.now.constraints true)
-        (constraint_list (S.seen sets.old) frame.now.constraints false) p f 1
+        (visited_in (S.seen sets.old) frame.now) (avoided_in (S.seen sets.old) frame.now) p f 1
         (map listed_of (map (map_entry (region (S.seen sets.old))) entries.now))) line.old yes
         line.new) }
     ensures products { S.products sets.new ≤ S.products sets.old + entries_line_count entries.now }

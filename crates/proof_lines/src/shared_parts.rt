@@ -1,6 +1,6 @@
 //! The lines of what a proof's entries share: the states without a fair path, and those with one.
 
-ghost use Rattle.std.specs.Prelude.{◌≡◌, ◌+◌, ◌≤◌, [], ◌∷◌, length, map, All, IfOk, true, false};
+ghost use Rattle.std.specs.Prelude.{◌≡◌, ◌+◌, ◌≤◌, [], ◌∷◌, length, map, All, IfOk};
 ghost use Rattle.region_sets.specs.Sets.{IsCall, region};
 ghost use Rattle.region_sets.specs.Ranks.{AreLive, slots};
 ghost use Rattle.fair_rules.specs.SetLists.{everything, nothing};
@@ -8,11 +8,11 @@ ghost use Rattle.fair_rules.specs.Checks.{layer_lines, reach_lines};
 ghost use Rattle.proof_form.specs.Form.{fair_sets, layer_sets, map_layer};
 ghost use Rattle.proof_form.specs.Meaning.{layer_of};
 ghost use Rattle.proof_form.specs.Shape.{Avoids};
-ghost use Rattle.claim_sets.specs.ConstraintClaims.{constraint_list, constraints_count};
+ghost use Rattle.claim_sets.specs.ConstraintClaims.{constraints_count};
 ghost use Rattle.proof_lines.specs.Cases.{shared};
-ghost use Rattle.proof_lines.specs.Frames.{IsFrame};
+ghost use Rattle.proof_lines.specs.Frames.{IsFrame, avoided_in, visited_in};
 ghost use Rattle.proof_lines.specs.LineCounts.{fair_line_count};
-ghost use Rattle.proof_lines.specs.Tested.{AreTested};
+ghost use Rattle.proof_lines.specs.Told.{Tests};
 
 use crate::frames::{Frame, few_law};
 use crate::lines::{count, layers, reaches};
@@ -30,11 +30,10 @@ fn nonfair_lines<S: StateSets>(
     requires avoids { All (Avoids (constraints_count frame.now.constraints)) nonfair.now }
     requires live { AreLive (S.seen sets.old) (slots (layer_sets nonfair.now)) }
     ensures call { IsCall 6 (S.seen sets.old) (S.seen sets.new) [] result }
-    ensures tested { IfOk result
-        (λ yes. AreTested (S.seen sets.old).over
-        ([] ∷ layer_lines (constraint_list (S.seen sets.old) frame.now.constraints false) everything
-        nothing nothing (map layer_of (map (map_layer (region (S.seen sets.old))) nonfair.now)))
-        line.old yes line.new) }
+    ensures tested { IfOk result (Tests (S.seen sets.old).over
+        ([] ∷ layer_lines (avoided_in (S.seen sets.old) frame.now) everything nothing nothing
+        (map layer_of (map (map_layer (region (S.seen sets.old))) nonfair.now))) line.old
+        line.new) }
     ensures products { S.products sets.new ≤ S.products sets.old + length nonfair.now }
 {
     count(line);
@@ -59,11 +58,10 @@ fn fair_lines<S: StateSets>(
     requires count { length fair.now.reach ≡ constraints_count frame.now.constraints }
     requires live { AreLive (S.seen sets.old) (slots (fair_sets fair.now)) }
     ensures call { IsCall 6 (S.seen sets.old) (S.seen sets.new) [] result }
-    ensures tested { IfOk result
-        (λ yes. AreTested (S.seen sets.old).over
+    ensures tested { IfOk result (Tests (S.seen sets.old).over
         ([] ∷ reach_lines (region (S.seen sets.old) fair.now.inside)
-        (constraint_list (S.seen sets.old) frame.now.constraints true)
-        (map (map (region (S.seen sets.old))) fair.now.reach)) line.old yes line.new) }
+        (visited_in (S.seen sets.old) frame.now)
+        (map (map (region (S.seen sets.old))) fair.now.reach)) line.old line.new) }
     ensures products { S.products sets.new ≤ S.products sets.old + fair_line_count fair.now }
 {
     few_law(&frame.constraints);
@@ -93,13 +91,11 @@ pub fn shared_lines<S: StateSets>(
     requires count { length fair.now.reach ≡ constraints_count frame.now.constraints }
     requires live { AreLive (S.seen sets.old) (slots (fair_sets fair.now)) }
     ensures call { IsCall 6 (S.seen sets.old) (S.seen sets.new) [] result }
-    ensures tested { IfOk result
-        (λ yes. AreTested (S.seen sets.old).over
-        (shared (constraint_list (S.seen sets.old) frame.now.constraints true)
-        (constraint_list (S.seen sets.old) frame.now.constraints false)
+    ensures tested { IfOk result (Tests (S.seen sets.old).over
+        (shared (visited_in (S.seen sets.old) frame.now) (avoided_in (S.seen sets.old) frame.now)
         (map layer_of (map (map_layer (region (S.seen sets.old))) nonfair.now))
-        (region (S.seen sets.old) fair.now.inside) (map (map (region (S.seen sets.old)))
-        fair.now.reach)) line.old yes line.new) }
+        (region (S.seen sets.old) fair.now.inside)
+        (map (map (region (S.seen sets.old))) fair.now.reach)) line.old line.new) }
     ensures products { S.products sets.new ≤ S.products sets.old
         + (length nonfair.now + fair_line_count fair.now) }
 {

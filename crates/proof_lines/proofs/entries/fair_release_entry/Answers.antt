@@ -1,7 +1,8 @@
 use Rattle.std.proofs.Common.{subst}
 use Rattle.proof_lines.specs.Tested.{AreTested}
 use Rattle.proof_lines.proofs.Counting.{left_fails}
-use Rattle.proof_lines.proofs.EntryLines.{fair_lines, release_after}
+use Rattle.proof_lines.specs.Told.{fair_lines}
+use Rattle.proof_lines.proofs.EntryLines.{release_after}
 use Rattle.proof_lines.proofs.entries.fair_release_entry.Goals as goal
 
 pub returns-then-not-branch-clause-tested : goal.returns-then-not-branch-clause-tested
