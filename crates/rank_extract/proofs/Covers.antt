@@ -20,7 +20,7 @@ use Rattle.fair_fixpoint.specs.Formulas.{is_existential}
 use Rattle.fair_fixpoint.proofs.NodeTruth.{computed_parted}
 use Rattle.proof_form.specs.Form.{Entry as Written}
 use Rattle.rank_extract.specs.Given.{own_entries, wanted, wants}
-use Rattle.rank_extract.proofs.Lookups.{Within, within_both, within_wider, look_up, look_past, look_before, own_within, wanted_within, own_there, own_absent}
+use Rattle.rank_extract.proofs.Lookups.{Within, look_up, look_past, look_before, own_within, parts_within, wanted_within, own_there, own_absent}
 use Rattle.rank_extract.proofs.NodeEntries.{FitsRule, quant_fits, until_fits, proof, given_meets, given_covers}
 
 -- ---- signs
@@ -50,16 +50,23 @@ module _ (m : System) (visited vs avs : List StateSet) (Z fair : StateSet) (nonf
   abbrev p : Proof
   p = proof m visited vs avs fair nonfair reaches look shorter visits avoids apart
 
-  -- the proof has the entries that are wanted for the formula's nodes, and no others there
+  -- the proof has these entries for the nodes of the numbers, and no others there
+  abbrev LooksIn : ℕ → ℕ → List (Written StateSet) → Type 0
+  LooksIn low high es = (i : ℕ) (sign : Bool) → low ≤ i → i < high → look i sign ≡ look_up es i sign
+
+  -- and those that are wanted for the formula's nodes
   abbrev pub Looks : Ctl → ℕ → Bool → Bool → Type 0
-  Looks f n plus minus = (i : ℕ) (sign : Bool) → n ≤ i → i < n + node_count f → look i sign ≡ look_up (wanted fair at f n plus minus) i sign
+  Looks f n plus minus = LooksIn n (n + node_count f) (wanted fair at f n plus minus)
+
+  -- for fewer numbers
+  inner : {low high n k : ℕ} (es : List (Written StateSet)) → low ≤ n → k ≤ high → LooksIn low high es → LooksIn n k es
+  inner {low} {high} {n} {k} es l h looks i sign a b = looks i sign (omega (arith, l, a)) (omega (arith, b, h))
 
   abbrev Covered : Ctl → ℕ → Bool → Type 0
   Covered f n sign = IsInside m (sign_set sign (at n)) (λ s. s ∈ claimed m p f n sign)
 
   module _ (f g : Ctl) (n : ℕ) (a b c d : Bool)
-      (looks : (i : ℕ) (sign : Bool) → n + 1 ≤ i → i < n + 1 + node_count f + node_count g
-      → look i sign ≡ look_up (wanted fair at f (n + 1) a b ++ wanted fair at g (n + 1 + node_count f) c d) i sign) where
+      (looks : LooksIn (n + 1) (n + 1 + node_count f + node_count g) (wanted fair at f (n + 1) a b ++ wanted fair at g (n + 1 + node_count f) c d)) where
     left_looks : Looks f (n + 1) a b
     left_looks i sign low high =
         looks i sign low (omega (arith, high))
@@ -74,8 +81,7 @@ module _ (m : System) (visited vs avs : List StateSet) (Z fair : StateSet) (nonf
 
   -- behind a node's own entries
   rest_looks : (n high : ℕ) (some plus minus : Bool) (es : List (Written StateSet))
-      → ((i : ℕ) (sign : Bool) → n ≤ i → i < high → look i sign ≡ look_up (own_entries fair at n some plus minus ++ es) i sign)
-      → (i : ℕ) (sign : Bool) → n + 1 ≤ i → i < high → look i sign ≡ look_up es i sign
+      → LooksIn n high (own_entries fair at n some plus minus ++ es) → LooksIn (n + 1) high es
   rest_looks n high some plus minus es looks i sign low less =
       looks i sign (omega (arith, low)) less ∙ look_past n (n + 1) (own_entries fair at n some plus minus) es i sign (own_within fair at n some plus minus) (inr low)
 
@@ -98,72 +104,86 @@ module _ (m : System) (visited vs avs : List StateSet) (Z fair : StateSet) (nonf
 
   -- ---- connectives: by the sets of the parts, and where both sets of a part have all of Z
 
-  module _ (v a b : NodeView) (parted : AreParted m Z v.plus v.minus) (parted_a : AreParted m Z a.plus a.minus) (parted_b : AreParted m Z b.plus b.minus) where
+  module _ (f g : Ctl) (n : ℕ) (parted : AreParted m Z (at n).plus (at n).minus) (computed_f : AreComputed m visited Z fair at f (n + 1)) (computed_g : AreComputed m visited Z fair at g (n + 1 + node_count f)) where
+    abbrev v : NodeView
+    v = at n
+
+    abbrev a : NodeView
+    a = at (n + 1)
+
+    abbrev b : NodeView
+    b = at (n + 1 + node_count f)
+
+    -- what is claimed of the parts
+    abbrev A : StateSet
+    A = claimed m p f (n + 1) true
+
+    abbrev A' : StateSet
+    A' = claimed m p f (n + 1) false
+
+    abbrev B : StateSet
+    B = claimed m p g (n + 1 + node_count f) true
+
+    abbrev B' : StateSet
+    B' = claimed m p g (n + 1 + node_count f) false
+
     -- where the node is false each part is true or false
     by_parts : (P : Type 0) (s : State) → IsState m s → s ∈ v.minus
         → (s ∈ a.plus → s ∈ b.plus → P) → (s ∈ a.plus → s ∈ b.minus → P) → (s ∈ a.minus → s ∈ b.plus → P) → (s ∈ a.minus → s ∈ b.minus → P) → P
     by_parts P s is_state e pp pm mp mm =
         let z = parted.inside s is_state (or_right (v.plus s) (v.minus s) e) in
-        elim (parted_a.covers s is_state z) [
-          | inl ap ↦ elim (parted_b.covers s is_state z) [ inl bp ↦ pp ap bp | inr bm ↦ pm ap bm ]
-          | inr am ↦ elim (parted_b.covers s is_state z) [ inl bp ↦ mp am bp | inr bm ↦ mm am bm ]
+        let of_f = computed_parted m visited Z fair at f (n + 1) computed_f in
+        let of_g = computed_parted m visited Z fair at g (n + 1 + node_count f) computed_g in
+        elim (of_f.covers s is_state z) [
+          | inl ap ↦ elim (of_g.covers s is_state z) [ inl bp ↦ pp ap bp | inr bm ↦ pm ap bm ]
+          | inr am ↦ elim (of_g.covers s is_state z) [ inl bp ↦ mp am bp | inr bm ↦ mm am bm ]
         ]
 
     not_plus : (F : StateSet) (P : Type 0) → v.plus ≡ F → (s : State) → IsState m s → s ∈ v.minus → s ∈ F → P
     not_plus F P is s is_state e there = absurd (parted.apart s is_state (subst (λ G. s ∈ G) (sym is) there) e)
 
-    module _ (A A' B B' : StateSet) where
-      and_covers : v.plus ≡ both a.plus b.plus → IsInside m a.plus (λ s. s ∈ A) → IsInside m b.plus (λ s. s ∈ B) → IsInside m v.plus (λ s. s ∈ both A B)
-      and_covers is fa fb s is_state e =
-          let h = and_parts (a.plus s) (b.plus s) (subst (λ G. s ∈ G) is e) in and_from (A s) (B s) (fa s is_state h.0) (fb s is_state h.1)
+    and_covers : v.plus ≡ both a.plus b.plus → (sign : Bool) → Covered f (n + 1) sign → Covered g (n + 1 + node_count f) sign → Covered (Ctl.And f g) n sign
+    and_covers is true fa fb s is_state e =
+        let h = and_parts (a.plus s) (b.plus s) (subst (λ G. s ∈ G) is e) in and_from (A s) (B s) (fa s is_state h.0) (fb s is_state h.1)
+    and_covers is false fa fb s is_state e = by_parts (s ∈ either A' B') s is_state e
+        (λ x y. not_plus (both a.plus b.plus) (s ∈ either A' B') is s is_state e (and_from (a.plus s) (b.plus s) x y))
+        (λ x y. or_right (A' s) (B' s) (fb s is_state y))
+        (λ x y. or_left (A' s) (B' s) (fa s is_state x))
+        (λ x y. or_left (A' s) (B' s) (fa s is_state x))
 
-      not_and_covers : v.plus ≡ both a.plus b.plus → IsInside m a.minus (λ s. s ∈ A') → IsInside m b.minus (λ s. s ∈ B') → IsInside m v.minus (λ s. s ∈ either A' B')
-      not_and_covers is fa fb s is_state e = by_parts (s ∈ either A' B') s is_state e
-          (λ x y. not_plus (both a.plus b.plus) (s ∈ either A' B') is s is_state e (and_from (a.plus s) (b.plus s) x y))
-          (λ x y. or_right (A' s) (B' s) (fb s is_state y))
-          (λ x y. or_left (A' s) (B' s) (fa s is_state x))
-          (λ x y. or_left (A' s) (B' s) (fa s is_state x))
+    or_covers : v.plus ≡ either a.plus b.plus → (sign : Bool) → Covered f (n + 1) sign → Covered g (n + 1 + node_count f) sign → Covered (Ctl.Or f g) n sign
+    or_covers is true fa fb s is_state e = elim (or_cases (a.plus s) (b.plus s) (subst (λ G. s ∈ G) is e)) [
+      | inl x ↦ or_left (A s) (B s) (fa s is_state x)
+      | inr y ↦ or_right (A s) (B s) (fb s is_state y)
+    ]
+    or_covers is false fa fb s is_state e = by_parts (s ∈ both A' B') s is_state e
+        (λ x y. not_plus (either a.plus b.plus) (s ∈ both A' B') is s is_state e (or_left (a.plus s) (b.plus s) x))
+        (λ x y. not_plus (either a.plus b.plus) (s ∈ both A' B') is s is_state e (or_left (a.plus s) (b.plus s) x))
+        (λ x y. not_plus (either a.plus b.plus) (s ∈ both A' B') is s is_state e (or_right (a.plus s) (b.plus s) y))
+        (λ x y. and_from (A' s) (B' s) (fa s is_state x) (fb s is_state y))
 
-      or_covers : v.plus ≡ either a.plus b.plus → IsInside m a.plus (λ s. s ∈ A) → IsInside m b.plus (λ s. s ∈ B) → IsInside m v.plus (λ s. s ∈ either A B)
-      or_covers is fa fb s is_state e = elim (or_cases (a.plus s) (b.plus s) (subst (λ G. s ∈ G) is e)) [
-        | inl x ↦ or_left (A s) (B s) (fa s is_state x)
-        | inr y ↦ or_right (A s) (B s) (fb s is_state y)
-      ]
+    implies_covers : v.plus ≡ either a.minus b.plus → (sign : Bool) → Covered f (n + 1) (not sign) → Covered g (n + 1 + node_count f) sign → Covered (Ctl.Implies f g) n sign
+    implies_covers is true fa fb s is_state e = elim (or_cases (a.minus s) (b.plus s) (subst (λ G. s ∈ G) is e)) [
+      | inl x ↦ or_left (A' s) (B s) (fa s is_state x)
+      | inr y ↦ or_right (A' s) (B s) (fb s is_state y)
+    ]
+    implies_covers is false fa fb s is_state e = by_parts (s ∈ both A B') s is_state e
+        (λ x y. not_plus (either a.minus b.plus) (s ∈ both A B') is s is_state e (or_right (a.minus s) (b.plus s) y))
+        (λ x y. and_from (A s) (B' s) (fa s is_state x) (fb s is_state y))
+        (λ x y. not_plus (either a.minus b.plus) (s ∈ both A B') is s is_state e (or_left (a.minus s) (b.plus s) x))
+        (λ x y. not_plus (either a.minus b.plus) (s ∈ both A B') is s is_state e (or_left (a.minus s) (b.plus s) x))
 
-      not_or_covers : v.plus ≡ either a.plus b.plus → IsInside m a.minus (λ s. s ∈ A') → IsInside m b.minus (λ s. s ∈ B') → IsInside m v.minus (λ s. s ∈ both A' B')
-      not_or_covers is fa fb s is_state e = by_parts (s ∈ both A' B') s is_state e
-          (λ x y. not_plus (either a.plus b.plus) (s ∈ both A' B') is s is_state e (or_left (a.plus s) (b.plus s) x))
-          (λ x y. not_plus (either a.plus b.plus) (s ∈ both A' B') is s is_state e (or_left (a.plus s) (b.plus s) x))
-          (λ x y. not_plus (either a.plus b.plus) (s ∈ both A' B') is s is_state e (or_right (a.plus s) (b.plus s) y))
-          (λ x y. and_from (A' s) (B' s) (fa s is_state x) (fb s is_state y))
-
-      implies_covers : v.plus ≡ either a.minus b.plus → IsInside m a.minus (λ s. s ∈ A') → IsInside m b.plus (λ s. s ∈ B) → IsInside m v.plus (λ s. s ∈ either A' B)
-      implies_covers is fa fb s is_state e = elim (or_cases (a.minus s) (b.plus s) (subst (λ G. s ∈ G) is e)) [
-        | inl x ↦ or_left (A' s) (B s) (fa s is_state x)
-        | inr y ↦ or_right (A' s) (B s) (fb s is_state y)
-      ]
-
-      not_implies_covers : v.plus ≡ either a.minus b.plus → IsInside m a.plus (λ s. s ∈ A) → IsInside m b.minus (λ s. s ∈ B') → IsInside m v.minus (λ s. s ∈ both A B')
-      not_implies_covers is fa fb s is_state e = by_parts (s ∈ both A B') s is_state e
-          (λ x y. not_plus (either a.minus b.plus) (s ∈ both A B') is s is_state e (or_right (a.minus s) (b.plus s) y))
-          (λ x y. and_from (A s) (B' s) (fa s is_state x) (fb s is_state y))
-          (λ x y. not_plus (either a.minus b.plus) (s ∈ both A B') is s is_state e (or_left (a.minus s) (b.plus s) x))
-          (λ x y. not_plus (either a.minus b.plus) (s ∈ both A B') is s is_state e (or_left (a.minus s) (b.plus s) x))
-
-      module _ (is : v.plus ≡ either (both a.plus b.plus) (both a.minus b.minus))
-          (fa : IsInside m a.plus (λ s. s ∈ A)) (fa' : IsInside m a.minus (λ s. s ∈ A')) (fb : IsInside m b.plus (λ s. s ∈ B)) (fb' : IsInside m b.minus (λ s. s ∈ B')) where
-        iff_covers : IsInside m v.plus (λ s. s ∈ either (both A B) (both A' B'))
-        iff_covers s is_state e = elim (or_cases (both a.plus b.plus s) (both a.minus b.minus s) (subst (λ G. s ∈ G) is e)) [
-          | inl x ↦ (let h = and_parts (a.plus s) (b.plus s) x in or_left (both A B s) (both A' B' s) (and_from (A s) (B s) (fa s is_state h.0) (fb s is_state h.1)))
-          | inr y ↦ (let h = and_parts (a.minus s) (b.minus s) y in or_right (both A B s) (both A' B' s) (and_from (A' s) (B' s) (fa' s is_state h.0) (fb' s is_state h.1)))
-        ]
-
-        not_iff_covers : IsInside m v.minus (λ s. s ∈ either (both A B') (both A' B))
-        not_iff_covers s is_state e = by_parts (s ∈ either (both A B') (both A' B)) s is_state e
-            (λ x y. not_plus (either (both a.plus b.plus) (both a.minus b.minus)) (s ∈ either (both A B') (both A' B)) is s is_state e (or_left (both a.plus b.plus s) (both a.minus b.minus s) (and_from (a.plus s) (b.plus s) x y)))
-            (λ x y. or_left (both A B' s) (both A' B s) (and_from (A s) (B' s) (fa s is_state x) (fb' s is_state y)))
-            (λ x y. or_right (both A B' s) (both A' B s) (and_from (A' s) (B s) (fa' s is_state x) (fb s is_state y)))
-            (λ x y. not_plus (either (both a.plus b.plus) (both a.minus b.minus)) (s ∈ either (both A B') (both A' B)) is s is_state e (or_right (both a.plus b.plus s) (both a.minus b.minus s) (and_from (a.minus s) (b.minus s) x y)))
+    iff_covers : v.plus ≡ either (both a.plus b.plus) (both a.minus b.minus) → (sign : Bool) → ((sign : Bool) → Covered f (n + 1) sign) → ((sign : Bool) → Covered g (n + 1 + node_count f) sign)
+        → Covered (Ctl.Iff f g) n sign
+    iff_covers is true fa fb s is_state e = elim (or_cases (both a.plus b.plus s) (both a.minus b.minus s) (subst (λ G. s ∈ G) is e)) [
+      | inl x ↦ (let h = and_parts (a.plus s) (b.plus s) x in or_left (both A B s) (both A' B' s) (and_from (A s) (B s) (fa true s is_state h.0) (fb true s is_state h.1)))
+      | inr y ↦ (let h = and_parts (a.minus s) (b.minus s) y in or_right (both A B s) (both A' B' s) (and_from (A' s) (B' s) (fa false s is_state h.0) (fb false s is_state h.1)))
+    ]
+    iff_covers is false fa fb s is_state e = by_parts (s ∈ either (both A B') (both A' B)) s is_state e
+        (λ x y. not_plus (either (both a.plus b.plus) (both a.minus b.minus)) (s ∈ either (both A B') (both A' B)) is s is_state e (or_left (both a.plus b.plus s) (both a.minus b.minus s) (and_from (a.plus s) (b.plus s) x y)))
+        (λ x y. or_left (both A B' s) (both A' B s) (and_from (A s) (B' s) (fa true s is_state x) (fb false s is_state y)))
+        (λ x y. or_right (both A B' s) (both A' B s) (and_from (A' s) (B s) (fa false s is_state x) (fb true s is_state y)))
+        (λ x y. not_plus (either (both a.plus b.plus) (both a.minus b.minus)) (s ∈ either (both A B') (both A' B)) is s is_state e (or_right (both a.plus b.plus s) (both a.minus b.minus s) (and_from (a.minus s) (b.minus s) x y)))
 
   -- ---- leaves
 
@@ -175,101 +195,49 @@ module _ (m : System) (visited vs avs : List StateSet) (Z fair : StateSet) (nonf
     | inr none ↦ ap not none
   ]
 
-  parts_within : (f g : Ctl) (n : ℕ) (plus minus : Bool) → Within (n + 1) (n + 1 + node_count f + node_count g) (wanted fair at f (n + 1) plus minus ++ wanted fair at g (n + 1 + node_count f) plus minus)
-  parts_within f g n plus minus = within_both (n + 1) (n + 1 + node_count f + node_count g) (wanted fair at f (n + 1) plus minus) (wanted fair at g (n + 1 + node_count f) plus minus)
-      (within_wider (n + 1) (n + 1 + node_count f) (n + 1) (n + 1 + node_count f + node_count g) (wanted fair at f (n + 1) plus minus) (omega arith) (omega arith) (wanted_within fair at f (n + 1) plus minus))
-      (within_wider (n + 1 + node_count f) (n + 1 + node_count f + node_count g) (n + 1) (n + 1 + node_count f + node_count g) (wanted fair at g (n + 1 + node_count f) plus minus) (omega arith) (omega arith) (wanted_within fair at g (n + 1 + node_count f) plus minus))
-
   -- ---- all nodes
 
   pub covers : (f : Ctl) (n : ℕ) (plus minus : Bool) → AreComputed m visited Z fair at f n → AreRuled m visited nonfair fair at f n → Looks f n plus minus
       → (sign : Bool) → wants plus minus sign ≡ true → Covered f n sign
   covers (Ctl.Leaf e) n plus minus c r looks sign w = leaf_covers e n c sign
   covers (Ctl.Not f) n plus minus c r looks true w = λ s is_state e.
-      covers f (n + 1) minus plus c.2 r (λ i sign low high. looks i sign (omega (arith, low)) (omega (arith, high))) false w s is_state (subst (λ G. s ∈ G) c.1.0 e)
+      covers f (n + 1) minus plus c.2 r (inner _ (omega arith) (omega arith) looks) false w s is_state (subst (λ G. s ∈ G) c.1.0 e)
   covers (Ctl.Not f) n plus minus c r looks false w = λ s is_state e.
       let z = c.0.inside s is_state (or_right ((at n).plus s) ((at n).minus s) e) in
       elim ((computed_parted m visited Z fair at f (n + 1) c.2).covers s is_state z) [
-        | inl there ↦ covers f (n + 1) minus plus c.2 r (λ i sign low high. looks i sign (omega (arith, low)) (omega (arith, high))) true w s is_state there
+        | inl there ↦ covers f (n + 1) minus plus c.2 r (inner _ (omega arith) (omega arith) looks) true w s is_state there
         | inr out ↦ absurd (c.0.apart s is_state (subst (λ G. s ∈ G) (sym c.1.0) out) e)
       ]
-  covers (Ctl.And f g) n plus minus c r looks true w =
-      let l : (i : ℕ) (sign : Bool) → n + 1 ≤ i → i < n + 1 + node_count f + node_count g → look i sign ≡ look_up (wanted fair at f (n + 1) plus minus ++ wanted fair at g (n + 1 + node_count f) plus minus) i sign =
-      λ i sign low high. looks i sign (omega (arith, low)) (omega (arith, high)) in
-      let x = n + 1 in
-      let y = n + 1 + node_count f in
-      and_covers (at n) (at x) (at y) c.0 (computed_parted m visited Z fair at f x c.2) (computed_parted m visited Z fair at g y c.3)
-      (claimed m p f x true) (claimed m p f x false) (claimed m p g y true) (claimed m p g y false) c.1.0
-      (covers f x plus minus c.2 r.0 (left_looks f g n plus minus plus minus l) true w) (covers g y plus minus c.3 r.1 (right_looks f g n plus minus plus minus l) true w)
-  covers (Ctl.And f g) n plus minus c r looks false w =
-      let l : (i : ℕ) (sign : Bool) → n + 1 ≤ i → i < n + 1 + node_count f + node_count g → look i sign ≡ look_up (wanted fair at f (n + 1) plus minus ++ wanted fair at g (n + 1 + node_count f) plus minus) i sign =
-      λ i sign low high. looks i sign (omega (arith, low)) (omega (arith, high)) in
-      let x = n + 1 in
-      let y = n + 1 + node_count f in
-      not_and_covers (at n) (at x) (at y) c.0 (computed_parted m visited Z fair at f x c.2) (computed_parted m visited Z fair at g y c.3)
-      (claimed m p f x true) (claimed m p f x false) (claimed m p g y true) (claimed m p g y false) c.1.0
-      (covers f x plus minus c.2 r.0 (left_looks f g n plus minus plus minus l) false w) (covers g y plus minus c.3 r.1 (right_looks f g n plus minus plus minus l) false w)
-  covers (Ctl.Or f g) n plus minus c r looks true w =
-      let l : (i : ℕ) (sign : Bool) → n + 1 ≤ i → i < n + 1 + node_count f + node_count g → look i sign ≡ look_up (wanted fair at f (n + 1) plus minus ++ wanted fair at g (n + 1 + node_count f) plus minus) i sign =
-      λ i sign low high. looks i sign (omega (arith, low)) (omega (arith, high)) in
-      let x = n + 1 in
-      let y = n + 1 + node_count f in
-      or_covers (at n) (at x) (at y) c.0 (computed_parted m visited Z fair at f x c.2) (computed_parted m visited Z fair at g y c.3)
-      (claimed m p f x true) (claimed m p f x false) (claimed m p g y true) (claimed m p g y false) c.1.0
-      (covers f x plus minus c.2 r.0 (left_looks f g n plus minus plus minus l) true w) (covers g y plus minus c.3 r.1 (right_looks f g n plus minus plus minus l) true w)
-  covers (Ctl.Or f g) n plus minus c r looks false w =
-      let l : (i : ℕ) (sign : Bool) → n + 1 ≤ i → i < n + 1 + node_count f + node_count g → look i sign ≡ look_up (wanted fair at f (n + 1) plus minus ++ wanted fair at g (n + 1 + node_count f) plus minus) i sign =
-      λ i sign low high. looks i sign (omega (arith, low)) (omega (arith, high)) in
-      let x = n + 1 in
-      let y = n + 1 + node_count f in
-      not_or_covers (at n) (at x) (at y) c.0 (computed_parted m visited Z fair at f x c.2) (computed_parted m visited Z fair at g y c.3)
-      (claimed m p f x true) (claimed m p f x false) (claimed m p g y true) (claimed m p g y false) c.1.0
-      (covers f x plus minus c.2 r.0 (left_looks f g n plus minus plus minus l) false w) (covers g y plus minus c.3 r.1 (right_looks f g n plus minus plus minus l) false w)
-  covers (Ctl.Implies f g) n plus minus c r looks true w =
-      let l : (i : ℕ) (sign : Bool) → n + 1 ≤ i → i < n + 1 + node_count f + node_count g → look i sign ≡ look_up (wanted fair at f (n + 1) minus plus ++ wanted fair at g (n + 1 + node_count f) plus minus) i sign =
-      λ i sign low high. looks i sign (omega (arith, low)) (omega (arith, high)) in
-      let x = n + 1 in
-      let y = n + 1 + node_count f in
-      implies_covers (at n) (at x) (at y) c.0 (computed_parted m visited Z fair at f x c.2) (computed_parted m visited Z fair at g y c.3)
-      (claimed m p f x true) (claimed m p f x false) (claimed m p g y true) (claimed m p g y false) c.1.0
-      (covers f x minus plus c.2 r.0 (left_looks f g n minus plus plus minus l) false w) (covers g y plus minus c.3 r.1 (right_looks f g n minus plus plus minus l) true w)
-  covers (Ctl.Implies f g) n plus minus c r looks false w =
-      let l : (i : ℕ) (sign : Bool) → n + 1 ≤ i → i < n + 1 + node_count f + node_count g → look i sign ≡ look_up (wanted fair at f (n + 1) minus plus ++ wanted fair at g (n + 1 + node_count f) plus minus) i sign =
-      λ i sign low high. looks i sign (omega (arith, low)) (omega (arith, high)) in
-      let x = n + 1 in
-      let y = n + 1 + node_count f in
-      not_implies_covers (at n) (at x) (at y) c.0 (computed_parted m visited Z fair at f x c.2) (computed_parted m visited Z fair at g y c.3)
-      (claimed m p f x true) (claimed m p f x false) (claimed m p g y true) (claimed m p g y false) c.1.0
-      (covers f x minus plus c.2 r.0 (left_looks f g n minus plus plus minus l) true w) (covers g y plus minus c.3 r.1 (right_looks f g n minus plus plus minus l) false w)
-  covers (Ctl.Iff f g) n plus minus c r looks true w =
-      let l : (i : ℕ) (sign : Bool) → n + 1 ≤ i → i < n + 1 + node_count f + node_count g → look i sign ≡ look_up (wanted fair at f (n + 1) (plus || minus) (plus || minus) ++ wanted fair at g (n + 1 + node_count f) (plus || minus) (plus || minus)) i sign =
-      λ i sign low high. looks i sign (omega (arith, low)) (omega (arith, high)) in
-      let x = n + 1 in
-      let y = n + 1 + node_count f in
-      iff_covers (at n) (at x) (at y) c.0 (computed_parted m visited Z fair at f x c.2) (computed_parted m visited Z fair at g y c.3)
-      (claimed m p f x true) (claimed m p f x false) (claimed m p g y true) (claimed m p g y false) c.1.0
-      (covers f x (plus || minus) (plus || minus) c.2 r.0 (left_looks f g n (plus || minus) (plus || minus) (plus || minus) (plus || minus) l) true (both_wanted (plus || minus) true (any_wanted plus minus true w))) (covers f x (plus || minus) (plus || minus) c.2 r.0 (left_looks f g n (plus || minus) (plus || minus) (plus || minus) (plus || minus) l) false (both_wanted (plus || minus) false (any_wanted plus minus true w))) (covers g y (plus || minus) (plus || minus) c.3 r.1 (right_looks f g n (plus || minus) (plus || minus) (plus || minus) (plus || minus) l) true (both_wanted (plus || minus) true (any_wanted plus minus true w))) (covers g y (plus || minus) (plus || minus) c.3 r.1 (right_looks f g n (plus || minus) (plus || minus) (plus || minus) (plus || minus) l) false (both_wanted (plus || minus) false (any_wanted plus minus true w)))
-  covers (Ctl.Iff f g) n plus minus c r looks false w =
-      let l : (i : ℕ) (sign : Bool) → n + 1 ≤ i → i < n + 1 + node_count f + node_count g → look i sign ≡ look_up (wanted fair at f (n + 1) (plus || minus) (plus || minus) ++ wanted fair at g (n + 1 + node_count f) (plus || minus) (plus || minus)) i sign =
-      λ i sign low high. looks i sign (omega (arith, low)) (omega (arith, high)) in
-      let x = n + 1 in
-      let y = n + 1 + node_count f in
-      not_iff_covers (at n) (at x) (at y) c.0 (computed_parted m visited Z fair at f x c.2) (computed_parted m visited Z fair at g y c.3)
-      (claimed m p f x true) (claimed m p f x false) (claimed m p g y true) (claimed m p g y false) c.1.0
-      (covers f x (plus || minus) (plus || minus) c.2 r.0 (left_looks f g n (plus || minus) (plus || minus) (plus || minus) (plus || minus) l) true (both_wanted (plus || minus) true (any_wanted plus minus false w))) (covers f x (plus || minus) (plus || minus) c.2 r.0 (left_looks f g n (plus || minus) (plus || minus) (plus || minus) (plus || minus) l) false (both_wanted (plus || minus) false (any_wanted plus minus false w))) (covers g y (plus || minus) (plus || minus) c.3 r.1 (right_looks f g n (plus || minus) (plus || minus) (plus || minus) (plus || minus) l) true (both_wanted (plus || minus) true (any_wanted plus minus false w))) (covers g y (plus || minus) (plus || minus) c.3 r.1 (right_looks f g n (plus || minus) (plus || minus) (plus || minus) (plus || minus) l) false (both_wanted (plus || minus) false (any_wanted plus minus false w)))
+  covers (Ctl.And f g) n plus minus c r looks sign w =
+      let l = inner _ (omega arith) (omega arith) looks in
+      and_covers f g n c.0 c.2 c.3 c.1.0 sign (covers f (n + 1) plus minus c.2 r.0 (left_looks f g n plus minus plus minus l) sign w)
+      (covers g (n + 1 + node_count f) plus minus c.3 r.1 (right_looks f g n plus minus plus minus l) sign w)
+  covers (Ctl.Or f g) n plus minus c r looks sign w =
+      let l = inner _ (omega arith) (omega arith) looks in
+      or_covers f g n c.0 c.2 c.3 c.1.0 sign (covers f (n + 1) plus minus c.2 r.0 (left_looks f g n plus minus plus minus l) sign w)
+      (covers g (n + 1 + node_count f) plus minus c.3 r.1 (right_looks f g n plus minus plus minus l) sign w)
+  covers (Ctl.Implies f g) n plus minus c r looks sign w =
+      let l = inner _ (omega arith) (omega arith) looks in
+      implies_covers f g n c.0 c.2 c.3 c.1.0 sign (covers f (n + 1) minus plus c.2 r.0 (left_looks f g n minus plus plus minus l) (not sign) (other_wanted plus minus sign w))
+      (covers g (n + 1 + node_count f) plus minus c.3 r.1 (right_looks f g n minus plus plus minus l) sign w)
+  covers (Ctl.Iff f g) n plus minus c r looks sign w =
+      let e = plus || minus in
+      let l = inner _ (omega arith) (omega arith) looks in
+      let any = any_wanted plus minus sign w in
+      iff_covers f g n c.0 c.2 c.3 c.1.0 sign (λ b. covers f (n + 1) e e c.2 r.0 (left_looks f g n e e e e l) b (both_wanted e b any))
+      (λ b. covers g (n + 1 + node_count f) e e c.3 r.1 (right_looks f g n e e e e l) b (both_wanted e b any))
   covers (Ctl.Quant op f) n plus minus c r looks sign w =
       let es = wanted fair at f (n + 1) plus minus in
       let rest = rest_looks n (n + node_count (Ctl.Quant op f)) (is_existential op) plus minus es looks in
       temporal_covers n (n + node_count (Ctl.Quant op f)) (is_existential op) plus minus sign es (rule_of op sign)
       (absent_argument (rule_of op sign)) (sign_set sign (at (n + 1))) (absent_argument (rule_of op sign)) (claimed m p f (n + 1) sign)
       (looks n sign (omega arith) (omega arith)) (quant_fits m visited Z fair op (at (n + 1)) (at n) sign c.1) (r.0 sign) w (λ s is_state e. e)
-      (covers f (n + 1) plus minus c.2 r.1 (λ i sign low high. rest i sign low (omega (arith, high))) sign w)
+      (covers f (n + 1) plus minus c.2 r.1 (inner _ (omega arith) (omega arith) rest) sign w)
   covers (Ctl.Until all f g) n plus minus c r looks sign w =
       let x = n + 1 in
       let y = n + 1 + node_count f in
       let es = wanted fair at f x plus minus ++ wanted fair at g y plus minus in
-      let l : (i : ℕ) (sign : Bool) → n + 1 ≤ i → i < n + 1 + node_count f + node_count g → look i sign ≡ look_up (wanted fair at f (n + 1) plus minus ++ wanted fair at g (n + 1 + node_count f) plus minus) i sign =
-      λ i sign low high. rest_looks n (n + node_count (Ctl.Until all f g)) (not all) plus minus es looks i sign low (omega (arith, high)) in
+      let l : LooksIn x (y + node_count g) es = inner es (omega arith) (omega arith) (rest_looks n (n + node_count (Ctl.Until all f g)) (not all) plus minus es looks) in
       temporal_covers n (n + node_count (Ctl.Until all f g)) (not all) plus minus sign es (until_rule all sign)
       (sign_set sign (at x)) (sign_set sign (at y)) (claimed m p f x sign) (claimed m p g y sign)
       (looks n sign (omega arith) (omega arith)) (until_fits m visited fair all (at x) (at y) (at n) sign c.1) (r.0 sign) w
@@ -278,45 +246,41 @@ module _ (m : System) (visited vs avs : List StateSet) (Z fair : StateSet) (nonf
   -- each entry meets its rule
   pub meets : (f : Ctl) (n : ℕ) (plus minus : Bool) → AreComputed m visited Z fair at f n → AreRuled m visited nonfair fair at f n → Looks f n plus minus → AreMet m vs avs p f n
   meets (Ctl.Leaf e) n plus minus c r looks = tt
-  meets (Ctl.Not f) n plus minus c r looks = meets f (n + 1) minus plus c.2 r (λ i sign low high. looks i sign (omega (arith, low)) (omega (arith, high)))
+  meets (Ctl.Not f) n plus minus c r looks = meets f (n + 1) minus plus c.2 r (inner _ (omega arith) (omega arith) looks)
   meets (Ctl.And f g) n plus minus c r looks =
-      let l : (i : ℕ) (sign : Bool) → n + 1 ≤ i → i < n + 1 + node_count f + node_count g → look i sign ≡ look_up (wanted fair at f (n + 1) plus minus ++ wanted fair at g (n + 1 + node_count f) plus minus) i sign =
-      λ i sign low high. looks i sign (omega (arith, low)) (omega (arith, high)) in
+      let l = inner _ (omega arith) (omega arith) looks in
       (meets f (n + 1) plus minus c.2 r.0 (left_looks f g n plus minus plus minus l), meets g (n + 1 + node_count f) plus minus c.3 r.1 (right_looks f g n plus minus plus minus l))
   meets (Ctl.Or f g) n plus minus c r looks =
-      let l : (i : ℕ) (sign : Bool) → n + 1 ≤ i → i < n + 1 + node_count f + node_count g → look i sign ≡ look_up (wanted fair at f (n + 1) plus minus ++ wanted fair at g (n + 1 + node_count f) plus minus) i sign =
-      λ i sign low high. looks i sign (omega (arith, low)) (omega (arith, high)) in
+      let l = inner _ (omega arith) (omega arith) looks in
       (meets f (n + 1) plus minus c.2 r.0 (left_looks f g n plus minus plus minus l), meets g (n + 1 + node_count f) plus minus c.3 r.1 (right_looks f g n plus minus plus minus l))
   meets (Ctl.Implies f g) n plus minus c r looks =
-      let l : (i : ℕ) (sign : Bool) → n + 1 ≤ i → i < n + 1 + node_count f + node_count g → look i sign ≡ look_up (wanted fair at f (n + 1) minus plus ++ wanted fair at g (n + 1 + node_count f) plus minus) i sign =
-      λ i sign low high. looks i sign (omega (arith, low)) (omega (arith, high)) in
+      let l = inner _ (omega arith) (omega arith) looks in
       (meets f (n + 1) minus plus c.2 r.0 (left_looks f g n minus plus plus minus l), meets g (n + 1 + node_count f) plus minus c.3 r.1 (right_looks f g n minus plus plus minus l))
   meets (Ctl.Iff f g) n plus minus c r looks =
-      let l : (i : ℕ) (sign : Bool) → n + 1 ≤ i → i < n + 1 + node_count f + node_count g → look i sign ≡ look_up (wanted fair at f (n + 1) (plus || minus) (plus || minus) ++ wanted fair at g (n + 1 + node_count f) (plus || minus) (plus || minus)) i sign =
-      λ i sign low high. looks i sign (omega (arith, low)) (omega (arith, high)) in
-      (meets f (n + 1) (plus || minus) (plus || minus) c.2 r.0 (left_looks f g n (plus || minus) (plus || minus) (plus || minus) (plus || minus) l), meets g (n + 1 + node_count f) (plus || minus) (plus || minus) c.3 r.1 (right_looks f g n (plus || minus) (plus || minus) (plus || minus) (plus || minus) l))
+      let e = plus || minus in
+      let l = inner _ (omega arith) (omega arith) looks in
+      (meets f (n + 1) e e c.2 r.0 (left_looks f g n e e e e l), meets g (n + 1 + node_count f) e e c.3 r.1 (right_looks f g n e e e e l))
   meets (Ctl.Quant op f) n plus minus c r looks =
       let es = wanted fair at f (n + 1) plus minus in
       let rest = rest_looks n (n + node_count (Ctl.Quant op f)) (is_existential op) plus minus es looks in
-      let inner : Looks f (n + 1) plus minus = λ i sign low high. rest i sign low (omega (arith, high)) in (
+      let part : Looks f (n + 1) plus minus = inner _ (omega arith) (omega arith) rest in (
         λ sign. temporal_meets n (n + 1 + node_count f) (is_existential op) plus minus sign es (rule_of op sign)
             (absent_argument (rule_of op sign)) (sign_set sign (at (n + 1))) (absent_argument (rule_of op sign)) (claimed m p f (n + 1) sign)
             (looks n sign (omega arith) (omega arith)) (quant_fits m visited Z fair op (at (n + 1)) (at n) sign c.1) (r.0 sign)
-            (wanted_within fair at f (n + 1) plus minus) (λ w s is_state e. e) (covers f (n + 1) plus minus c.2 r.1 inner sign),
-        meets f (n + 1) plus minus c.2 r.1 inner,
+            (wanted_within fair at f (n + 1) plus minus) (λ w s is_state e. e) (covers f (n + 1) plus minus c.2 r.1 part sign),
+        meets f (n + 1) plus minus c.2 r.1 part,
       )
   meets (Ctl.Until all f g) n plus minus c r looks =
       let x = n + 1 in
       let y = n + 1 + node_count f in
       let es = wanted fair at f x plus minus ++ wanted fair at g y plus minus in
-      let l : (i : ℕ) (sign : Bool) → n + 1 ≤ i → i < n + 1 + node_count f + node_count g → look i sign ≡ look_up (wanted fair at f (n + 1) plus minus ++ wanted fair at g (n + 1 + node_count f) plus minus) i sign =
-      λ i sign low high. rest_looks n (n + node_count (Ctl.Until all f g)) (not all) plus minus es looks i sign low (omega (arith, high)) in
+      let l : LooksIn x (y + node_count g) es = inner es (omega arith) (omega arith) (rest_looks n (n + node_count (Ctl.Until all f g)) (not all) plus minus es looks) in
       let lf : Looks f (n + 1) plus minus = left_looks f g n plus minus plus minus l in
       let lg : Looks g (n + 1 + node_count f) plus minus = right_looks f g n plus minus plus minus l in (
         λ sign. temporal_meets n (n + 1 + node_count f + node_count g) (not all) plus minus sign es (until_rule all sign)
             (sign_set sign (at x)) (sign_set sign (at y)) (claimed m p f x sign) (claimed m p g y sign)
             (looks n sign (omega arith) (omega arith)) (until_fits m visited fair all (at x) (at y) (at n) sign c.1) (r.0 sign)
-            (parts_within f g n plus minus) (covers f x plus minus c.2 r.1 lf sign) (covers g y plus minus c.3 r.2 lg sign),
+            (parts_within fair at f g n plus minus) (covers f x plus minus c.2 r.1 lf sign) (covers g y plus minus c.3 r.2 lg sign),
         meets f x plus minus c.2 r.1 lf,
         meets g y plus minus c.3 r.2 lg,
       )

@@ -21,7 +21,8 @@ use Rattle.proof_form.specs.declared.form.Rule.{Rule as Given}
 use Rattle.proof_form.specs.Form.{Rule, Entry}
 use Rattle.proof_form.specs.Seen.{seen_rule}
 use Rattle.rank_extract.specs.Given.{given, entry_at}
-use Rattle.rank_extract.specs.Made.{IsMade, AreAdded, rule_own, rule_seen, rule_size, entry_own, entry_seen, entry_size}
+use Rattle.rank_extract.specs.Added.{AddsEntries}
+use Rattle.rank_extract.specs.Made.{IsMade, rule_own, rule_seen, rule_size}
 use Rattle.rank_extract.specs.Signs.{sign_pin, sign_entry}
 use Rattle.rank_extract.proofs.Adding.{one_added, one_refused, one_released}
 use Rattle.rank_extract.proofs.Holders.{entry_kind}
@@ -55,15 +56,15 @@ entry_by n plus v = record { node = n; plus = plus; rule = v }
 
 module _ {a b : Sets} (n : ℕ) (plus : Bool) (v : Rule StateSet) where
   pub entry_added : {T : Type 0} (rule : Given Pin) (old new : List (Entry Pin)) (y : T) → IsMade rule_own rule_seen rule_size a b v (Ok rule) → new ≡ old ++ (record { node = n; plus = plus; rule = seen_rule rule } ∷ [])
-      → AreAdded entry_own entry_seen entry_size a b (entry_by n plus v ∷ []) old new (Ok y)
+      → AddsEntries a b (entry_by n plus v ∷ []) old new (Ok y)
   entry_added rule old new y made pushed =
       one_added entry_kind (record { node = n; plus = plus; rule = seen_rule rule }) old new y made.call (ap (λ (r : Rule StateSet). record { node = n; plus = plus; rule = r }) made.view) pushed
 
-  pub entry_refused : {T : Type 0} {e : SetRefusal} (old : List (Entry Pin)) → IsMade {X = Given Pin} rule_own rule_seen rule_size a b v (Err e) → AreAdded {T = T} entry_own entry_seen entry_size a b (entry_by n plus v ∷ []) old old (Err e)
+  pub entry_refused : {T : Type 0} {e : SetRefusal} (old : List (Entry Pin)) → IsMade {X = Given Pin} rule_own rule_seen rule_size a b v (Err e) → AddsEntries {T = T} a b (entry_by n plus v ∷ []) old old (Err e)
   entry_refused {T} {e} old made = one_refused entry_kind {T = T} {v = entry_by n plus v} e old made.call
 
   pub entry_released : {T : Type 0} {c : Sets} (rule : Given Pin) (old new : List (Entry Pin)) → IsMade rule_own rule_seen rule_size a b v (Ok rule) → Adds c b (rule_own rule) → c.fulls ≡ b.fulls → new ≡ old
-      → AreAdded {T = T} entry_own entry_seen entry_size a c (entry_by n plus v ∷ []) old new (Err Memory)
+      → AddsEntries {T = T} a c (entry_by n plus v ∷ []) old new (Err Memory)
   entry_released {T} {c} rule old new made back fulls same =
       one_released entry_kind {T = T} {v = entry_by n plus v} (record { node = n; plus = plus; rule = seen_rule rule }) old new made.call back fulls same
 
@@ -78,17 +79,17 @@ module _ {a b : Sets} (fair : Pin) (node : NodeRun) (n : ℕ) (some plus there :
 
   pub sign_added : {T : Type 0} (rule : Given Pin) (old new : List (Entry Pin)) (y : T)
       → IsMade rule_own rule_seen rule_size a b (given (region a fair) there (region a (sign_pin plus node)) (ranks_view a node.ranks)) (Ok rule)
-      → new ≡ old ++ (record { node = n; plus = plus; rule = seen_rule rule } ∷ []) → AreAdded entry_own entry_seen entry_size a b (sign_entry a fair node n some plus ∷ []) old new (Ok y)
+      → new ≡ old ++ (record { node = n; plus = plus; rule = seen_rule rule } ∷ []) → AddsEntries a b (sign_entry a fair node n some plus ∷ []) old new (Ok y)
   sign_added rule old new y made pushed = entry_added n plus (sign_rule a fair node plus (same_sign some plus)) rule old new y (by_sign (Ok rule) made) pushed
 
   pub sign_refused : {T : Type 0} {e : SetRefusal} (old : List (Entry Pin))
       → IsMade {X = Given Pin} rule_own rule_seen rule_size a b (given (region a fair) there (region a (sign_pin plus node)) (ranks_view a node.ranks)) (Err e)
-      → AreAdded {T = T} entry_own entry_seen entry_size a b (sign_entry a fair node n some plus ∷ []) old old (Err e)
+      → AddsEntries {T = T} a b (sign_entry a fair node n some plus ∷ []) old old (Err e)
   sign_refused {T} {e} old made = entry_refused n plus (sign_rule a fair node plus (same_sign some plus)) {T = T} old (by_sign (Err e) made)
 
   pub sign_released : {T : Type 0} {c : Sets} (rule : Given Pin) (old new : List (Entry Pin))
       → IsMade rule_own rule_seen rule_size a b (given (region a fair) there (region a (sign_pin plus node)) (ranks_view a node.ranks)) (Ok rule)
-      → Adds c b (rule_own rule) → c.fulls ≡ b.fulls → new ≡ old → AreAdded {T = T} entry_own entry_seen entry_size a c (sign_entry a fair node n some plus ∷ []) old new (Err Memory)
+      → Adds c b (rule_own rule) → c.fulls ≡ b.fulls → new ≡ old → AddsEntries {T = T} a c (sign_entry a fair node n some plus ∷ []) old new (Err Memory)
   sign_released {T} {c} rule old new made back fulls same = entry_released n plus (sign_rule a fair node plus (same_sign some plus)) {T = T} rule old new (by_sign (Ok rule) made) back fulls same
 
 -- the entry of a node's sign where it is one of a list

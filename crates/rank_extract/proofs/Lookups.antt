@@ -87,6 +87,12 @@ module _ (fair : StateSet) (at : ℕ → NodeView) where
       (within_wider n (n + 1) n (n + (1 + node_count f + node_count g)) (own_entries fair at n (not all) plus minus) (omega arith) (omega arith) (own_within n (not all) plus minus))
       (two_within n (node_count f) (node_count g) (wanted fair at f (n + 1) plus minus) (wanted fair at g (n + 1 + node_count f) plus minus) (wanted_within f (n + 1) plus minus) (wanted_within g (n + 1 + node_count f) plus minus))
 
+  -- the entries of two parts behind the node
+  pub parts_within : (f g : Ctl) (n : ℕ) (plus minus : Bool) → Within (n + 1) (n + 1 + node_count f + node_count g) (wanted fair at f (n + 1) plus minus ++ wanted fair at g (n + 1 + node_count f) plus minus)
+  parts_within f g n plus minus = within_both (n + 1) (n + 1 + node_count f + node_count g) (wanted fair at f (n + 1) plus minus) (wanted fair at g (n + 1 + node_count f) plus minus)
+      (within_wider (n + 1) (n + 1 + node_count f) (n + 1) (n + 1 + node_count f + node_count g) (wanted fair at f (n + 1) plus minus) (omega arith) (omega arith) (wanted_within f (n + 1) plus minus))
+      (within_wider (n + 1 + node_count f) (n + 1 + node_count f + node_count g) (n + 1) (n + 1 + node_count f + node_count g) (wanted fair at g (n + 1 + node_count f) plus minus) (omega arith) (omega arith) (wanted_within g (n + 1 + node_count f) plus minus))
+
   -- ---- a node's own entry
 
   here : (n : ℕ) (some sign : Bool) (es : List (Entry StateSet)) → look_up (entry_at fair at n some sign ∷ es) n sign ≡ entry_of (entry_at fair at n some sign).rule

@@ -1,5 +1,5 @@
 -- The entries that are wanted are in shape.
-use Rattle.std.proofs.Common.{◌≡◌, inl, inr, ℕ, ◌+◌, ◌<◌, ◌≤◌, Bool, true, false, not, ◌||◌, List, [], ◌∷◌, ◌++◌, length, Option, Some, refl, sym, ◌∙◌, ap, arith, All, AllPairs}
+use Rattle.std.proofs.Common.{◌≡◌, inl, inr, ℕ, ◌+◌, ◌<◌, Bool, true, false, not, ◌||◌, List, [], ◌∷◌, ◌++◌, length, Some, refl, sym, ◌∙◌, ap, arith, All, AllPairs}
 use Rattle.std.specs.Option.{option_and_then}
 use Rattle.std.proofs.lemmas.List.Elements.{All-nil, All-cons}
 use Rattle.std.proofs.lemmas.List.Kept.{AllPairs-cons}
@@ -16,7 +16,7 @@ use Rattle.fair_fixpoint.specs.Formulas.{is_existential}
 use Rattle.proof_form.specs.Form.{Entry}
 use Rattle.proof_form.specs.Shape.{rule_for, HasRule, ComesBefore, FitsConstraints}
 use Rattle.rank_extract.specs.Given.{entry_at, own_entries, wanted}
-use Rattle.rank_extract.proofs.Lookups.{Within, within_both, within_wider, own_within, wanted_within}
+use Rattle.rank_extract.proofs.Lookups.{Within, own_within, parts_within, wanted_within}
 use Rattle.rank_extract.proofs.NodeEntries.{FitsRule, given_kind, given_fits, quant_fits, until_fits}
 
 -- ---- what each entry of a list has
@@ -81,13 +81,8 @@ module _ (fair : StateSet) (at : ℕ → NodeView) where
       (own_within fair at n (is_existential op) plus minus) (wanted_within fair at f (n + 1) plus minus) (own_rising n (is_existential op) plus minus) (wanted_rising f (n + 1) plus minus)
   wanted_rising (Ctl.Until all f g) n plus minus =
       rising_both n (n + 1) (n + 1 + node_count f + node_count g) (own_entries fair at n (not all) plus minus) (wanted fair at f (n + 1) plus minus ++ wanted fair at g (n + 1 + node_count f) plus minus)
-      (own_within fair at n (not all) plus minus) (parts_within f g n plus minus) (own_rising n (not all) plus minus)
+      (own_within fair at n (not all) plus minus) (parts_within fair at f g n plus minus) (own_rising n (not all) plus minus)
       (parts_rising f g n plus minus plus minus (wanted_rising f (n + 1) plus minus) (wanted_rising g (n + 1 + node_count f) plus minus))
-    where
-      parts_within : (f g : Ctl) (n : ℕ) (plus minus : Bool) → Within (n + 1) (n + 1 + node_count f + node_count g) (wanted fair at f (n + 1) plus minus ++ wanted fair at g (n + 1 + node_count f) plus minus)
-      parts_within f g n plus minus = within_both (n + 1) (n + 1 + node_count f + node_count g) (wanted fair at f (n + 1) plus minus) (wanted fair at g (n + 1 + node_count f) plus minus)
-          (within_wider (n + 1) (n + 1 + node_count f) (n + 1) (n + 1 + node_count f + node_count g) (wanted fair at f (n + 1) plus minus) (omega arith) (omega arith) (wanted_within fair at f (n + 1) plus minus))
-          (within_wider (n + 1 + node_count f) (n + 1 + node_count f + node_count g) (n + 1) (n + 1 + node_count f + node_count g) (wanted fair at g (n + 1 + node_count f) plus minus) (omega arith) (omega arith) (wanted_within fair at g (n + 1 + node_count f) plus minus))
 
   -- ---- their rules
 

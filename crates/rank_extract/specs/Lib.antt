@@ -6,3 +6,4 @@ pub mod Laws
 pub mod FreeMade
 pub mod Parts
 pub mod FreeTop
+pub mod Added

@@ -21,43 +21,28 @@ kind_entries fair at n (Quantified op) plus minus
     = own_entries fair at n (is_existential op) plus minus
 kind_entries fair at n (Between all) plus minus = own_entries fair at n (not all) plus minus
 
--- the signs that are wanted of the first part, by those that are wanted of the node
+-- the signs that are wanted of the first part, by those that are wanted of the node: most have the
+-- same
 abbrev pub first_plus : Kind → Bool → Bool → Bool
 first_plus (Connected Connective.Not) plus minus = minus
-first_plus (Connected Connective.And) plus minus = plus
-first_plus (Connected Connective.Or) plus minus = plus
 first_plus (Connected Connective.Implies) plus minus = minus
 first_plus (Connected Connective.Iff) plus minus = plus || minus
-first_plus (Quantified op) plus minus = plus
-first_plus (Between all) plus minus = plus
+first_plus kind plus minus = plus
 
 abbrev pub first_minus : Kind → Bool → Bool → Bool
 first_minus (Connected Connective.Not) plus minus = plus
-first_minus (Connected Connective.And) plus minus = minus
-first_minus (Connected Connective.Or) plus minus = minus
 first_minus (Connected Connective.Implies) plus minus = plus
 first_minus (Connected Connective.Iff) plus minus = plus || minus
-first_minus (Quantified op) plus minus = minus
-first_minus (Between all) plus minus = minus
+first_minus kind plus minus = minus
 
 -- and of the last one
 abbrev pub last_plus : Kind → Bool → Bool → Bool
-last_plus (Connected Connective.Not) plus minus = plus
-last_plus (Connected Connective.And) plus minus = plus
-last_plus (Connected Connective.Or) plus minus = plus
-last_plus (Connected Connective.Implies) plus minus = plus
 last_plus (Connected Connective.Iff) plus minus = plus || minus
-last_plus (Quantified op) plus minus = plus
-last_plus (Between all) plus minus = plus
+last_plus kind plus minus = plus
 
 abbrev pub last_minus : Kind → Bool → Bool → Bool
-last_minus (Connected Connective.Not) plus minus = minus
-last_minus (Connected Connective.And) plus minus = minus
-last_minus (Connected Connective.Or) plus minus = minus
-last_minus (Connected Connective.Implies) plus minus = minus
 last_minus (Connected Connective.Iff) plus minus = plus || minus
-last_minus (Quantified op) plus minus = minus
-last_minus (Between all) plus minus = minus
+last_minus kind plus minus = minus
 
 -- ---- the pin of a sign
 

@@ -8,8 +8,9 @@ ghost use Rattle.region_sets.specs.Ranks.{AreLive};
 ghost use Rattle.fair_rules.specs.Block.{same_sign};
 ghost use Rattle.fair_fixpoint.specs.Runs.{node_slots, nodes_slots};
 ghost use Rattle.fair_fixpoint.specs.SatSets.{node_of};
-ghost use Rattle.rank_extract.specs.Given.{entry_at, own_entries, wanted};
-ghost use Rattle.rank_extract.specs.Made.{AreAdded, IsMade, entries_own, entries_seen, entry_own, entry_seen, entry_size, total};
+ghost use Rattle.rank_extract.specs.Added.{AddsEntries, wanted_of};
+ghost use Rattle.rank_extract.specs.Given.{entry_at, own_entries};
+ghost use Rattle.rank_extract.specs.Made.{IsMade, entries_own, entries_seen, entry_size, total};
 ghost use Rattle.rank_extract.specs.Signs.{first_minus, first_plus, kind_entries, last_minus, last_plus, sign_entry};
 
 use crate::rules::node_rule;
@@ -107,9 +108,8 @@ fn add_entry<S: StateSets>(
 ) -> Result<(), SetRefusal>
     requires fair { IsLive (S.seen sets.old) fair.now.slot }
     requires node { AreLive (S.seen sets.old) (node_slots node.now) }
-    ensures { AreAdded entry_own entry_seen entry_size (S.seen sets.old) (S.seen sets.new)
-        (sign_entry (S.seen sets.old) fair.now node.now number some plus ∷ []) entries.old.items
-        entries.new.items result }
+    ensures { AddsEntries (S.seen sets.old) (S.seen sets.new) (sign_entry (S.seen sets.old) fair.now
+        node.now number some plus ∷ []) entries.old.items entries.new.items result }
 {
     let rule = node_rule(alloc, sets, fair, node, is_some_there(some, plus), plus)?;
     match entries.push(Entry {
@@ -142,10 +142,9 @@ fn add_if<S: StateSets>(
     requires nodes { AreLive (S.seen sets.old) (nodes_slots nodes.now) }
     requires first { 1 ≤ number }
     requires there { number ≤ length nodes.now }
-    ensures { AreAdded entry_own entry_seen entry_size (S.seen sets.old) (S.seen sets.new)
-        (if wanted then entry_at (region (S.seen sets.old) fair.now)
-        (node_of (S.seen sets.old) nodes.now) number some plus ∷ [] else []) entries.old.items
-        entries.new.items result }
+    ensures { AddsEntries (S.seen sets.old) (S.seen sets.new) (if wanted then entry_at
+        (region (S.seen sets.old) fair.now) (node_of (S.seen sets.old) nodes.now) number some plus
+        ∷ [] else []) entries.old.items entries.new.items result }
 {
     if wanted {
         let node = &nodes[number as usize - 1];
@@ -170,9 +169,9 @@ fn add_own<S: StateSets>(
     requires nodes { AreLive (S.seen sets.old) (nodes_slots nodes.now) }
     requires first { 1 ≤ number }
     requires there { number ≤ length nodes.now }
-    ensures { AreAdded entry_own entry_seen entry_size (S.seen sets.old) (S.seen sets.new)
-        (own_entries (region (S.seen sets.old) fair.now) (node_of (S.seen sets.old) nodes.now)
-        number some signs.plus signs.minus) entries.old.items entries.new.items result }
+    ensures { AddsEntries (S.seen sets.old) (S.seen sets.new) (own_entries
+        (region (S.seen sets.old) fair.now) (node_of (S.seen sets.old) nodes.now) number some
+        signs.plus signs.minus) entries.old.items entries.new.items result }
 {
     add_if(
         alloc, sets, fair, nodes, number, some, true, signs.plus, entries,
@@ -205,9 +204,9 @@ fn add_node<S: StateSets>(
     requires nodes { AreLive (S.seen sets.old) (nodes_slots nodes.now) }
     requires first { 1 ≤ number }
     requires there { number ≤ length nodes.now }
-    ensures { AreAdded entry_own entry_seen entry_size (S.seen sets.old) (S.seen sets.new)
-        (kind_entries (region (S.seen sets.old) fair.now) (node_of (S.seen sets.old) nodes.now)
-        number kind signs.plus signs.minus) entries.old.items entries.new.items result }
+    ensures { AddsEntries (S.seen sets.old) (S.seen sets.new) (kind_entries
+        (region (S.seen sets.old) fair.now) (node_of (S.seen sets.old) nodes.now) number kind
+        signs.plus signs.minus) entries.old.items entries.new.items result }
 {
     match kind {
         Kind::Connected(_) => Ok(()),
@@ -235,10 +234,9 @@ fn add_from<S: StateSets>(
     requires first { 1 ≤ number }
     requires there { number + node_count (ctl_of formula.now) ≤ length nodes.now + 1 }
     requires few { length nodes.now < 4294967295 }
-    ensures added { AreAdded entry_own entry_seen entry_size (S.seen sets.old) (S.seen sets.new)
-        (wanted (region (S.seen sets.old) fair.now) (node_of (S.seen sets.old) nodes.now)
-        (ctl_of formula.now) number signs.plus signs.minus) entries.old.items entries.new.items
-        result }
+    ensures added { AddsEntries (S.seen sets.old) (S.seen sets.new) (wanted_of (S.seen sets.old)
+        fair.now nodes.now (ctl_of formula.now) number signs.plus signs.minus) entries.old.items
+        entries.new.items result }
     ensures next { IfOk result (λ next. next ≡ number + node_count (ctl_of formula.now)) }
 {
     match shape_of(formula) {
@@ -274,9 +272,8 @@ pub fn add_entries<S: StateSets>(
     requires nodes { AreLive (S.seen sets.old) (nodes_slots nodes.now) }
     requires count { length nodes.now ≡ node_count (ctl_of formula.now) }
     requires few { length nodes.now < 4294967295 }
-    ensures { AreAdded entry_own entry_seen entry_size (S.seen sets.old) (S.seen sets.new)
-        (wanted (region (S.seen sets.old) fair.now) (node_of (S.seen sets.old) nodes.now)
-        (ctl_of formula.now) 1 plus minus) entries.old.items entries.new.items result }
+    ensures { AddsEntries (S.seen sets.old) (S.seen sets.new) (wanted_of (S.seen sets.old) fair.now
+        nodes.now (ctl_of formula.now) 1 plus minus) entries.old.items entries.new.items result }
 {
     match add_from(
         alloc,
@@ -308,8 +305,7 @@ pub fn all_entries<S: StateSets>(
     requires count { length nodes.now ≡ node_count (ctl_of formula.now) }
     requires few { length nodes.now < 4294967295 }
     ensures { IsMade entries_own entries_seen (total entry_size) (S.seen sets.old) (S.seen sets.new)
-        (wanted (region (S.seen sets.old) fair.now) (node_of (S.seen sets.old) nodes.now)
-        (ctl_of formula.now) 1 plus minus) result }
+        (wanted_of (S.seen sets.old) fair.now nodes.now (ctl_of formula.now) 1 plus minus) result }
 {
     let mut entries = Vec::new(alloc);
     match add_entries(alloc, sets, fair, nodes, formula, plus, minus, &mut entries) {
