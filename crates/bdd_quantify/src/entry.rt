@@ -41,6 +41,7 @@ pub(crate) fn remembered(engine: &mut Engine, f: Ref, g: Ref, place: Option<u32>
 }
 
 /// Remembers a diagram, unless its list found no place or the entry finds no memory.
+#[inline(always)]
 pub(crate) fn remember(engine: &mut Engine, f: Ref, g: Ref, place: Option<u32>, answer: Ref)
     requires { IfSome place (IsEntry (store_of engine.old) (lists_of engine.old) f g answer) }
     ensures store { store_of engine.new ≡ store_of engine.old }

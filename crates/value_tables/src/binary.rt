@@ -208,6 +208,7 @@ fn outcome_of<L: Ledger>(
 }
 
 /// The table of an operator on two tables.
+#[inline(never)]
 pub(crate) fn binary_of<L: Ledger>(
     alloc: Global,
     engine: &mut Engine,

@@ -29,6 +29,7 @@ use std::alloc::Global;
 use std::sync::ledger::Ledger;
 
 /// The table of one reading, everywhere.
+#[inline(never)]
 pub(crate) fn everywhere(
     alloc: Global,
     engine: &Engine,

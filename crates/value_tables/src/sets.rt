@@ -22,6 +22,7 @@ use std::alloc::Global;
 use std::sync::ledger::Ledger;
 
 /// The values of both operands.
+#[inline(never)]
 pub(crate) fn united<L: Ledger>(
     alloc: Global,
     engine: &mut Engine,
@@ -50,6 +51,7 @@ pub(crate) fn united<L: Ledger>(
 }
 
 /// `!` on an operand that is to be 0 or 1.
+#[inline(never)]
 pub(crate) fn negated<L: Ledger>(
     alloc: Global,
     engine: &mut Engine,
@@ -122,6 +124,7 @@ fn choose<L: Ledger>(
 }
 
 /// The same for a guard that is to be 0 or 1.
+#[inline(never)]
 pub(crate) fn add_arm<L: Ledger>(
     alloc: Global,
     engine: &mut Engine,
