@@ -1,10 +1,10 @@
 //! The table of an expression, by recursion.
 
-ghost use Rattle.std.specs.Prelude.{◌≡◌, ◌<◌, ◌+◌, ◌*◌, ◌^◌, ◌&&◌, ◌||◌, true, List, Bool, IfOk, IfErr, OnOk, length};
+ghost use Rattle.std.specs.Prelude.{◌≡◌, ◌<◌, ◌+◌, ◌^◌, ◌&&◌, ◌||◌, true, List, Bool, IfOk, IfErr, OnOk, length};
 ghost use Rattle.bdd_nodes.specs.Store.{Has, value_of, levels_of};
 ghost use Rattle.bdd_nodes.specs.Refusal.{IsRefusalOf};
 ghost use Rattle.bdd_ops.specs.Engine.{store_of};
-ghost use Rattle.bit_encode.specs.Code.{types_of, bit_count};
+ghost use Rattle.variable_codes.specs.LaidOut.{LaidOut};
 ghost use Rattle.kripke_model.specs.Evaluable.{IsEvaluable, AreEvaluable, AreEvaluableArms};
 ghost use Rattle.kripke_model.specs.Reading.{term_of, terms_in, arms_in};
 ghost use Rattle.kripke_model.specs.Size.{node_count, element_nodes, arm_nodes};
@@ -43,8 +43,7 @@ pub(crate) fn build<L: Ledger>(
     steps: &mut Steps<L>,
 ) -> Result<Table, StoreRefusal>
     requires evaluable { IsEvaluable model.now (term_of expr.now) }
-    requires types { layout.now.types ≡ types_of model.now }
-    requires levels { levels_of (store_of engine.old) ≡ 2 * bit_count layout.now.types }
+    requires laid { LaidOut layout.now model.now (store_of engine.old) }
     ensures table { IfOk result (λ t. IsTable (store_of engine.new) t.cells.items t.single
         (meaning_of layout.now model.now next (term_of expr.now))) }
     ensures held { IfErr result (IsRefusalOf (store_of engine.new)) }
@@ -100,8 +99,7 @@ fn build_elements<L: Ledger>(
 ) -> Result<CellList, StoreRefusal>
     requires some { 0 < length elements.now }
     requires evaluable { AreEvaluable model.now (terms_in elements.now) }
-    requires types { layout.now.types ≡ types_of model.now }
-    requires levels { levels_of (store_of engine.old) ≡ 2 * bit_count layout.now.types }
+    requires laid { LaidOut layout.now model.now (store_of engine.old) }
     ensures table { IfOk result (λ cells. IsSetTable (store_of engine.new) cells.items
         (elements_meaning layout.now model.now next (terms_in elements.now))) }
     ensures held { IfErr result (IsRefusalOf (store_of engine.new)) }
@@ -135,8 +133,7 @@ fn build_arm<L: Ledger>(
 ) -> Result<Ref, StoreRefusal>
     requires guard { IsEvaluable model.now (term_of arm.now.guard) }
     requires right { IsEvaluable model.now (term_of arm.now.right) }
-    requires types { layout.now.types ≡ types_of model.now }
-    requires levels { levels_of (store_of engine.old) ≡ 2 * bit_count layout.now.types }
+    requires laid { LaidOut layout.now model.now (store_of engine.old) }
     requires left { Has (store_of engine.old) left }
     requires out { AreCells (store_of engine.old) out.old.items }
     ensures cells { OnOk result (AreCells (store_of engine.new) out.new.items) }
@@ -173,8 +170,7 @@ fn build_arms<L: Ledger>(
     steps: &mut Steps<L>,
 ) -> Result<Table, StoreRefusal>
     requires evaluable { AreEvaluableArms model.now (arms_in arms.now) }
-    requires types { layout.now.types ≡ types_of model.now }
-    requires levels { levels_of (store_of engine.old) ≡ 2 * bit_count layout.now.types }
+    requires laid { LaidOut layout.now model.now (store_of engine.old) }
     ensures table { IfOk result (λ t. IsTable (store_of engine.new) t.cells.items t.single
         (arms_meaning layout.now model.now next (arms_in arms.now))) }
     ensures held { IfErr result (IsRefusalOf (store_of engine.new)) }

@@ -4,7 +4,7 @@ ghost use Rattle.std.specs.Prelude.{◌≡◌, ◌≤◌, ◌+◌, ◌*◌, ◌^
 ghost use Rattle.bdd_nodes.specs.Store.{levels_of, triples, Has, Grows};
 ghost use Rattle.bdd_nodes.specs.Refusal.{IsRefusalOf};
 ghost use Rattle.bdd_ops.specs.Engine.{store_of, capacity_of, lists_of, refused_of};
-ghost use Rattle.bit_encode.specs.Code.{types_of, bit_count};
+ghost use Rattle.variable_codes.specs.LaidOut.{LaidOut};
 ghost use Rattle.kripke_model.specs.Evaluable.{IsEvaluable};
 ghost use Rattle.kripke_model.specs.Reading.{term_of};
 ghost use Rattle.kripke_model.specs.Size.{node_count};
@@ -87,8 +87,7 @@ pub fn table<L: Ledger>(
     steps: &mut Steps<L>,
 ) -> Result<Regions, StoreRefusal>
     requires evaluable { IsEvaluable model.now (term_of expr.now) }
-    requires layout { layout.now.types ≡ types_of model.now }
-    requires levels { levels_of (store_of engine.old) ≡ 2 * bit_count layout.now.types }
+    requires laid { LaidOut layout.now model.now (store_of engine.old) }
     ensures regions { IfOk result (λ t. AreRegions (store_of engine.new) layout.now model.now
         (term_of expr.now) t.rows.items t.faults.items) }
     ensures few { IfOk result (λ t. length t.rows.items + length t.faults.items

@@ -5,10 +5,10 @@
 //! time each took.
 
 ghost use Rattle.std.specs.Prelude.{◌≡◌, ◌*◌, ◌<◌, ◌≤◌, [], IfOk};
-ghost use Rattle.bdd_nodes.specs.Store.{levels_of};
 ghost use Rattle.bdd_ops.specs.Engine.{store_of};
-ghost use Rattle.bit_encode.specs.Code.{types_of, bit_count};
+ghost use Rattle.bit_encode.specs.Code.{types_of};
 ghost use Rattle.bit_encode.specs.Rows.{variable, model_with};
+ghost use Rattle.variable_codes.specs.LaidOut.{LaidOut};
 ghost use Rattle.kripke_model.specs.Flat.{IsFlat};
 ghost use Rattle.kripke_model.specs.Evaluable.{IsEvaluable};
 ghost use Rattle.kripke_model.specs.Reading.{term_of};
@@ -163,8 +163,7 @@ fn built<L: Ledger>(
     requires parts { blank.parts ≡ L.parts }
     requires some { 0 < L.parts }
     requires evaluable { IsEvaluable model.now (term_of expr.now) }
-    requires layout { layout.now.types ≡ types_of model.now }
-    requires levels { levels_of (store_of engine.old) ≡ 2 * bit_count layout.now.types }
+    requires laid { LaidOut layout.now model.now (store_of engine.old) }
 {
     let mut steps = Steps::<L>::new(blank);
     table(alloc, engine, layout, model, expr, &mut steps)

@@ -2,7 +2,8 @@ use Rattle.std.proofs.Common.{◌≡◌, ◌+◌, ◌*◌, ◌/◌, ◌^◌, ◌
 use Rattle.std.proofs.lemmas.Bool.{false≢true}
 use Rattle.bdd_nodes.specs.Store.{value_of, levels_of}
 use Rattle.bdd_ops.specs.Engine.{store_of}
-use Rattle.bit_encode.specs.Code.{bit_count}
+use Rattle.variable_codes.specs.LaidOut.{LaidOut}
+use Rattle.variable_codes.proofs.LaidOut.{LaidOut-grows}
 use Rattle.kripke_model.specs.Size.{node_count, element_nodes, arm_nodes}
 use Rattle.bdd_nodes.proofs.Tables.{Grows-same, Grows-then}
 use Rattle.kripke_model.specs.declared.expressions.Expr.{Expr}
@@ -163,7 +164,7 @@ build_arms-build_arm-requires g t c =
     let good = arm_evaluable_at m arms c.loop-arm.arm-index a c.loop-arm-test.true c.requires.evaluable in
     let guard : IsEvaluable m (term_of a.guard) = subst (λ (x : Arm). IsEvaluable m (term_of x.guard)) (sym c.arm-item.is) good.0 in
     let right : IsEvaluable m (term_of a.right) = subst (λ (x : Arm). IsEvaluable m (term_of x.right)) (sym c.arm-item.is) good.1 in
-    let deep : levels_of (store_of c.loop-arm.engine) ≡ 2 * bit_count c.args.layout.now.types = c.loop-arm.invariant.keeps.grows.levels ∙ c.requires.levels in
+    let deep : LaidOut c.args.layout.now c.args.model.now (store_of c.loop-arm.engine) = LaidOut-grows c.loop-arm.invariant.keeps.grows c.requires.laid in
     search rules
 
 pub build_arms-returns-in_err-left-clause-keeps : goal.build_arms-returns-in_err-left-clause-keeps
@@ -223,7 +224,7 @@ build_elements-build_elements-requires-2 g t c =
     let smaller : 2 * element_nodes (terms_in ys) + 1 < 2 * element_nodes (terms_in es) + 1 = omega (arith, n, nodes-some xs first) in
     let good = halves_evaluable es xs ys (length es / 2) c.split_at.ensures.front c.split_at.ensures.back c.args.model.now c.requires.evaluable in
     let behind : AreEvaluable c.args.model.now (terms_in ys) = good.1 in
-    let deep : levels_of (store_of c.build_elements.new.engine) ≡ 2 * bit_count c.args.layout.now.types = c.build_elements.ensures.keeps.grows.levels ∙ c.requires.levels in
+    let deep : LaidOut c.args.layout.now c.args.model.now (store_of c.build_elements.new.engine) = LaidOut-grows c.build_elements.ensures.keeps.grows c.requires.laid in
     search rules
 
 pub build_elements-united-requires-clause-left : goal.build_elements-united-requires-clause-left
@@ -305,7 +306,7 @@ pub build_arm-build-requires-2 : goal.build_arm-build-requires-2
 build_arm-build-requires-2 g t c =
     let a : Arm = c.args.arm.now in
     let smaller : 2 * node_count (term_of a.right) < 2 * (node_count (term_of a.guard) + node_count (term_of a.right)) = omega (arith, node_count-some (term_of a.guard)) in
-    let deep : levels_of (store_of c.build.new.engine) ≡ 2 * bit_count c.args.layout.now.types = c.build.ensures.keeps.grows.levels ∙ c.requires.levels in
+    let deep : LaidOut c.args.layout.now c.args.model.now (store_of c.build.new.engine) = LaidOut-grows c.build.ensures.keeps.grows c.requires.laid in
     search rules
 
 pub build_arm-add_arm-requires-clause-guard : goal.build_arm-add_arm-requires-clause-guard

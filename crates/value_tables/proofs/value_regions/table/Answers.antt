@@ -16,7 +16,7 @@ returns-clause-regions g c =
     let cells : List Cell = c.in_ok-table.table.cells.items in
     regions_as s c.args.layout.now c.args.model.now (term_of c.args.expr.now) cells _ _
     (c.in-Ok.ensures.rows ∙ ap rows_in c.deref.ensures.value) (c.in-Ok.ensures.faults ∙ ap faults_in c.deref.ensures.value)
-    (regions_are s c.args.layout.now c.args.model.now (term_of c.args.expr.now) cells _ c.codes_law.ensures.valid c.codes_law.ensures.fields c.places_law.ensures.within c.requires.layout c.in_ok-table.ensures.table)
+    (regions_are s c.args.layout.now c.args.model.now (term_of c.args.expr.now) cells _ c.codes_law.ensures.valid c.codes_law.ensures.fields c.places_law.ensures.within c.requires.laid.types c.in_ok-table.ensures.table)
 
 pub returns-clause-growth : goal.returns-clause-growth
 returns-clause-growth g c = growth c.args.engine.now.store c.build.new.engine.store (node_count (term_of c.args.expr.now)) c.build.ensures.spends
