@@ -1,9 +1,9 @@
 -- What work on an engine keeps.
-use Rattle.std.proofs.Common.{◌≡◌, ◌∙◌, refl, ap, arith}
+use Rattle.std.proofs.Common.{◌≡◌, ◌≤◌, ◌∙◌, refl, sym, ap, subst, arith}
 use Rattle.bdd_nodes.specs.Store.{Grows}
 use Rattle.bdd_nodes.proofs.Tables.{Grows-same, Grows-then}
 use Rattle.bdd_ops.specs.declared.engine.Engine.{Engine}
-use Rattle.bdd_ops.specs.Engine.{store_of, cache_of, lists_of, refused_of}
+use Rattle.bdd_ops.specs.Engine.{store_of, cache_of, capacity_of, lists_of, refused_of}
 use Rattle.bdd_ops.specs.Kept.{KeepsEngine}
 
 pub KeepsEngine-same : (e : Engine) → KeepsEngine e e
@@ -16,6 +16,15 @@ KeepsEngine-made a b grows lists cache refused = record {
   refused = omega (arith, refused);
   lists = lists;
   capacity = ap (λ m. m.cap) cache;
+}
+
+-- an engine with the store and the lists that it had
+pub KeepsEngine-store : (a b : Engine) → store_of b ≡ store_of a → lists_of b ≡ lists_of a → capacity_of b ≡ capacity_of a → refused_of a ≤ refused_of b → KeepsEngine a b
+KeepsEngine-store a b store lists capacity refused = record {
+  grows = subst (Grows (store_of a)) (sym store) (Grows-same (store_of a));
+  refused = refused;
+  lists = lists;
+  capacity = capacity;
 }
 
 pub KeepsEngine-then : (a b c : Engine) → KeepsEngine a b → KeepsEngine b c → KeepsEngine a c

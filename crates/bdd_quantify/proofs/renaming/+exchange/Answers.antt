@@ -5,13 +5,15 @@ use Rattle.bdd_nodes.proofs.Tables.{Grows-then}
 use Rattle.bdd_ops.specs.Engine.{lists_of}
 use Rattle.bdd_ops.specs.Answer.{IsAnswer}
 use Rattle.bdd_ops.specs.declared.key.Key.TheVariants.{Rename}
+use Rattle.bdd_ops.specs.Kept.{KeepsEngine}
+use Rattle.bdd_ops.proofs.Kept.{KeepsEngine-store, KeepsEngine-made, KeepsEngine-then}
 use Rattle.bdd_ops.proofs.AnswerLemmas.{IsAnswer-grows}
 use Rattle.bdd_ops.proofs.Apply.{false-stays}
 use Rattle.bdd_ops.specs.Independence.{DependsOnParity}
 use Rattle.bdd_quantify.specs.declared.node.Node.{Node}
 use Rattle.bdd_quantify.specs.Exchange.{neighbour_of}
 use Rattle.bdd_quantify.proofs.Exchange.{IsMoved, neighbour-inside, neighbour-some, child, IsChild-grows, deeper-answer, IsAnswer-constant, IsAnswer-whole, IsWithin, low-within, both-within}
-use Rattle.bdd_quantify.proofs.renaming.+exchange.Goals.{In_default-recall, In_ok-low, In_ok-high, In_ok-made}
+use Rattle.bdd_quantify.proofs.renaming.+exchange.Goals.{After-recall, After-exchange-2, After-make, In_default-recall, In_ok-low, In_ok-high, In_ok-made}
 use Rattle.bdd_quantify.proofs.renaming.+exchange.Goals as goal
 
 abbrev triple_of : Node → Triple
@@ -37,11 +39,11 @@ answered g t c a =
     let t1 = c.exchange.new.engine.store in
     let t2 = c.exchange-2.new.engine.store in
     let key = Rename c.in-Some.node.low c.args.to_next in
-    let grows = Grows-then s t1 t2 c.in_ok-low.ensures.grows c.in_ok-high.ensures.grows in
+    let grows = Grows-then s t1 t2 c.in_ok-low.ensures.keeps.grows c.in_ok-high.ensures.keeps.grows in
     record {
       grows = grows;
-      low = IsAnswer-grows t1 t2 c.in_ok-high.ensures.grows (lists_of c.exchange-2.new.engine) key c.in_ok-low.low
-          (subst (λ l. IsAnswer t1 l key c.in_ok-low.low) (sym c.in_ok-high.ensures.lists) c.in_ok-low.ensures.answer);
+      low = IsAnswer-grows t1 t2 c.in_ok-high.ensures.keeps.grows (lists_of c.exchange-2.new.engine) key c.in_ok-low.low
+          (subst (λ l. IsAnswer t1 l key c.in_ok-low.low) (sym c.in_ok-high.ensures.keeps.lists) c.in_ok-low.ensures.answer);
       there = omega (arith, neighbour-inside s c.args.to_next c.args.f (triple_of c.in-Some.node) a, grows.levels);
     }
 
@@ -58,13 +60,13 @@ whole g t c a =
     let high = c.in_ok-high.high in
     let made = c.in_ok-made.made in
     let last = lists_of c.make.new.self in
-    let later = Grows-then t1 t2 t3 c.in_ok-high.ensures.grows c.in_ok-made.ensures.grows in
+    let later = Grows-then t1 t2 t3 c.in_ok-high.ensures.keeps.grows c.in_ok-made.ensures.grows in
     let low_last = IsAnswer-grows t1 t3 later last (Rename n.low even) low
-    (subst (λ l. IsAnswer t1 l (Rename n.low even) low) (sym (c.make.ensures.lists ∙ c.in_ok-high.ensures.lists)) c.in_ok-low.ensures.answer) in
+    (subst (λ l. IsAnswer t1 l (Rename n.low even) low) (sym (c.make.ensures.lists ∙ c.in_ok-high.ensures.keeps.lists)) c.in_ok-low.ensures.answer) in
     let high_last = IsAnswer-grows t2 t3 c.in_ok-made.ensures.grows last (Rename n.high even) high
     (subst (λ l. IsAnswer t2 l (Rename n.high even) high) (sym c.make.ensures.lists) c.in_ok-high.ensures.answer) in
     let node = subst (λ l. IsNodeOf t3 l low high made) c.neighbour.ensures c.in_ok-made.ensures.node in
-    IsAnswer-whole s t3 (Grows-then s t1 t3 c.in_ok-low.ensures.grows later) last even c.args.f (triple_of n) a low high made low_last high_last c.in_ok-made.ensures.has node
+    IsAnswer-whole s t3 (Grows-then s t1 t3 c.in_ok-low.ensures.keeps.grows later) last even c.args.f (triple_of n) a low high made low_last high_last c.in_ok-made.ensures.has node
 
 pub returns-in_default-clause-answer : goal.returns-in_default-clause-answer
 returns-in_default-clause-answer g t c = IsAnswer-constant c.args.engine.now.store (lists_of c.args.engine.now) c.args.to_next c.args.f c.requires.has c.requires.parity c.in_default.ensures.none
@@ -86,20 +88,15 @@ exchange-requires-2 g t c =
     let s = c.recall.new.self.store in
     let t1 = c.exchange.new.engine.store in
     let a = moved g t (goal.at.exchange-requires-2 g t c).In_default-recall in
-    let high = IsChild-grows s t1 c.in_ok-low.ensures.grows c.args.to_next c.args.f c.in-Some.node.level c.in-Some.node.high (child s c.args.to_next c.args.f (triple_of c.in-Some.node) a true) in
-    let pairs : levels_of t1 % 2 ≡ 0 = ap (λ l. l % 2) c.in_ok-low.ensures.grows.levels ∙ a.pairs in
+    let high = IsChild-grows s t1 c.in_ok-low.ensures.keeps.grows c.args.to_next c.args.f c.in-Some.node.level c.in-Some.node.high (child s c.args.to_next c.args.f (triple_of c.in-Some.node) a true) in
+    let pairs : levels_of t1 % 2 ≡ 0 = ap (λ l. l % 2) c.in_ok-low.ensures.keeps.grows.levels ∙ a.pairs in
     search (rules, high.smaller, high.has, pairs, high.parity)
-
-pub returns-in_err-high-clause-grows : goal.returns-in_err-high-clause-grows
-returns-in_err-high-clause-grows g t c =
-    let last = c.exchange-2.new.engine.store in
-    subst (λ x. Grows x last) c.recall.ensures.store (Grows-then c.recall.new.self.store c.exchange.new.engine.store last c.in_ok-low.ensures.grows c.in_err-high.ensures.grows)
 
 -- what both calls added leaves room for one more triple
 room : (g : _) (t : _) (c : In_ok-low g t) → IsMoved c.recall.new.self.store c.args.to_next c.args.f (triple_of c.in-Some.node) → (n : ℕ) → IsWithin c.in-Some.node.high (n + 1) c.exchange.new.engine.store → IsWithin c.args.f (n + 2) c.args.engine.now.store
 room g t c a n h =
     subst (IsWithin c.args.f (n + 2)) c.recall.ensures.store
-    (both-within c.recall.new.self.store c.exchange.new.engine.store c.in_ok-low.ensures.grows c.args.to_next c.args.f (triple_of c.in-Some.node) a n c.in_ok-low.ensures.count h)
+    (both-within c.recall.new.self.store c.exchange.new.engine.store c.in_ok-low.ensures.keeps.grows c.args.to_next c.args.f (triple_of c.in-Some.node) a n c.in_ok-low.ensures.count h)
 
 pub returns-in_err-high-clause-count : goal.returns-in_err-high-clause-count
 returns-in_err-high-clause-count g t c =
@@ -144,13 +141,6 @@ make-requires-clause-high_deeper g t c =
     let at = goal.at.make-requires-clause-high_deeper g t c in
     omega (arith, c.neighbour.ensures, deeper g t at.In_ok-high (moved g t at.In_default-recall) true c.in_ok-high.high c.in_ok-high.ensures.answer)
 
-pub returns-in_err-made-clause-grows : goal.returns-in_err-made-clause-grows
-returns-in_err-made-clause-grows g t c =
-    let at = goal.at.returns-in_err-made-clause-grows g t c in
-    let a = answered g t at.In_ok-high (moved g t at.In_default-recall) in
-    let last = c.make.new.self.store in
-    subst (λ x. Grows x last) c.recall.ensures.store (Grows-then c.recall.new.self.store c.exchange-2.new.engine.store last a.grows c.in_err-made.ensures.grows)
-
 pub returns-in_err-made-clause-count : goal.returns-in_err-made-clause-count
 returns-in_err-made-clause-count g t c =
     let at = goal.at.returns-in_err-made-clause-count g t c in
@@ -171,14 +161,39 @@ returns-clause-false_stays g t c = λ e.
     let zero = false-stays c.make.new.self.store c.neighbour.result c.in_ok-low.low c.in_ok-high.high c.in_ok-made.made c.in_ok-made.ensures.node e in
     ap triples c.remember.ensures.store ∙ c.in_ok-made.ensures.equal_stays (zero.0 ∙ sym zero.1) ∙ c.in_ok-high.ensures.false_stays zero.1 ∙ c.in_ok-low.ensures.false_stays zero.0 ∙ ap triples c.recall.ensures.store
 
-pub returns-clause-grows : goal.returns-clause-grows
-returns-clause-grows g t c =
-    let at = goal.at.returns-clause-grows g t c in
-    let a = answered g t at.In_ok-high (moved g t at.In_default-recall) in
-    subst (λ x. Grows x c.remember.new.self.store) c.recall.ensures.store
-    (subst (λ x. Grows c.recall.new.self.store x) (sym c.remember.ensures.store) (Grows-then c.recall.new.self.store c.exchange-2.new.engine.store c.make.new.self.store a.grows c.in_ok-made.ensures.grows))
-
 pub returns-clause-count : goal.returns-clause-count
 returns-clause-count g t c =
     let at = goal.at.returns-clause-count g t c in
     omega (arith, room g t at.In_ok-low (moved g t at.In_default-recall) (length (triples c.exchange-2.new.engine.store)) c.in_ok-high.ensures.count, c.in_ok-made.ensures.one_more, ap (λ x. length (triples x)) c.remember.ensures.store)
+
+-- what the engine kept before and after each call
+recall_keeps : (g : _) (t : _) (c : After-recall g t) → KeepsEngine c.args.engine.now c.recall.new.self
+recall_keeps g t c = KeepsEngine-store _ _ c.recall.ensures.store c.recall.ensures.lists c.recall.ensures.capacity (omega (arith, c.recall.ensures.refused))
+
+sides_keep : (g : _) (t : _) (c : After-exchange-2 g t) → KeepsEngine c.args.engine.now c.recall.new.self → KeepsEngine c.args.engine.now c.exchange-2.new.engine
+sides_keep g t c first = KeepsEngine-then _ _ _ (KeepsEngine-then _ _ _ first c.exchange.ensures.keeps) c.exchange-2.ensures.keeps
+
+made_keeps : (g : _) (t : _) (c : After-make g t) → KeepsEngine c.args.engine.now c.exchange-2.new.engine → KeepsEngine c.args.engine.now c.make.new.self
+made_keeps g t c both = KeepsEngine-then _ _ _ both (KeepsEngine-made _ _ c.make.ensures.grows c.make.ensures.lists c.make.ensures.cache c.make.ensures.refused)
+
+pub returns-in-Some-recall-clause-keeps : goal.returns-in-Some-recall-clause-keeps
+returns-in-Some-recall-clause-keeps g t c = recall_keeps g t (goal.at.returns-in-Some-recall-clause-keeps g t c).After-recall
+
+pub returns-in_err-low-clause-keeps : goal.returns-in_err-low-clause-keeps
+returns-in_err-low-clause-keeps g t c = KeepsEngine-then _ _ _ (recall_keeps g t (goal.at.returns-in_err-low-clause-keeps g t c).After-recall) c.exchange.ensures.keeps
+
+pub returns-in_err-high-clause-keeps : goal.returns-in_err-high-clause-keeps
+returns-in_err-high-clause-keeps g t c =
+    let at = goal.at.returns-in_err-high-clause-keeps g t c in
+    sides_keep g t at.After-exchange-2 (recall_keeps g t at.After-recall)
+
+pub returns-in_err-made-clause-keeps : goal.returns-in_err-made-clause-keeps
+returns-in_err-made-clause-keeps g t c =
+    let at = goal.at.returns-in_err-made-clause-keeps g t c in
+    made_keeps g t at.After-make (sides_keep g t at.After-exchange-2 (recall_keeps g t at.After-recall))
+
+pub returns-clause-keeps : goal.returns-clause-keeps
+returns-clause-keeps g t c =
+    let at = goal.at.returns-clause-keeps g t c in
+    KeepsEngine-then _ _ _ (made_keeps g t at.After-make (sides_keep g t at.After-exchange-2 (recall_keeps g t at.After-recall)))
+    (KeepsEngine-store _ _ c.remember.ensures.store c.remember.ensures.lists c.remember.ensures.capacity c.remember.ensures.refused)
