@@ -49,15 +49,16 @@ profile "$work/b" "$work/buddy" "$kind" "$n" "$nodes"
 a=$(of "$work/a.inclusive" 'PROGRAM TOTALS')
 b=$(of "$work/b.inclusive" 'PROGRAM TOTALS')
 echo "instructions, whole programs: $a and $b, ratio $(ratio "$a" "$b")"
-# literals are made outside the recursion, in far less than a hundredth of the instructions, and so is
-# the counter's relation: its sets and its preimages are counted
+# literals are made outside the operations, in far less than a hundredth of the instructions, and so is
+# the counter's relation: its sets and its preimages are counted. An operation begins a round of the
+# cache, in which its slots may grow: that is counted too.
 b=$(of "$work/b.inclusive" ":$kind[ .]")
 if [ "$kind" = counter ]; then
-    products=$(of "$work/a.inclusive" 'quantification::product::<#[0-9a-f]*> ')
+    products=$(of "$work/a.inclusive" 'quantification::expand::<#[0-9a-f]*> ')
     sets=$(of "$work/a.inclusive" 'diagrams::carried::<#[0-9a-f]*> ')
     a=$((products + sets))
 else
-    a=$(of "$work/a.inclusive" 'Engine::apply::<#[0-9a-f]*> ')
+    a=$(of "$work/a.inclusive" 'Engine::operate::<#[0-9a-f]*> ')
 fi
 echo "instructions of the operations: $a and $b, ratio $(ratio "$a" "$b")"
 if [ "$kind" = counter ]; then
