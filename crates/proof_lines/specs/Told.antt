@@ -1,5 +1,5 @@
 -- What a test tells of the sets, and the lines that two tests share.
-use Rattle.std.specs.Prelude.{◌↔◌, ℕ, Bool, true, List, [], ◌∷◌, All, IsTrue, map}
+use Rattle.std.specs.Prelude.{◌↔◌, Bool, true, List, [], ◌∷◌, All, IsTrue, map}
 use Rattle.kripke_model.specs.System.{System}
 use Rattle.region_sets.specs.declared.pins.Pin.{Pin}
 use Rattle.region_sets.specs.Sets.{Sets, region}
@@ -9,7 +9,6 @@ use Rattle.fair_rules.specs.Claims.{both}
 use Rattle.proof_form.specs.Form.{FairPart}
 use Rattle.claim_sets.specs.declared.constraint_pins.Constraints.{Constraints}
 use Rattle.claim_sets.specs.ConstraintClaims.{constraint_list}
-use Rattle.proof_lines.specs.Tested.{AreTested}
 
 -- whether the check is met
 abbrev pub Tells : System → Check → Bool → Type 0
@@ -18,10 +17,6 @@ Tells m check good = IsTrue good ↔ IsMet m check
 -- whether each of them is
 abbrev pub TellsAll : System → List Check → Bool → Type 0
 TellsAll m checks good = IsTrue good ↔ All (IsMet m) checks
-
--- the lines were tested in turn, and counted from one number to the other
-abbrev pub Tests : System → List (List Check) → ℕ → ℕ → Bool → Type 0
-Tests m lines before after good = AreTested m lines before good after
 
 -- ---- the two parts of a release, each with its first line
 

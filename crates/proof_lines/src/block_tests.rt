@@ -14,7 +14,7 @@ ghost use Rattle.claim_sets.specs.Claimed.{AreClaims, claims_of, claims_slots};
 ghost use Rattle.claim_sets.specs.ConstraintClaims.{constraints_count};
 ghost use Rattle.proof_lines.specs.Frames.{IsFrame, IsFrameOf, avoided_in, visited_in};
 ghost use Rattle.proof_lines.specs.LineCounts.{own_line_count};
-ghost use Rattle.proof_lines.specs.Told.{Tests};
+ghost use Rattle.proof_lines.specs.Tested.{AreTested};
 
 use crate::cases::{Case, Ends};
 use crate::claim_ends::end_lines;
@@ -45,10 +45,10 @@ fn main_lines<S: StateSets>(
         (claims_of case.now.model.now (own_proof (S.seen sets.old) case.now) (formula_in case.now) 1
         0) }
     ensures call { IsCall 8 (S.seen sets.old) (S.seen sets.new) [] result }
-    ensures tested { IfOk result (Tests case.now.model.now
+    ensures tested { IfOk result (λ yes. AreTested case.now.model.now
         (block_lines case.now.model.now (visited_in (S.seen sets.old) frame.now)
         (avoided_in (S.seen sets.old) frame.now)
-        (block_of (states_of (S.seen sets.old) case.now)) (formula_in case.now) 1) line.old
+        (block_of (states_of (S.seen sets.old) case.now)) (formula_in case.now) 1) line.old yes
         line.new) }
     ensures products { S.products sets.new ≤ S.products sets.old
         + own_line_count case.now.proof.now }
@@ -81,8 +81,8 @@ fn claimed_lines<'a, S: StateSets>(
         ≡ join (regions (S.seen sets.old) (layer_sets case.now.proof.now.nonfair)) }
     ensures call { IsCall (2 * node_count (formula_in case.now) + 10) (S.seen sets.old)
         (S.seen sets.new) [] result }
-    ensures tested { IfOk result (Tests case.now.model.now
-        (claimed_block (S.seen sets.old) case.now lists.now) line.old line.new) }
+    ensures tested { IfOk result (λ yes. AreTested case.now.model.now
+        (claimed_block (S.seen sets.old) case.now lists.now) line.old yes line.new) }
     ensures products { S.products sets.new ≤ S.products sets.old
         + own_line_count case.now.proof.now }
 {
@@ -120,8 +120,8 @@ pub fn own_block<S: StateSets>(
     requires lists { AreLists (S.seen sets.old) case.now.model.now lists.now }
     ensures call { IsCall (2 * node_count (formula_in case.now) + 12) (S.seen sets.old)
         (S.seen sets.new) [] result }
-    ensures tested { IfOk result (Tests case.now.model.now
-        (claimed_block (S.seen sets.old) case.now lists.now) line.old line.new) }
+    ensures tested { IfOk result (λ yes. AreTested case.now.model.now
+        (claimed_block (S.seen sets.old) case.now lists.now) line.old yes line.new) }
     ensures products { S.products sets.new ≤ S.products sets.old
         + own_line_count case.now.proof.now }
 {

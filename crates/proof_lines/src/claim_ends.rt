@@ -10,7 +10,6 @@ ghost use Rattle.fair_rules.specs.Checks.{Check};
 ghost use Rattle.fair_rules.specs.Claims.{Proof};
 ghost use Rattle.claim_sets.specs.Claimed.{AreClaims, claims_of, claims_slots};
 ghost use Rattle.proof_lines.specs.Tested.{AreTested};
-ghost use Rattle.proof_lines.specs.Told.{Tests};
 
 use crate::checks::{begins, starts};
 use crate::lines::count;
@@ -23,8 +22,8 @@ use region_sets::{Pin, SetRefusal, StateSets};
 fn start_line<S: StateSets>(sets: &mut S, set: &Pin, line: &mut u64) -> Result<bool, SetRefusal>
     requires { IsLive (S.seen sets.old) set.now.slot }
     ensures call { IsCall 2 (S.seen sets.old) (S.seen sets.new) [] result }
-    ensures tested { IfOk result (Tests (S.seen sets.old).over
-        ((Check.Starts (region (S.seen sets.old) set.now) ∷ []) ∷ []) line.old line.new) }
+    ensures tested { IfOk result (λ yes. AreTested (S.seen sets.old).over
+        ((Check.Starts (region (S.seen sets.old) set.now) ∷ []) ∷ []) line.old yes line.new) }
     ensures products { S.products sets.new ≡ S.products sets.old }
 {
     if !starts(sets, set)? {

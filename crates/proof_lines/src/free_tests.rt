@@ -12,7 +12,7 @@ ghost use Rattle.claim_sets.specs.FreeClaims.{IsFreeGround};
 ghost use Rattle.proof_lines.specs.Frames.{IsFrame, IsFrameOf};
 ghost use Rattle.proof_lines.specs.LineCounts.{free_line_count};
 ghost use Rattle.claim_sets.specs.declared.constraint_pins.Constraints.TheVariants as constraints;
-ghost use Rattle.proof_lines.specs.Told.{Tests};
+ghost use Rattle.proof_lines.specs.Tested.{AreTested};
 
 use crate::cases::Ends;
 use crate::entry_lists::free_entry_tests;
@@ -45,9 +45,9 @@ fn part_lines<S: StateSets>(
     requires claims { HaveClaims (S.seen sets.old).over (S.seen sets.old)
         (free_proof (Some (map_free (region (S.seen sets.old)) part.now))) lists.now }
     ensures call { IsCall 8 (S.seen sets.old) (S.seen sets.new) [] result }
-    ensures tested { IfOk result (Tests (S.seen sets.old).over
+    ensures tested { IfOk result (λ yes. AreTested (S.seen sets.old).over
         (free_lines (S.seen sets.old).over (Some (map_free (region (S.seen sets.old)) part.now)))
-        line.old line.new) }
+        line.old yes line.new) }
     ensures products { S.products sets.new ≤ S.products sets.old + free_line_count part.now }
 {
     count(line);
@@ -76,8 +76,8 @@ pub fn free_block<'a, S: StateSets>(
     requires claims { HaveClaims model.now (S.seen sets.old)
         (free_proof (Some (map_free (region (S.seen sets.old)) part.now))) lists.now }
     ensures call { IsCall 8 (S.seen sets.old) (S.seen sets.new) [] result }
-    ensures tested { IfOk result (Tests model.now
-        (free_lines model.now (Some (map_free (region (S.seen sets.old)) part.now))) line.old
+    ensures tested { IfOk result (λ yes. AreTested model.now
+        (free_lines model.now (Some (map_free (region (S.seen sets.old)) part.now))) line.old yes
         line.new) }
     ensures products { S.products sets.new ≤ S.products sets.old + free_line_count part.now }
 {

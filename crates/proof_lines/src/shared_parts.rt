@@ -12,7 +12,7 @@ ghost use Rattle.claim_sets.specs.ConstraintClaims.{constraints_count};
 ghost use Rattle.proof_lines.specs.Cases.{shared};
 ghost use Rattle.proof_lines.specs.Frames.{IsFrame, avoided_in, visited_in};
 ghost use Rattle.proof_lines.specs.LineCounts.{fair_line_count};
-ghost use Rattle.proof_lines.specs.Told.{Tests};
+ghost use Rattle.proof_lines.specs.Tested.{AreTested};
 
 use crate::frames::{Frame, few_law};
 use crate::lines::{count, layers, reaches};
@@ -30,9 +30,9 @@ fn nonfair_lines<S: StateSets>(
     requires avoids { All (Avoids (constraints_count frame.now.constraints)) nonfair.now }
     requires live { AreLive (S.seen sets.old) (slots (layer_sets nonfair.now)) }
     ensures call { IsCall 6 (S.seen sets.old) (S.seen sets.new) [] result }
-    ensures tested { IfOk result (Tests (S.seen sets.old).over
+    ensures tested { IfOk result (λ yes. AreTested (S.seen sets.old).over
         ([] ∷ layer_lines (avoided_in (S.seen sets.old) frame.now) everything nothing nothing
-        (map layer_of (map (map_layer (region (S.seen sets.old))) nonfair.now))) line.old
+        (map layer_of (map (map_layer (region (S.seen sets.old))) nonfair.now))) line.old yes
         line.new) }
     ensures products { S.products sets.new ≤ S.products sets.old + length nonfair.now }
 {
@@ -58,10 +58,10 @@ fn fair_lines<S: StateSets>(
     requires count { length fair.now.reach ≡ constraints_count frame.now.constraints }
     requires live { AreLive (S.seen sets.old) (slots (fair_sets fair.now)) }
     ensures call { IsCall 6 (S.seen sets.old) (S.seen sets.new) [] result }
-    ensures tested { IfOk result (Tests (S.seen sets.old).over
+    ensures tested { IfOk result (λ yes. AreTested (S.seen sets.old).over
         ([] ∷ reach_lines (region (S.seen sets.old) fair.now.inside)
         (visited_in (S.seen sets.old) frame.now)
-        (map (map (region (S.seen sets.old))) fair.now.reach)) line.old line.new) }
+        (map (map (region (S.seen sets.old))) fair.now.reach)) line.old yes line.new) }
     ensures products { S.products sets.new ≤ S.products sets.old + fair_line_count fair.now }
 {
     few_law(&frame.constraints);
@@ -91,11 +91,11 @@ pub fn shared_lines<S: StateSets>(
     requires count { length fair.now.reach ≡ constraints_count frame.now.constraints }
     requires live { AreLive (S.seen sets.old) (slots (fair_sets fair.now)) }
     ensures call { IsCall 6 (S.seen sets.old) (S.seen sets.new) [] result }
-    ensures tested { IfOk result (Tests (S.seen sets.old).over
+    ensures tested { IfOk result (λ yes. AreTested (S.seen sets.old).over
         (shared (visited_in (S.seen sets.old) frame.now) (avoided_in (S.seen sets.old) frame.now)
         (map layer_of (map (map_layer (region (S.seen sets.old))) nonfair.now))
         (region (S.seen sets.old) fair.now.inside)
-        (map (map (region (S.seen sets.old))) fair.now.reach)) line.old line.new) }
+        (map (map (region (S.seen sets.old))) fair.now.reach)) line.old yes line.new) }
     ensures products { S.products sets.new ≤ S.products sets.old
         + (length nonfair.now + fair_line_count fair.now) }
 {

@@ -15,7 +15,7 @@ ghost use Rattle.claim_sets.specs.Claimed.{HasModelLeaves};
 ghost use Rattle.claim_sets.specs.ConstraintClaims.{HaveClaims};
 ghost use Rattle.claim_sets.specs.FreeClaims.{IsFreeGround};
 ghost use Rattle.proof_lines.specs.LineCounts.{set_line_count};
-ghost use Rattle.proof_lines.specs.Told.{Tests};
+ghost use Rattle.proof_lines.specs.Tested.{AreTested};
 
 use crate::block_tests::own_block;
 use crate::cases::{Case, Ends};
@@ -52,8 +52,8 @@ fn listed_lines<S: StateSets>(
         (free_proof (Some (map_free (region (S.seen sets.old)) part.now))) lists.now }
     ensures call { IsCall (2 * node_count (formula_in case.now) + 12) (S.seen sets.old)
         (S.seen sets.new) [] result }
-    ensures tested { IfOk result (Tests case.now.model.now
-        (whole_lines (S.seen sets.old) case.now) line.old line.new) }
+    ensures tested { IfOk result (λ yes. AreTested case.now.model.now
+        (whole_lines (S.seen sets.old) case.now) line.old yes line.new) }
     ensures products { S.products sets.new ≤ S.products sets.old
         + set_line_count case.now.proof.now }
 {
@@ -79,8 +79,8 @@ fn layered_lines<S: StateSets>(
     requires ground { IsFreeGround (S.seen sets.old) ends.now.full.now nonfair.now part.now }
     ensures call { IsCall (2 * (node_count (formula_in case.now) + constraint_nodes
         case.now.model.now) + 12) (S.seen sets.old) (S.seen sets.new) [] result }
-    ensures tested { IfOk result (Tests case.now.model.now
-        (whole_lines (S.seen sets.old) case.now) line.old line.new) }
+    ensures tested { IfOk result (λ yes. AreTested case.now.model.now
+        (whole_lines (S.seen sets.old) case.now) line.old yes line.new) }
     ensures products { S.products sets.new ≤ S.products sets.old
         + set_line_count case.now.proof.now }
 {
@@ -104,8 +104,8 @@ fn part_then_block<S: StateSets>(
     requires ends { AreEnds (S.seen sets.old) ends.now }
     ensures call { IsCall (2 * (node_count (formula_in case.now) + constraint_nodes
         case.now.model.now) + 13) (S.seen sets.old) (S.seen sets.new) [] result }
-    ensures tested { IfOk result (Tests case.now.model.now
-        (whole_lines (S.seen sets.old) case.now) line.old line.new) }
+    ensures tested { IfOk result (λ yes. AreTested case.now.model.now
+        (whole_lines (S.seen sets.old) case.now) line.old yes line.new) }
     ensures products { S.products sets.new ≤ S.products sets.old
         + set_line_count case.now.proof.now }
 {
@@ -127,8 +127,8 @@ fn lines_between<S: StateSets>(
     requires ends { AreEnds (S.seen sets.old) ends.now }
     ensures call { IsCall (2 * (node_count (formula_in case.now) + constraint_nodes
         case.now.model.now) + 13) (S.seen sets.old) (S.seen sets.new) [] result }
-    ensures tested { IfOk result (Tests case.now.model.now
-        (whole_lines (S.seen sets.old) case.now) line.old line.new) }
+    ensures tested { IfOk result (λ yes. AreTested case.now.model.now
+        (whole_lines (S.seen sets.old) case.now) line.old yes line.new) }
     ensures products { S.products sets.new ≤ S.products sets.old
         + set_line_count case.now.proof.now }
 {
@@ -154,9 +154,9 @@ pub fn test_lines<'a, S: StateSets>(
     requires shape { IsInShape model.now (ctl_of formula.now) proof.now }
     ensures call { IsCall (8 * (node_count (ctl_of formula.now) + constraint_nodes model.now + 2))
         (S.seen sets.old) (S.seen sets.new) [] result }
-    ensures tested { IfOk result (Tests model.now
+    ensures tested { IfOk result (λ yes. AreTested model.now
         (obligations model.now (ctl_of formula.now) (over_states (S.seen sets.old) proof.now))
-        line.old line.new) }
+        line.old yes line.new) }
     ensures products { S.products sets.new ≤ S.products sets.old + set_line_count proof.now }
 {
     let full = sets.full()?;
