@@ -7,10 +7,10 @@ use Rattle.std.proofs.lemmas.List.{take_all}
 use Rattle.std.proofs.lemmas.List.Folds.{list_any_more}
 use Rattle.bdd_nodes.specs.declared.store.Store.{Store}
 use Rattle.bdd_nodes.specs.Store.{levels_of, triples, Has, value_of, Grows}
-use Rattle.bdd_nodes.proofs.Tables.{Grows-same, Grows-then, value_of-false}
+use Rattle.bdd_nodes.proofs.Tables.{value_of-false}
 use Rattle.bdd_nodes.proofs.Canonical.{canonical}
 use Rattle.bdd_ops.specs.declared.engine.Engine.{Engine}
-use Rattle.bdd_ops.specs.Engine.{store_of, cache_of, lists_of, refused_of}
+use Rattle.bdd_ops.proofs.Kept.{KeepsEngine-same, KeepsEngine-then}
 use Rattle.kripke_model.specs.declared.expressions.Value.{Value}
 use Rattle.kripke_model.specs.Evaluation.{Checked}
 use Rattle.value_tables.specs.declared.cells.Cell.{Cell}
@@ -24,22 +24,10 @@ use Rattle.value_tables.specs.Work.{Keeps, Spends}
 use Rattle.value_tables.specs.Cells.{any_cell, AreCells, same_reading, region_at}
 
 pub Keeps-same : (e : Engine) (n : ℕ) → Keeps e e n n
-Keeps-same e n = record {
-  grows = Grows-same (store_of e);
-  refused = omega arith;
-  lists = refl;
-  capacity = refl;
-  steps = omega arith;
-}
+Keeps-same e n = record { engine = KeepsEngine-same e; steps = omega arith }
 
 pub Keeps-then : (a b c : Engine) (k l m : ℕ) → Keeps a b k l → Keeps b c l m → Keeps a c k m
-Keeps-then a b c k l m f g = record {
-  grows = Grows-then (store_of a) (store_of b) (store_of c) f.grows g.grows;
-  refused = omega (arith, f.refused, g.refused);
-  lists = g.lists ∙ f.lists;
-  capacity = g.capacity ∙ f.capacity;
-  steps = omega (arith, f.steps, g.steps);
-}
+Keeps-then a b c k l m f g = record { engine = KeepsEngine-then a b c f.engine g.engine; steps = omega (arith, f.steps, g.steps) }
 
 pub keeps_join : {a b c : Engine} {k l m : ℕ} → Keeps a b k l → Keeps b c l m → Keeps a c k m
 keeps_join {a} {b} {c} {k} {l} {m} f g = Keeps-then a b c k l m f g
@@ -151,19 +139,6 @@ pairs_step s a g left right has_left has_right op k bits i cell lt is first now 
     (f ∙ (λ j. now || (pairs_to-grows s a g left right has_left has_right bits op k cell.reading j && g.value cell.region (has_item s a a g left i cell lt is has_left) bits j)))
     ∙ ap (λ b. first || b) ((λ j. any_cell (λ q. value_of s q bits) p (take i left) || (p (is j).reading && value_of s (is j).region bits)) ∙ sym (list_any_more (λ (c : Cell). p c.reading && value_of s c.region bits) left i cell lt))
 
-pub keeps_quiet : {a b : Engine} (n : ℕ) → Keeps a b 0 0 → Keeps a b n n
-keeps_quiet n h = record { grows = h.grows; refused = h.refused; lists = h.lists; capacity = h.capacity; steps = omega arith }
-
--- the same, where what is kept of an engine is told by itself
+-- where what is kept of an engine is told by itself
 pub keeps_engine : {a b : Engine} (n : ℕ) → KeepsEngine a b → Keeps a b n n
-keeps_engine n h = record { grows = h.grows; refused = h.refused; lists = h.lists; capacity = h.capacity; steps = omega arith }
-
--- a triple more
-pub keeps_made : (a b d : Engine) → Keeps a b 0 0 → Grows (store_of b) (store_of d) → cache_of d ≡ cache_of b → lists_of d ≡ lists_of b → refused_of d ≡ refused_of b → Keeps a d 0 0
-keeps_made a b d h g cache lists refused = record {
-  grows = Grows-then (store_of a) (store_of b) (store_of d) h.grows g;
-  refused = omega (arith, h.refused, refused);
-  lists = lists ∙ h.lists;
-  capacity = (λ j. (cache j).cap) ∙ h.capacity;
-  steps = omega arith;
-}
+keeps_engine n h = record { engine = h; steps = omega arith }

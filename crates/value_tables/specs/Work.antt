@@ -1,16 +1,13 @@
 -- What an engine keeps and how much it grows.
-use Rattle.std.specs.Prelude.{◌≡◌, ℕ, ◌+◌, ◌*◌, ◌^◌, ◌≤◌, length}
+use Rattle.std.specs.Prelude.{ℕ, ◌+◌, ◌*◌, ◌^◌, ◌≤◌, length}
 use Rattle.bdd_nodes.specs.declared.store.Store.{Store}
-use Rattle.bdd_nodes.specs.Store.{levels_of, triples, Grows}
+use Rattle.bdd_nodes.specs.Store.{levels_of, triples}
 use Rattle.bdd_ops.specs.declared.engine.Engine.{Engine}
-use Rattle.bdd_ops.specs.Engine.{store_of, capacity_of, lists_of, refused_of}
+use Rattle.bdd_ops.specs.Kept.{KeepsEngine}
 
--- work of an engine: earlier diagrams keep their meaning, and so do the lists of levels; steps are counted
+-- what work on an engine keeps, and the steps never fall
 pub record Keeps (old new : Engine) (before after : ℕ) : Type 0 where
-  pub grows : Grows (store_of old) (store_of new)
-  pub refused : refused_of old ≤ refused_of new
-  pub lists : lists_of new ≡ lists_of old
-  pub capacity : capacity_of new ≡ capacity_of old
+  pub engine : KeepsEngine old new
   pub steps : before ≤ after
 
 -- the table grows by at most k times as many triples as one operation may add

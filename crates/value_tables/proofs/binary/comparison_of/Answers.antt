@@ -32,5 +32,5 @@ returns-clause-spends g c =
     let s = c.args.engine.now.store in
     let l : length c.deref.result.now ≤ length c.args.left.now.cells.items + 1 = subst (λ (xs : List Cell). length xs ≤ length c.args.left.now.cells.items + 1) (sym c.deref.ensures.value) c.in_ok-pair.ensures.few_left in
     let r : length c.deref-2.result.now ≤ length c.args.right.now.cells.items + 1 = subst (λ (xs : List Cell). length xs ≤ length c.args.right.now.cells.items + 1) (sym c.deref-2.ensures.value) c.in_ok-pair.ensures.few_right in
-    Spends-then s c.tested_pair.new.engine.store c.ordered.new.engine.store (5 * length c.args.left.now.cells.items + 5 * length c.args.right.now.cells.items + 4) _ _ c.tested_pair.ensures.keeps.grows.levels
+    Spends-then s c.tested_pair.new.engine.store c.ordered.new.engine.store (5 * length c.args.left.now.cells.items + 5 * length c.args.right.now.cells.items + 4) _ _ c.tested_pair.ensures.keeps.engine.grows.levels
     (omega (arith, l, r, pow_pos (levels_of s))) c.tested_pair.ensures.spends c.ordered.ensures.spends

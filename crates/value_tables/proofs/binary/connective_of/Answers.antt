@@ -22,7 +22,7 @@ returns-clause-single g c = if_ok c.combined.result c.combined.ensures.single (Î
 
 pub returns-clause-spends : goal.returns-clause-spends
 returns-clause-spends g c =
-    Spends-then c.args.engine.now.store c.tested_pair.new.engine.store c.combined.new.engine.store (5 * length c.args.left.now.cells.items + 5 * length c.args.right.now.cells.items + 4) (3 * length c.in_ok-pair.pair.left.items + 3 * length c.in_ok-pair.pair.right.items + 10) _ c.tested_pair.ensures.keeps.grows.levels
+    Spends-then c.args.engine.now.store c.tested_pair.new.engine.store c.combined.new.engine.store (5 * length c.args.left.now.cells.items + 5 * length c.args.right.now.cells.items + 4) (3 * length c.in_ok-pair.pair.left.items + 3 * length c.in_ok-pair.pair.right.items + 10) _ c.tested_pair.ensures.keeps.engine.grows.levels
     (omega (arith, c.in_ok-pair.ensures.few_left, c.in_ok-pair.ensures.few_right)) c.tested_pair.ensures.spends c.combined.ensures.spends
 
 pub returns-clause-keeps : goal.returns-clause-keeps

@@ -24,7 +24,7 @@ returns-clause-single g c = if_ok c.compared.result c.compared.ensures.single (Î
 pub returns-clause-spends : goal.returns-clause-spends
 returns-clause-spends g c =
     let l = ap length c.deref.ensures.value in
-    Spends-then c.args.engine.now.store c.tested_pair.new.engine.store c.compared.new.engine.store (5 * length c.args.left.now.cells.items + 5 * length c.args.right.now.cells.items + 4) (5 * length c.deref.result.now + 3 * length c.in_ok-pair.pair.right.items + 8) _ c.tested_pair.ensures.keeps.grows.levels
+    Spends-then c.args.engine.now.store c.tested_pair.new.engine.store c.compared.new.engine.store (5 * length c.args.left.now.cells.items + 5 * length c.args.right.now.cells.items + 4) (5 * length c.deref.result.now + 3 * length c.in_ok-pair.pair.right.items + 8) _ c.tested_pair.ensures.keeps.engine.grows.levels
     (omega (arith, l, c.in_ok-pair.ensures.few_left, c.in_ok-pair.ensures.few_right)) c.tested_pair.ensures.spends c.compared.ensures.spends
 
 pub returns-clause-keeps : goal.returns-clause-keeps

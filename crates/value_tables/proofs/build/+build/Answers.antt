@@ -1,9 +1,6 @@
 use Rattle.std.proofs.Common.{◌≡◌, ◌+◌, ◌*◌, ◌/◌, ◌^◌, ◌<◌, ◌≤◌, length, take, ◌&&◌, ◌||◌, cond, drop, Bool, true, List, refl, sym, ◌∙◌, ap, arith, rules, subst}
 use Rattle.std.proofs.lemmas.Bool.{false≢true}
 use Rattle.bdd_nodes.specs.Store.{value_of, levels_of}
-use Rattle.bdd_ops.specs.Engine.{store_of}
-use Rattle.variable_codes.specs.LaidOut.{LaidOut}
-use Rattle.variable_codes.proofs.LaidOut.{LaidOut-grows}
 use Rattle.kripke_model.specs.Size.{node_count, element_nodes, arm_nodes}
 use Rattle.bdd_nodes.proofs.Tables.{Grows-same, Grows-then}
 use Rattle.kripke_model.specs.declared.expressions.Expr.{Expr}
@@ -64,7 +61,7 @@ build-returns-in_ok-right-in-Binary-clause-table g t c =
     let z = c.build-in-Binary-2.new.engine.store in
     term_table c.binary_of.new.engine.store lay m c.args.next (Term.Binary c.in-Binary.op a b) (term_of c.args.expr.now) (sym is) c.binary_of.result
     (binary_table z c.binary_of.new.engine.store c.in-Binary.op _ _ _ _ (meaning_of lay m c.args.next a) (meaning_of lay m c.args.next b)
-    (IsTable-grows s z c.build-in-Binary-2.ensures.keeps.grows _ _ (meaning_of lay m c.args.next a) c.in_ok-left-in-Binary.ensures.table) c.in_ok-right-in-Binary.ensures.table
+    (IsTable-grows s z c.build-in-Binary-2.ensures.keeps.engine.grows _ _ (meaning_of lay m c.args.next a) c.in_ok-left-in-Binary.ensures.table) c.in_ok-right-in-Binary.ensures.table
     (λ bits. eval_proper m a _ _ good.0) (λ bits. eval_proper m b _ _ good.1) c.binary_of.result c.binary_of.ensures.cells c.binary_of.ensures.reads c.binary_of.ensures.single)
 
 pub build-returns-in-Braces-clause-table : goal.build-returns-in-Braces-clause-table
@@ -106,7 +103,7 @@ build_arms-loop-arm-preserved g t c =
           ∙ ap (λ (x : Arm). guard_of (eval m (term_of x.guard) (state_shown lay c.args.next bits) (state_shown lay true bits)) >>= λ b. cond b (eval m (term_of x.right) (state_shown lay c.args.next bits) (state_shown lay true bits)) rest) (sym c.arm-item.is)) j))))
           (c.in_ok-left.ensures.shows bits k)
           (c.in_ok-left.ensures.rest bits);
-      spends = lists_spend c.args.engine.now.store s c.build_arm.new.engine.store i.keeps.grows (nodes_of_arms (take n arms)) (node_count (term_of a.guard) + node_count (term_of a.right)) (nodes_of_arms (take (n + 1) arms))
+      spends = lists_spend c.args.engine.now.store s c.build_arm.new.engine.store i.keeps.engine.grows (nodes_of_arms (take n arms)) (node_count (term_of a.guard) + node_count (term_of a.right)) (nodes_of_arms (take (n + 1) arms))
           (arms_step arms n a c.loop-arm-test.true c.arm-item.is) i.spends c.build_arm.ensures.spends;
       keeps = keeps_join i.keeps c.build_arm.ensures.keeps;
     }
@@ -164,7 +161,6 @@ build_arms-build_arm-requires g t c =
     let good = arm_evaluable_at m arms c.loop-arm.arm-index a c.loop-arm-test.true c.requires.evaluable in
     let guard : IsEvaluable m (term_of a.guard) = subst (λ (x : Arm). IsEvaluable m (term_of x.guard)) (sym c.arm-item.is) good.0 in
     let right : IsEvaluable m (term_of a.right) = subst (λ (x : Arm). IsEvaluable m (term_of x.right)) (sym c.arm-item.is) good.1 in
-    let deep : LaidOut c.args.layout.now c.args.model.now (store_of c.loop-arm.engine) = LaidOut-grows c.loop-arm.invariant.keeps.grows c.requires.laid in
     search rules
 
 pub build_arms-returns-in_err-left-clause-keeps : goal.build_arms-returns-in_err-left-clause-keeps
@@ -177,7 +173,7 @@ build_arms-returns-in_err-left-clause-spends g t c =
     let a : Arm = c.arm-item.result in
     let i = c.loop-arm.invariant in
     list_spends c.args.engine.now.store c.build_arm.new.engine.store (arm_nodes (arms_in arms)) (1 + arm_nodes (arms_in arms)) refl
-    (lists_spend c.args.engine.now.store c.loop-arm.engine.store c.build_arm.new.engine.store i.keeps.grows (nodes_of_arms (take n arms)) (node_count (term_of a.guard) + node_count (term_of a.right)) (arm_nodes (arms_in arms))
+    (lists_spend c.args.engine.now.store c.loop-arm.engine.store c.build_arm.new.engine.store i.keeps.engine.grows (nodes_of_arms (take n arms)) (node_count (term_of a.guard) + node_count (term_of a.right)) (arm_nodes (arms_in arms))
     (arms_more_le arms n a c.loop-arm-test.true c.arm-item.is) i.spends c.build_arm.ensures.spends)
 
 -- ---- elements
@@ -224,13 +220,12 @@ build_elements-build_elements-requires-2 g t c =
     let smaller : 2 * element_nodes (terms_in ys) + 1 < 2 * element_nodes (terms_in es) + 1 = omega (arith, n, nodes-some xs first) in
     let good = halves_evaluable es xs ys (length es / 2) c.split_at.ensures.front c.split_at.ensures.back c.args.model.now c.requires.evaluable in
     let behind : AreEvaluable c.args.model.now (terms_in ys) = good.1 in
-    let deep : LaidOut c.args.layout.now c.args.model.now (store_of c.build_elements.new.engine) = LaidOut-grows c.build_elements.ensures.keeps.grows c.requires.laid in
     search rules
 
 pub build_elements-united-requires-clause-left : goal.build_elements-united-requires-clause-left
 build_elements-united-requires-clause-left g t c =
     let q = c.build_elements-2.new.engine.store in
-    subst (AreCells q) (sym c.deref.ensures.value) (AreCells-grows c.build_elements.new.engine.store q c.build_elements-2.ensures.keeps.grows _ c.in_ok-left.ensures.table.regions)
+    subst (AreCells q) (sym c.deref.ensures.value) (AreCells-grows c.build_elements.new.engine.store q c.build_elements-2.ensures.keeps.engine.grows _ c.in_ok-left.ensures.table.regions)
 
 pub build_elements-united-requires-clause-right : goal.build_elements-united-requires-clause-right
 build_elements-united-requires-clause-right g t c = subst (AreCells c.build_elements-2.new.engine.store) (sym c.deref-2.ensures.value) c.in_ok-right.ensures.table.regions
@@ -247,7 +242,7 @@ build_elements-returns-clause-table g t c =
     let f : List Bool → Checked (List Value) = elements_meaning lay m c.args.next (terms_in xs) in
     let h : List Bool → Checked (List Value) = elements_meaning lay m c.args.next (terms_in ys) in
     united_table q c.united.new.engine.store c.deref.result.now c.deref-2.result.now f h (elements_meaning lay m c.args.next (terms_in es))
-    (subst (λ cells. IsSetTable q cells f) (sym c.deref.ensures.value) (IsSetTable-grows p q c.build_elements-2.ensures.keeps.grows c.in_ok-left.left.items f c.in_ok-left.ensures.table))
+    (subst (λ cells. IsSetTable q cells f) (sym c.deref.ensures.value) (IsSetTable-grows p q c.build_elements-2.ensures.keeps.engine.grows c.in_ok-left.left.items f c.in_ok-left.ensures.table))
     (subst (λ cells. IsSetTable q cells h) (sym c.deref-2.ensures.value) c.in_ok-right.ensures.table)
     (halves_values es xs ys (length es / 2) c.split_at.ensures.front c.split_at.ensures.back lay m c.args.next)
     c.united.result c.united.ensures.cells c.united.ensures.reads
@@ -272,7 +267,7 @@ build_elements-returns-in_err-right-clause-spends g t c =
     let xs = c.split_at.result.0.now in
     let ys = c.split_at.result.1.now in
     let n = halves_nodes es xs ys (length es / 2) c.split_at.ensures.front c.split_at.ensures.back in
-    lists_spend c.args.engine.now.store c.build_elements.new.engine.store c.build_elements-2.new.engine.store c.build_elements.ensures.keeps.grows (element_nodes (terms_in xs)) (element_nodes (terms_in ys)) (element_nodes (terms_in es))
+    lists_spend c.args.engine.now.store c.build_elements.new.engine.store c.build_elements-2.new.engine.store c.build_elements.ensures.keeps.engine.grows (element_nodes (terms_in xs)) (element_nodes (terms_in ys)) (element_nodes (terms_in es))
     (omega (arith, n)) c.build_elements.ensures.spends c.build_elements-2.ensures.spends
 
 pub build_elements-returns-clause-spends : goal.build_elements-returns-clause-spends
@@ -286,7 +281,7 @@ build_elements-returns-clause-spends g t c =
     let q = c.build_elements-2.new.engine.store in
     let some : 0 < length xs = omega (arith, c.split_at.ensures.front_len, c.requires.some) in
     let behind : 0 < length ys = omega (arith, c.split_at.ensures.back_len, c.requires.some) in
-    halves_spend c.args.engine.now.store p q c.united.new.engine.store c.build_elements.ensures.keeps.grows c.build_elements-2.ensures.keeps.grows (element_nodes (terms_in xs)) (element_nodes (terms_in ys)) (element_nodes (terms_in es))
+    halves_spend c.args.engine.now.store p q c.united.new.engine.store c.build_elements.ensures.keeps.engine.grows c.build_elements-2.ensures.keeps.engine.grows (element_nodes (terms_in xs)) (element_nodes (terms_in ys)) (element_nodes (terms_in es))
     (length c.deref.result.now) (length c.deref-2.result.now) (nodes-some xs some) (nodes-some ys behind) (halves_nodes es xs ys (length es / 2) c.split_at.ensures.front c.split_at.ensures.back)
     c.build_elements.ensures.spends c.build_elements-2.ensures.spends c.united.ensures.spends
     (subst (λ (cells : List Cell). length cells ≤ element_nodes (terms_in xs) * 2 ^ levels_of p) (sym c.deref.ensures.value) (set-few p c.in_ok-left.left.items (elements_meaning lay m c.args.next (terms_in xs)) (element_nodes (terms_in xs)) c.in_ok-left.ensures.table
@@ -306,11 +301,10 @@ pub build_arm-build-requires-2 : goal.build_arm-build-requires-2
 build_arm-build-requires-2 g t c =
     let a : Arm = c.args.arm.now in
     let smaller : 2 * node_count (term_of a.right) < 2 * (node_count (term_of a.guard) + node_count (term_of a.right)) = omega (arith, node_count-some (term_of a.guard)) in
-    let deep : LaidOut c.args.layout.now c.args.model.now (store_of c.build.new.engine) = LaidOut-grows c.build.ensures.keeps.grows c.requires.laid in
     search rules
 
 pub build_arm-add_arm-requires-clause-guard : goal.build_arm-add_arm-requires-clause-guard
-build_arm-add_arm-requires-clause-guard g t c = AreCells-grows c.build.new.engine.store c.build-2.new.engine.store c.build-2.ensures.keeps.grows _ c.in_ok-guard.ensures.table.regions
+build_arm-add_arm-requires-clause-guard g t c = AreCells-grows c.build.new.engine.store c.build-2.new.engine.store c.build-2.ensures.keeps.engine.grows _ c.in_ok-guard.ensures.table.regions
 
 pub build_arm-add_arm-requires-clause-right : goal.build_arm-add_arm-requires-clause-right
 build_arm-add_arm-requires-clause-right g t c = subst (AreCells c.build-2.new.engine.store) (sym c.deref.ensures.value) c.in_ok-right.ensures.table.regions
@@ -318,12 +312,12 @@ build_arm-add_arm-requires-clause-right g t c = subst (AreCells c.build-2.new.en
 pub build_arm-add_arm-requires-clause-left : goal.build_arm-add_arm-requires-clause-left
 build_arm-add_arm-requires-clause-left g t c =
     let k = keeps_join c.build.ensures.keeps c.build-2.ensures.keeps in
-    k.grows.has c.args.left c.requires.left
+    k.engine.grows.has c.args.left c.requires.left
 
 pub build_arm-add_arm-requires-clause-out : goal.build_arm-add_arm-requires-clause-out
 build_arm-add_arm-requires-clause-out g t c =
     let k = keeps_join c.build.ensures.keeps c.build-2.ensures.keeps in
-    AreCells-grows c.args.engine.now.store c.build-2.new.engine.store k.grows c.args.out.now.items c.requires.out
+    AreCells-grows c.args.engine.now.store c.build-2.new.engine.store k.engine.grows c.args.out.now.items c.requires.out
 
 pub build_arm-returns-clause-shows : goal.build_arm-returns-clause-shows
 build_arm-returns-clause-shows g t c =
@@ -333,10 +327,10 @@ build_arm-returns-clause-shows g t c =
     let s = c.args.engine.now.store in
     let p = c.build.new.engine.store in
     let q = c.build-2.new.engine.store in
-    let s_q = Grows-then s p q c.build.ensures.keeps.grows c.build-2.ensures.keeps.grows in
+    let s_q = Grows-then s p q c.build.ensures.keeps.engine.grows c.build-2.ensures.keeps.engine.grows in
     let f : List Bool → Checked (List Value) = meaning_of lay m c.args.next (term_of a.guard) in
     let d : List Bool → Checked (List Value) = meaning_of lay m c.args.next (term_of a.right) in
-    let table = IsTable-grows p q c.build-2.ensures.keeps.grows _ _ f c.in_ok-guard.ensures.table in
+    let table = IsTable-grows p q c.build-2.ensures.keeps.engine.grows _ _ f c.in_ok-guard.ensures.table in
     on_ok_weaker c.add_arm.result (λ shown bits k.
     shown bits (f bits) (d bits) (operand q _ _ f table (λ xs. eval_proper m (term_of a.guard) _ _ c.requires.guard) bits)
     (subst (λ xs. Reads (λ r. value_of q r bits) xs (d bits)) (sym c.deref.ensures.value) (c.in_ok-right.ensures.table.reads bits)) k
@@ -351,9 +345,9 @@ build_arm-returns-clause-rest g t c =
     let s = c.args.engine.now.store in
     let p = c.build.new.engine.store in
     let q = c.build-2.new.engine.store in
-    let s_q = Grows-then s p q c.build.ensures.keeps.grows c.build-2.ensures.keeps.grows in
+    let s_q = Grows-then s p q c.build.ensures.keeps.engine.grows c.build-2.ensures.keeps.engine.grows in
     let f : List Bool → Checked (List Value) = meaning_of lay m c.args.next (term_of a.guard) in
-    let table = IsTable-grows p q c.build-2.ensures.keeps.grows _ _ f c.in_ok-guard.ensures.table in
+    let table = IsTable-grows p q c.build-2.ensures.keeps.engine.grows _ _ f c.in_ok-guard.ensures.table in
     if_ok c.add_arm.result c.add_arm.ensures.rest (λ r h bits.
     h bits (f bits) (operand q _ _ f table (λ xs. eval_proper m (term_of a.guard) _ _ c.requires.guard) bits)
     ∙ (λ j. s_q.value c.args.left c.requires.left bits j && goes_on (guard_of (f bits))))
@@ -368,12 +362,12 @@ pub build_arm-returns-in_err-guard-clause-spends : goal.build_arm-returns-in_err
 build_arm-returns-in_err-guard-clause-spends g t c =
     let a : Arm = c.args.arm.now in
     let p = c.build.new.engine.store in
-    arm_guard c.args.engine.now.store p p c.build.ensures.keeps.grows (Grows-same p) (node_count (term_of a.guard)) (node_count (term_of a.right)) (node_count-some (term_of a.guard)) (node_count-some (term_of a.right)) c.build.ensures.spends
+    arm_guard c.args.engine.now.store p p c.build.ensures.keeps.engine.grows (Grows-same p) (node_count (term_of a.guard)) (node_count (term_of a.right)) (node_count-some (term_of a.guard)) (node_count-some (term_of a.right)) c.build.ensures.spends
 
 pub build_arm-returns-in_err-right-clause-spends : goal.build_arm-returns-in_err-right-clause-spends
 build_arm-returns-in_err-right-clause-spends g t c =
     let a : Arm = c.args.arm.now in
-    arm_right c.args.engine.now.store c.build.new.engine.store c.build-2.new.engine.store c.build.ensures.keeps.grows c.build-2.ensures.keeps.grows (node_count (term_of a.guard)) (node_count (term_of a.right))
+    arm_right c.args.engine.now.store c.build.new.engine.store c.build-2.new.engine.store c.build.ensures.keeps.engine.grows c.build-2.ensures.keeps.engine.grows (node_count (term_of a.guard)) (node_count (term_of a.right))
     (node_count-some (term_of a.guard)) (node_count-some (term_of a.right)) c.build.ensures.spends c.build-2.ensures.spends
 
 pub build_arm-returns-clause-spends : goal.build_arm-returns-clause-spends
@@ -385,7 +379,7 @@ build_arm-returns-clause-spends g t c =
     let q = c.build-2.new.engine.store in
     let f : List Bool → Checked (List Value) = meaning_of lay m c.args.next (term_of a.guard) in
     let d : List Bool → Checked (List Value) = meaning_of lay m c.args.next (term_of a.right) in
-    arm_spends c.args.engine.now.store p q c.build.ensures.keeps.grows c.build-2.ensures.keeps.grows (node_count (term_of a.guard)) (node_count (term_of a.right))
+    arm_spends c.args.engine.now.store p q c.build.ensures.keeps.engine.grows c.build-2.ensures.keeps.engine.grows (node_count (term_of a.guard)) (node_count (term_of a.right))
     (node_count-some (term_of a.guard)) (node_count-some (term_of a.right)) c.build.ensures.spends c.build-2.ensures.spends
     c.add_arm.new.engine.store (length c.in_ok-guard.guard.cells.items) (length c.deref.result.now)
     (table-few p c.in_ok-guard.guard.cells.items _ f (node_count (term_of a.guard)) c.in_ok-guard.ensures.table (λ bits. eval_amount m (term_of a.guard) (state_shown lay c.args.next bits) (state_shown lay true bits)))
@@ -430,7 +424,7 @@ build-returns-in_ok-operand-in-Not-clause-spends g t c =
     let is : term_of c.args.expr.now ≡ Term.Not e = ap term_of c.in-Not.is ∙ ap (λ (x : Expr). Term.Not (term_of x)) (sym c.deref-in-Not.ensures) in
     let s = c.args.engine.now.store in
     let b = c.build-in-Not.new.engine.store in
-    not_spends s b c.negated.new.engine.store c.build-in-Not.ensures.keeps.grows (node_count e) (node_count (term_of c.args.expr.now)) (length c.in_ok-operand-in-Not.operand.cells.items) (ap node_count is)
+    not_spends s b c.negated.new.engine.store c.build-in-Not.ensures.keeps.engine.grows (node_count e) (node_count (term_of c.args.expr.now)) (length c.in_ok-operand-in-Not.operand.cells.items) (ap node_count is)
     c.build-in-Not.ensures.spends c.negated.ensures.spends
     (table-few b c.in_ok-operand-in-Not.operand.cells.items _ (meaning_of lay m c.args.next e) (node_count e) c.in_ok-operand-in-Not.ensures.table (λ bits. eval_amount m e (state_shown lay c.args.next bits) (state_shown lay true bits)))
 
@@ -448,8 +442,8 @@ build-returns-in_ok-right-in-Binary-clause-spends g t c =
     let h : List Bool → Checked (List Value) = meaning_of lay m c.args.next b in
     let left = c.in_ok-left-in-Binary.left in
     let right = c.in_ok-right-in-Binary.right in
-    let there = IsTable-grows s z c.build-in-Binary-2.ensures.keeps.grows left.cells.items left.single f c.in_ok-left-in-Binary.ensures.table in
-    binary_spends c.args.engine.now.store s z c.binary_of.new.engine.store c.build-in-Binary.ensures.keeps.grows c.build-in-Binary-2.ensures.keeps.grows (node_count a) (node_count b) (node_count (term_of c.args.expr.now))
+    let there = IsTable-grows s z c.build-in-Binary-2.ensures.keeps.engine.grows left.cells.items left.single f c.in_ok-left-in-Binary.ensures.table in
+    binary_spends c.args.engine.now.store s z c.binary_of.new.engine.store c.build-in-Binary.ensures.keeps.engine.grows c.build-in-Binary-2.ensures.keeps.engine.grows (node_count a) (node_count b) (node_count (term_of c.args.expr.now))
     (length left.cells.items) (length right.cells.items) (ap node_count is) c.build-in-Binary.ensures.spends c.build-in-Binary-2.ensures.spends
     (c.binary_of.ensures.spends
     (record { result = λ bits. (f bits, operand z left.cells.items left.single f there (λ xs. eval_proper m a _ _ good.0) bits) })
@@ -478,7 +472,7 @@ build-returns-in-Case-clause-spends g t c =
 
 pub build_arms-returns-clause-spends : goal.build_arms-returns-clause-spends
 build_arms-returns-clause-spends g t c =
-    arms_spend c.args.engine.now.store c.loop-arm.engine.store c.add.new.engine.store c.loop-arm.invariant.keeps.grows (nodes_of_arms (take c.loop-arm.arm-index c.args.arms.now)) (arm_nodes (arms_in c.args.arms.now))
+    arms_spend c.args.engine.now.store c.loop-arm.engine.store c.add.new.engine.store c.loop-arm.invariant.keeps.engine.grows (nodes_of_arms (take c.loop-arm.arm-index c.args.arms.now)) (arm_nodes (arms_in c.args.arms.now))
     (sym (arms_all c.args.arms.now c.loop-arm.arm-index c.loop-arm-test.false)) c.loop-arm.invariant.spends c.add.ensures.spends
 
 -- ---- growth where the store is full, or memory ran out
@@ -500,7 +494,7 @@ build-returns-in_err-right-in-Binary-clause-spends g t c =
     let a : Term = term_of c.deref-in-Binary.result.now in
     let b : Term = term_of c.deref-in-Binary-2.result.now in
     let is : term_of c.args.expr.now ≡ Term.Binary c.in-Binary.op a b = ap term_of c.in-Binary.is ∙ (λ i. Term.Binary c.in-Binary.op (term_of (sym c.deref-in-Binary.ensures i)) (term_of (sym c.deref-in-Binary-2.ensures i))) in
-    both_spend c.args.engine.now.store c.build-in-Binary.new.engine.store c.build-in-Binary-2.new.engine.store c.build-in-Binary.ensures.keeps.grows (node_count a) (node_count b) (node_count (term_of c.args.expr.now)) (ap node_count is)
+    both_spend c.args.engine.now.store c.build-in-Binary.new.engine.store c.build-in-Binary-2.new.engine.store c.build-in-Binary.ensures.keeps.engine.grows (node_count a) (node_count b) (node_count (term_of c.args.expr.now)) (ap node_count is)
     c.build-in-Binary.ensures.spends c.build-in-Binary-2.ensures.spends
 
 pub build-returns-in_err-cells-in-Braces-2-clause-spends : goal.build-returns-in_err-cells-in-Braces-2-clause-spends
@@ -510,7 +504,7 @@ build-returns-in_err-cells-in-Braces-2-clause-spends g t c =
 
 pub build_arms-returns-in_err-add-clause-spends : goal.build_arms-returns-in_err-add-clause-spends
 build_arms-returns-in_err-add-clause-spends g t c =
-    arms_spend c.args.engine.now.store c.loop-arm.engine.store c.add.new.engine.store c.loop-arm.invariant.keeps.grows (nodes_of_arms (take c.loop-arm.arm-index c.args.arms.now)) (arm_nodes (arms_in c.args.arms.now))
+    arms_spend c.args.engine.now.store c.loop-arm.engine.store c.add.new.engine.store c.loop-arm.invariant.keeps.engine.grows (nodes_of_arms (take c.loop-arm.arm-index c.args.arms.now)) (arm_nodes (arms_in c.args.arms.now))
     (sym (arms_all c.args.arms.now c.loop-arm.arm-index c.loop-arm-test.false)) c.loop-arm.invariant.spends c.add.ensures.spends
 
 pub build-returns-in_err-right-in-Binary-clause-keeps : goal.build-returns-in_err-right-in-Binary-clause-keeps

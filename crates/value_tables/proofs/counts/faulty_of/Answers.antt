@@ -9,7 +9,7 @@ with_fault-requires-clause-faulty g c = c.loop-cell.invariant.region.has
 
 pub with_fault-requires-clause-cell : goal.with_fault-requires-clause-cell
 with_fault-requires-clause-cell g c =
-    has_item_now c.args.engine.now.store c.loop-cell.engine.store c.loop-cell.engine.store c.loop-cell.invariant.keeps.grows c.args.cells.now c.loop-cell.cell-index c.cell-item.result c.loop-cell-test.true c.cell-item.is c.requires
+    has_item_now c.args.engine.now.store c.loop-cell.engine.store c.loop-cell.engine.store c.loop-cell.invariant.keeps.engine.grows c.args.cells.now c.loop-cell.cell-index c.cell-item.result c.loop-cell-test.true c.cell-item.is c.requires
 
 pub loop-cell-init : goal.loop-cell-init
 loop-cell-init g c = record {
@@ -26,9 +26,9 @@ loop-cell-preserved g c =
     let i = c.loop-cell.invariant in
     let e = c.in_ok-faulty.ensures in
     record {
-      region = IsRegion-more s a b i.keeps.grows c.args.cells.now c.loop-cell.cell-index c.cell-item.result c.loop-cell-test.true c.cell-item.is c.requires (λ bits. is_fault) c.loop-cell.faulty c.in_ok-faulty.faulty i.region e.region.has e.region.value;
+      region = IsRegion-more s a b i.keeps.engine.grows c.args.cells.now c.loop-cell.cell-index c.cell-item.result c.loop-cell-test.true c.cell-item.is c.requires (λ bits. is_fault) c.loop-cell.faulty c.in_ok-faulty.faulty i.region e.region.has e.region.value;
       keeps = Keeps-then c.args.engine.now c.loop-cell.engine c.with_fault.new.engine c.args.steps.now c.loop-cell.steps c.with_fault.new.steps i.keeps c.with_fault.ensures.keeps;
-      spends = Spends-then s a b c.loop-cell.cell-index 1 (c.loop-cell.cell-index + 1) i.keeps.grows.levels (omega arith) i.spends c.with_fault.ensures.spends;
+      spends = Spends-then s a b c.loop-cell.cell-index 1 (c.loop-cell.cell-index + 1) i.keeps.engine.grows.levels (omega arith) i.spends c.with_fault.ensures.spends;
     }
 
 pub returns-clause-region : goal.returns-clause-region

@@ -11,7 +11,7 @@ one_more-requires-clause-two g c = c.loop-cell.invariant.two.has
 
 pub one_more-requires-clause-region : goal.one_more-requires-clause-region
 one_more-requires-clause-region g c =
-    has_item_now c.args.engine.now.store c.loop-cell.engine.store c.loop-cell.engine.store c.loop-cell.invariant.keeps.grows c.args.cells.now c.loop-cell.cell-index c.cell-item.result c.loop-cell-test.true c.cell-item.is c.requires
+    has_item_now c.args.engine.now.store c.loop-cell.engine.store c.loop-cell.engine.store c.loop-cell.invariant.keeps.engine.grows c.args.cells.now c.loop-cell.cell-index c.cell-item.result c.loop-cell-test.true c.cell-item.is c.requires
 
 pub loop-cell-init : goal.loop-cell-init
 loop-cell-init g c = record {
@@ -29,10 +29,10 @@ loop-cell-preserved g c =
     let i = c.loop-cell.invariant in
     let e = c.in_ok-so_far.ensures in
     record {
-      one = one_more s a b i.keeps.grows c.args.cells.now c.loop-cell.cell-index c.cell-item.result c.loop-cell-test.true c.cell-item.is c.requires c.loop-cell.so_far.one c.loop-cell.so_far.two i.one c.in_ok-so_far.so_far.one e.one;
-      two = two_more s a b i.keeps.grows c.args.cells.now c.loop-cell.cell-index c.cell-item.result c.loop-cell-test.true c.cell-item.is c.requires c.loop-cell.so_far.one c.loop-cell.so_far.two i.one i.two c.in_ok-so_far.so_far.two e.two;
+      one = one_more s a b i.keeps.engine.grows c.args.cells.now c.loop-cell.cell-index c.cell-item.result c.loop-cell-test.true c.cell-item.is c.requires c.loop-cell.so_far.one c.loop-cell.so_far.two i.one c.in_ok-so_far.so_far.one e.one;
+      two = two_more s a b i.keeps.engine.grows c.args.cells.now c.loop-cell.cell-index c.cell-item.result c.loop-cell-test.true c.cell-item.is c.requires c.loop-cell.so_far.one c.loop-cell.so_far.two i.one i.two c.in_ok-so_far.so_far.two e.two;
       keeps = Keeps-then c.args.engine.now c.loop-cell.engine c.one_more.new.engine c.args.steps.now c.loop-cell.steps c.one_more.new.steps i.keeps c.one_more.ensures.keeps;
-      spends = Spends-then s a b (3 * c.loop-cell.cell-index) 3 (3 * (c.loop-cell.cell-index + 1)) i.keeps.grows.levels (omega arith) i.spends c.one_more.ensures.spends;
+      spends = Spends-then s a b (3 * c.loop-cell.cell-index) 3 (3 * (c.loop-cell.cell-index + 1)) i.keeps.engine.grows.levels (omega arith) i.spends c.one_more.ensures.spends;
     }
 
 pub returns-clause-region : goal.returns-clause-region

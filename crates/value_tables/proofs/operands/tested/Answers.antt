@@ -15,7 +15,7 @@ returns-clause-reads g c =
     let b = c.outside.new.engine.store in
     let d = c.spread.new.engine.store in
     let cells = c.args.table.now.cells.items in
-    let to_b = Grows-then s a b c.many_in.ensures.keeps.grows c.outside.ensures.keeps.grows in
+    let to_b = Grows-then s a b c.many_in.ensures.keeps.engine.grows c.outside.ensures.keeps.engine.grows in
     λ bits r h proper flag. record {
       each = λ k. tested_each (λ q. value_of s q bits) cells r c.requires.once h proper c.args.table.now.single flag c.args.test k _ _ _ _ _ _ _
           (c.in_ok-add.ensures.shows bits k)
@@ -23,7 +23,7 @@ returns-clause-reads g c =
           (ap (λ xs. shows (λ q. value_of b q bits) xs k) c.new-out.ensures.items)
           (ap (any_cell (λ q. value_of b q bits) (becomes (Pick.Tested c.args.test) k)) c.deref.ensures.value ∙ any_cell-grows s b to_b cells c.requires.has bits (becomes (Pick.Tested c.args.test) k))
           (c.in_ok-one.ensures.region.value bits)
-          ((Grows-then a b d c.outside.ensures.keeps.grows c.spread.ensures.keeps.grows).value c.in_ok-many.many c.in_ok-many.ensures.region.has bits)
+          ((Grows-then a b d c.outside.ensures.keeps.engine.grows c.spread.ensures.keeps.engine.grows).value c.in_ok-many.many c.in_ok-many.ensures.region.has bits)
           (c.in_ok-many.ensures.region.value bits);
     }
 

@@ -23,18 +23,18 @@ connected-requires-clause-b g c =
 pub settled-requires-clause-left : goal.settled-requires-clause-left
 settled-requires-clause-left g c =
     let m = c.connected.new.engine.store in
-    subst (AreCells m) (sym c.deref.ensures.value) (AreCells-grows c.args.engine.now.store m c.connected.ensures.keeps.grows c.args.left.now.items c.requires.left)
+    subst (AreCells m) (sym c.deref.ensures.value) (AreCells-grows c.args.engine.now.store m c.connected.ensures.keeps.engine.grows c.args.left.now.items c.requires.left)
 
 pub settled-requires-clause-right : goal.settled-requires-clause-right
 settled-requires-clause-right g c =
     let m = c.connected.new.engine.store in
-    subst (AreCells m) (sym c.deref-2.ensures.value) (AreCells-grows c.args.engine.now.store m c.connected.ensures.keeps.grows c.args.right.now.items c.requires.right)
+    subst (AreCells m) (sym c.deref-2.ensures.value) (AreCells-grows c.args.engine.now.store m c.connected.ensures.keeps.engine.grows c.args.right.now.items c.requires.right)
 
 pub returns-clause-reads : goal.returns-clause-reads
 returns-clause-reads g c =
     let s = c.args.engine.now.store in
     let m = c.connected.new.engine.store in
-    let grows = c.connected.ensures.keeps.grows in
+    let grows = c.connected.ensures.keeps.engine.grows in
     let left = c.args.left.now.items in
     let right = c.args.right.now.items in
     if_ok c.settled.result c.settled.ensures.reads (λ t reads bits a b x y.
@@ -56,5 +56,5 @@ pub returns-clause-spends : goal.returns-clause-spends
 returns-clause-spends g c =
     let l = ap length c.deref.ensures.value in
     let r = ap length c.deref-2.ensures.value in
-    Spends-then c.args.engine.now.store c.connected.new.engine.store c.settled.new.engine.store 2 (3 * length c.deref.result.now + 3 * length c.deref-2.result.now + 8) _ c.connected.ensures.keeps.grows.levels
+    Spends-then c.args.engine.now.store c.connected.new.engine.store c.settled.new.engine.store 2 (3 * length c.deref.result.now + 3 * length c.deref-2.result.now + 8) _ c.connected.ensures.keeps.engine.grows.levels
     (omega (arith, l, r)) c.connected.ensures.spends c.settled.ensures.spends

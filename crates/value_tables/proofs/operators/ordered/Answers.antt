@@ -10,16 +10,16 @@ use Rattle.value_tables.proofs.OrderLemmas.{comparison_judged}
 use Rattle.value_tables.proofs.operators.ordered.Goals as goal
 
 pub settled-requires-clause-left : goal.settled-requires-clause-left
-settled-requires-clause-left g c = AreCells-grows c.args.engine.now.store c.related.new.engine.store c.related.ensures.keeps.grows c.args.left.now c.requires.left
+settled-requires-clause-left g c = AreCells-grows c.args.engine.now.store c.related.new.engine.store c.related.ensures.keeps.engine.grows c.args.left.now c.requires.left
 
 pub settled-requires-clause-right : goal.settled-requires-clause-right
-settled-requires-clause-right g c = AreCells-grows c.args.engine.now.store c.related.new.engine.store c.related.ensures.keeps.grows c.args.right.now c.requires.right
+settled-requires-clause-right g c = AreCells-grows c.args.engine.now.store c.related.new.engine.store c.related.ensures.keeps.engine.grows c.args.right.now c.requires.right
 
 pub returns-clause-reads : goal.returns-clause-reads
 returns-clause-reads g c =
     let s = c.args.engine.now.store in
     let m = c.related.new.engine.store in
-    let grows = c.related.ensures.keeps.grows in
+    let grows = c.related.ensures.keeps.engine.grows in
     let left = c.args.left.now in
     let right = c.args.right.now in
     if_ok c.settled.result c.settled.ensures.reads (λ t reads bits a b x y.
@@ -40,5 +40,5 @@ pub returns-clause-spends : goal.returns-clause-spends
 returns-clause-spends g c =
     let l = length c.args.left.now in
     let r = length c.args.right.now in
-    Spends-then c.args.engine.now.store c.related.new.engine.store c.settled.new.engine.store (5 * l + 5 * r) (3 * l + 3 * r + 8) _ c.related.ensures.keeps.grows.levels
+    Spends-then c.args.engine.now.store c.related.new.engine.store c.settled.new.engine.store (5 * l + 5 * r) (3 * l + 3 * r + 8) _ c.related.ensures.keeps.engine.grows.levels
     (omega arith) c.related.ensures.spends c.settled.ensures.spends

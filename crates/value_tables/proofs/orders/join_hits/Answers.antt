@@ -6,7 +6,7 @@ use Rattle.value_tables.proofs.orders.join_hits.Goals as goal
 
 pub returns-clause-region : goal.returns-clause-region
 returns-clause-region g c =
-    let e = c.join.ensures.keeps.grows in
+    let e = c.join.ensures.keeps.engine.grows in
     if_ok c.join_both.result c.join_both.ensures.region (λ r h. record {
       has = h.has;
       value = λ bits. h.value bits ∙ (λ i. c.in_ok-either.ensures.region.value bits i
@@ -24,5 +24,5 @@ returns-in_err-either-clause-spends g c =
 
 pub returns-clause-spends : goal.returns-clause-spends
 returns-clause-spends g c = Spends-then c.args.engine.now.store c.join.new.engine.store
-    c.join_both.new.engine.store 1 2 3 c.join.ensures.keeps.grows.levels
+    c.join_both.new.engine.store 1 2 3 c.join.ensures.keeps.engine.grows.levels
     (omega arith) c.join.ensures.spends c.join_both.ensures.spends

@@ -10,10 +10,10 @@ use Rattle.value_tables.proofs.pairs.pair_up.Goals as goal
 
 pub pair_with-requires-clause-cell : goal.pair_with-requires-clause-cell
 pair_with-requires-clause-cell g c =
-    has_item_now c.args.engine.now.store c.loop-cell.engine.store c.loop-cell.engine.store c.loop-cell.invariant.keeps.grows c.args.left.now c.loop-cell.cell-index c.cell-item.result c.loop-cell-test.true c.cell-item.is c.requires.left
+    has_item_now c.args.engine.now.store c.loop-cell.engine.store c.loop-cell.engine.store c.loop-cell.invariant.keeps.engine.grows c.args.left.now c.loop-cell.cell-index c.cell-item.result c.loop-cell-test.true c.cell-item.is c.requires.left
 
 pub pair_with-requires-clause-right : goal.pair_with-requires-clause-right
-pair_with-requires-clause-right g c = has-grows c.args.engine.now.store c.loop-cell.engine.store c.loop-cell.invariant.keeps.grows c.args.right.now c.requires.right
+pair_with-requires-clause-right g c = has-grows c.args.engine.now.store c.loop-cell.engine.store c.loop-cell.invariant.keeps.engine.grows c.args.right.now c.requires.right
 
 pub pair_with-requires-clause-out : goal.pair_with-requires-clause-out
 pair_with-requires-clause-out g c = c.loop-cell.invariant.cells
@@ -39,11 +39,11 @@ loop-cell-preserved g c =
     let e = c.in_ok-pair_with.ensures in
     record {
       cells = e.cells;
-      shows = λ bits k. pairs_step s a i.keeps.grows c.args.left.now c.args.right.now c.requires.left c.requires.right c.args.op k bits c.loop-cell.cell-index c.cell-item.result c.loop-cell-test.true c.cell-item.is _ _ _ (i.shows bits k) (e.shows bits k);
+      shows = λ bits k. pairs_step s a i.keeps.engine.grows c.args.left.now c.args.right.now c.requires.left c.requires.right c.args.op k bits c.loop-cell.cell-index c.cell-item.result c.loop-cell-test.true c.cell-item.is _ _ _ (i.shows bits k) (e.shows bits k);
       keeps = Keeps-then c.args.engine.now c.loop-cell.engine c.pair_with.new.engine c.args.steps.now c.loop-cell.steps c.pair_with.new.steps i.keeps c.pair_with.ensures.keeps;
-      thrifty = λ apart. Spends-then s a b (2 * weights s (take c.loop-cell.cell-index c.args.left.now)) (2 * weight a c.cell-item.result.region) (2 * weights s (take (c.loop-cell.cell-index + 1) c.args.left.now)) i.keeps.grows.levels
-          (omega (arith, weights_more s a i.keeps.grows c.args.left.now c.loop-cell.cell-index c.cell-item.result c.loop-cell-test.true c.cell-item.is c.requires.left)) (i.thrifty apart)
-          (e.thrifty (AreApart-grows s a i.keeps.grows c.args.right.now c.requires.right apart));
+      thrifty = λ apart. Spends-then s a b (2 * weights s (take c.loop-cell.cell-index c.args.left.now)) (2 * weight a c.cell-item.result.region) (2 * weights s (take (c.loop-cell.cell-index + 1) c.args.left.now)) i.keeps.engine.grows.levels
+          (omega (arith, weights_more s a i.keeps.engine.grows c.args.left.now c.loop-cell.cell-index c.cell-item.result c.loop-cell-test.true c.cell-item.is c.requires.left)) (i.thrifty apart)
+          (e.thrifty (AreApart-grows s a i.keeps.engine.grows c.args.right.now c.requires.right apart));
     }
 
 pub returns-clause-shows : goal.returns-clause-shows
@@ -62,6 +62,6 @@ returns-in_err-pair_with-clause-frugal g c =
     let s = c.args.engine.now.store in
     let a = c.loop-cell.engine.store in
     let i = c.loop-cell.invariant in
-    λ apart. Spends-then s a c.pair_with.new.engine.store _ _ (2 * weights s c.args.left.now + 1) i.keeps.grows.levels
-    (omega (arith, weights_more_le s a i.keeps.grows c.args.left.now c.loop-cell.cell-index c.cell-item.result c.loop-cell-test.true c.cell-item.is c.requires.left)) (i.thrifty apart)
-    (c.pair_with.ensures.frugal (AreApart-grows s a i.keeps.grows c.args.right.now c.requires.right apart))
+    λ apart. Spends-then s a c.pair_with.new.engine.store _ _ (2 * weights s c.args.left.now + 1) i.keeps.engine.grows.levels
+    (omega (arith, weights_more_le s a i.keeps.engine.grows c.args.left.now c.loop-cell.cell-index c.cell-item.result c.loop-cell-test.true c.cell-item.is c.requires.left)) (i.thrifty apart)
+    (c.pair_with.ensures.frugal (AreApart-grows s a i.keeps.engine.grows c.args.right.now c.requires.right apart))

@@ -14,4 +14,4 @@ pub returns-in_err-either-clause-spends : goal.returns-in_err-either-clause-spen
 returns-in_err-either-clause-spends g c = Spends-more c.args.engine.now.store c.join.new.engine.store 1 2 (omega arith) c.join.ensures.spends
 
 pub returns-clause-spends : goal.returns-clause-spends
-returns-clause-spends g c = Spends-then c.args.engine.now.store c.join.new.engine.store c.outside.new.engine.store 1 1 2 c.join.ensures.keeps.grows.levels (omega arith) c.join.ensures.spends c.outside.ensures.spends
+returns-clause-spends g c = Spends-then c.args.engine.now.store c.join.new.engine.store c.outside.new.engine.store 1 1 2 c.join.ensures.keeps.engine.grows.levels (omega arith) c.join.ensures.spends c.outside.ensures.spends

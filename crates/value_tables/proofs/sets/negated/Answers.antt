@@ -21,13 +21,13 @@ returns-clause-reads g c =
 pub returns-clause-spends : goal.returns-clause-spends
 returns-clause-spends g c =
     let l = ap length c.deref.ensures.value in
-    Spends-then c.args.engine.now.store c.tested.new.engine.store c.spread.new.engine.store (5 * length c.args.operand.now.cells.items + 2) (2 * length c.deref.result.now) _ c.tested.ensures.keeps.grows.levels
+    Spends-then c.args.engine.now.store c.tested.new.engine.store c.spread.new.engine.store (5 * length c.args.operand.now.cells.items + 2) (2 * length c.deref.result.now) _ c.tested.ensures.keeps.engine.grows.levels
     (omega (arith, l, c.in_ok-boolean.ensures.few)) c.tested.ensures.spends c.spread.ensures.spends
 
 pub returns-in_err-spread-clause-spends : goal.returns-in_err-spread-clause-spends
 returns-in_err-spread-clause-spends g c =
     let l = ap length c.deref.ensures.value in
-    Spends-then c.args.engine.now.store c.tested.new.engine.store c.spread.new.engine.store (5 * length c.args.operand.now.cells.items + 2) (2 * length c.deref.result.now) _ c.tested.ensures.keeps.grows.levels
+    Spends-then c.args.engine.now.store c.tested.new.engine.store c.spread.new.engine.store (5 * length c.args.operand.now.cells.items + 2) (2 * length c.deref.result.now) _ c.tested.ensures.keeps.engine.grows.levels
     (omega (arith, l, c.in_ok-boolean.ensures.few)) c.tested.ensures.spends c.spread.ensures.spends
 
 pub returns-in_err-boolean-clause-spends : goal.returns-in_err-boolean-clause-spends

@@ -10,10 +10,10 @@ use Rattle.value_tables.proofs.spread.spread.Goals as goal
 
 pub put-requires-clause-cell : goal.put-requires-clause-cell
 put-requires-clause-cell g c =
-    has_item_now c.args.engine.now.store c.loop-cell.engine.store c.loop-cell.engine.store c.loop-cell.invariant.keeps.grows c.args.cells.now c.loop-cell.cell-index c.cell-item.result c.loop-cell-test.true c.cell-item.is c.requires.cells
+    has_item_now c.args.engine.now.store c.loop-cell.engine.store c.loop-cell.engine.store c.loop-cell.invariant.keeps.engine.grows c.args.cells.now c.loop-cell.cell-index c.cell-item.result c.loop-cell-test.true c.cell-item.is c.requires.cells
 
 pub put-requires-clause-within : goal.put-requires-clause-within
-put-requires-clause-within g c = c.loop-cell.invariant.keeps.grows.has c.args.within c.requires.within
+put-requires-clause-within g c = c.loop-cell.invariant.keeps.engine.grows.has c.args.within c.requires.within
 
 pub put-requires-clause-out : goal.put-requires-clause-out
 put-requires-clause-out g c = c.loop-cell.invariant.cells
@@ -37,12 +37,12 @@ loop-cell-preserved g c =
     let e = c.in_ok-put.ensures in
     record {
       cells = e.cells;
-      shows = λ bits k. spread_step s a i.keeps.grows c.args.cells.now c.loop-cell.cell-index c.cell-item.result c.loop-cell-test.true c.cell-item.is c.requires.cells c.args.within c.requires.within _ _ _ (becomes c.args.pick k) bits (i.shows bits k) (e.shows bits k);
+      shows = λ bits k. spread_step s a i.keeps.engine.grows c.args.cells.now c.loop-cell.cell-index c.cell-item.result c.loop-cell-test.true c.cell-item.is c.requires.cells c.args.within c.requires.within _ _ _ (becomes c.args.pick k) bits (i.shows bits k) (e.shows bits k);
       few = omega (arith, e.few);
       keeps = Keeps-then c.args.engine.now c.loop-cell.engine c.put.new.engine c.args.steps.now c.loop-cell.steps c.put.new.steps i.keeps c.put.ensures.keeps;
-      thrifty = Spends-then s a b (2 * overlaps s (take c.loop-cell.cell-index c.args.cells.now) c.args.within) (2 * overlap a c.cell-item.result.region c.args.within) (2 * overlaps s (take (c.loop-cell.cell-index + 1) c.args.cells.now) c.args.within) i.keeps.grows.levels
-          (omega (arith, overlaps_more s a i.keeps.grows c.args.cells.now c.loop-cell.cell-index c.cell-item.result c.loop-cell-test.true c.cell-item.is c.requires.cells c.args.within c.requires.within)) i.thrifty e.thrifty;
-      spends = Spends-then s a b (2 * c.loop-cell.cell-index) 2 (2 * (c.loop-cell.cell-index + 1)) i.keeps.grows.levels (omega arith) i.spends c.put.ensures.spends;
+      thrifty = Spends-then s a b (2 * overlaps s (take c.loop-cell.cell-index c.args.cells.now) c.args.within) (2 * overlap a c.cell-item.result.region c.args.within) (2 * overlaps s (take (c.loop-cell.cell-index + 1) c.args.cells.now) c.args.within) i.keeps.engine.grows.levels
+          (omega (arith, overlaps_more s a i.keeps.engine.grows c.args.cells.now c.loop-cell.cell-index c.cell-item.result c.loop-cell-test.true c.cell-item.is c.requires.cells c.args.within c.requires.within)) i.thrifty e.thrifty;
+      spends = Spends-then s a b (2 * c.loop-cell.cell-index) 2 (2 * (c.loop-cell.cell-index + 1)) i.keeps.engine.grows.levels (omega arith) i.spends c.put.ensures.spends;
     }
 
 pub returns-clause-shows : goal.returns-clause-shows
@@ -63,5 +63,5 @@ returns-in_err-put-clause-frugal g c =
     let s = c.args.engine.now.store in
     let a = c.loop-cell.engine.store in
     let i = c.loop-cell.invariant in
-    Spends-then s a c.put.new.engine.store _ _ (2 * overlaps s c.args.cells.now c.args.within + 1) i.keeps.grows.levels
-    (omega (arith, overlaps_more_le s a i.keeps.grows c.args.cells.now c.loop-cell.cell-index c.cell-item.result c.loop-cell-test.true c.cell-item.is c.requires.cells c.args.within c.requires.within)) i.thrifty c.put.ensures.frugal
+    Spends-then s a c.put.new.engine.store _ _ (2 * overlaps s c.args.cells.now c.args.within + 1) i.keeps.engine.grows.levels
+    (omega (arith, overlaps_more_le s a i.keeps.engine.grows c.args.cells.now c.loop-cell.cell-index c.cell-item.result c.loop-cell-test.true c.cell-item.is c.requires.cells c.args.within c.requires.within)) i.thrifty c.put.ensures.frugal
