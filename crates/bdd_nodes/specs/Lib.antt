@@ -3,3 +3,4 @@ pub mod Table
 pub mod Size
 pub mod Store
 pub mod Refusal
+pub mod Steps

@@ -1,4 +1,5 @@
 ghost use Rattle.std.specs.Prelude.{◌≡◌, ℕ, ◌+◌, ◌<◌};
+ghost use Rattle.bdd_nodes.specs.Steps.{IsBlankOf};
 
 use std::marker::Model;
 use std::sync::ledger::{Blank, Book, Ledger, Share};
@@ -22,9 +23,7 @@ impl<L: Ledger> Model for Steps<L> {
 impl<L: Ledger> Steps<L> {
     /// A count of no steps yet.
     pub fn new(blank: Blank) -> Self
-        requires name { blank.name ≡ L.name }
-        requires parts { blank.parts ≡ L.parts }
-        requires some { 0 < L.parts }
+        requires { IsBlankOf L.name L.parts blank }
         ensures { result ≡ 0 }
     {
         let (book, share) = blank.open();

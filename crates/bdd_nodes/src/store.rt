@@ -24,8 +24,19 @@ impl Store {
     ghost use Rattle.std.specs.Prelude.{[]};
 
     /// An empty store for diagrams over `levels` bits, at most 256, that holds at most `limit`
-    /// triples, less than 2^31.
+    /// triples, less than 2^31. A limit reserves no memory: the table grows as triples come.
     pub fn new(alloc: Global, levels: u32, limit: u32) -> Result<Store, AllocError>
+        requires levels { levels ≤ 256 }
+        requires limit { limit < 2 ^ 31 }
+        ensures levels { IfOk result (λ s. levels_of s ≡ levels) }
+        ensures limit { IfOk result (λ s. limit_of s ≡ limit) }
+        ensures empty { IfOk result (λ s. triples s ≡ []) }
+    {
+        Store::with_room(alloc, levels, limit, 0)
+    }
+
+    /// The same, with memory for `room` triples before the first one comes.
+    pub fn with_room(alloc: Global, levels: u32, limit: u32, room: u32) -> Result<Store, AllocError>
         requires levels { levels ≤ 256 }
         requires limit { limit < 2 ^ 31 }
         ensures levels { IfOk result (λ s. levels_of s ≡ levels) }
@@ -35,8 +46,7 @@ impl Store {
         Ok(Store {
             levels,
             limit,
-            // a limit reserves no memory: the table grows as triples come
-            nodes: IndexSet::new(alloc),
+            nodes: IndexSet::with_capacity(alloc, room as usize)?,
         })
     }
 

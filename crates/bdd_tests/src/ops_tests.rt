@@ -1,5 +1,6 @@
 ghost use Rattle.std.specs.Prelude.{◌≡◌, ◌+◌, ◌*◌, ◌<◌, ◌≤◌, IsTrue, IfOk};
 ghost use Rattle.bdd_nodes.specs.Store.{Has, size_of};
+ghost use Rattle.bdd_nodes.specs.Steps.{IsBlankOf};
 ghost use Rattle.bdd_ops.specs.Engine.{capacity_of, refused_of};
 
 use crate::making::made;
@@ -165,9 +166,7 @@ fn check_or_and_iff<L: Ledger>(
 
 fn literals<L: Ledger>(rt: &impl Abort, alloc: Global, cache: u32, blank: Blank) -> Result<(), Fail>
     requires cache { 0 < cache }
-    requires name { blank.name ≡ L.name }
-    requires parts { blank.parts ≡ L.parts }
-    requires some { 0 < L.parts }
+    requires blank { IsBlankOf L.name L.parts blank }
 {
     let mut steps = Steps::<L>::new(blank);
     let Conjunction {
@@ -217,9 +216,7 @@ fn parity_conjunction<L: Ledger>(alloc: Global, steps: &mut Steps<L>) -> Result<
 }
 
 fn parities<L: Ledger>(rt: &impl Abort, alloc: Global, blank: Blank) -> Result<(), Fail>
-    requires name { blank.name ≡ L.name }
-    requires parts { blank.parts ≡ L.parts }
-    requires some { 0 < L.parts }
+    requires blank { IsBlankOf L.name L.parts blank }
 {
     let mut steps = Steps::<L>::new(blank);
     let Conjunction { engine, and, .. } = parity_conjunction(alloc, &mut steps)?;

@@ -1,5 +1,6 @@
 ghost use Rattle.std.specs.Prelude.{◌≡◌, ◌<◌};
 ghost use Rattle.bdd_nodes.specs.Store.{levels_of};
+ghost use Rattle.bdd_nodes.specs.Steps.{IsBlankOf};
 ghost use Rattle.bdd_ops.specs.Engine.{store_of};
 
 use crate::making::made;
@@ -64,9 +65,7 @@ fn renamed_literal<L: Ledger>(
     blank: Blank,
 ) -> Result<(), Fail>
     requires cache { 0 < cache }
-    requires name { blank.name ≡ L.name }
-    requires parts { blank.parts ≡ L.parts }
-    requires some { 0 < L.parts }
+    requires blank { IsBlankOf L.name L.parts blank }
 {
     let mut steps = Steps::<L>::new(blank);
     let mut engine = Engine::new(alloc, Store::new(alloc, 2, 100)?, cache)?;
@@ -128,9 +127,7 @@ fn check_literals<L: Ledger>(
 
 fn literals<L: Ledger>(rt: &impl Abort, alloc: Global, cache: u32, blank: Blank) -> Result<(), Fail>
     requires cache { 0 < cache }
-    requires name { blank.name ≡ L.name }
-    requires parts { blank.parts ≡ L.parts }
-    requires some { 0 < L.parts }
+    requires blank { IsBlankOf L.name L.parts blank }
 {
     let mut steps = Steps::<L>::new(blank);
     let mut engine = Engine::new(alloc, Store::new(alloc, 2, 100)?, cache)?;

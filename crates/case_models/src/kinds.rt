@@ -3,6 +3,7 @@
 ghost use Rattle.std.specs.Prelude.{◌≡◌, ◌<◌, IfOk, length};
 ghost use Rattle.bit_encode.specs.Code.{declared};
 ghost use Rattle.region_sets.specs.Sets.{Sets};
+ghost use Rattle.bdd_nodes.specs.Steps.{IsBlankOf};
 
 use bdd_nodes::Steps;
 use bit_encode::orders::declared_order;
@@ -28,9 +29,7 @@ fn sets_over<L: Ledger>(
     order: &[u32],
     blank: Blank,
 ) -> Result<DiagramSets, BuildRefusal>
-    requires name { blank.name ≡ L.name }
-    requires shares { blank.parts ≡ L.parts }
-    requires some { 0 < L.parts }
+    requires blank { IsBlankOf L.name L.parts blank }
     ensures over { IfOk result (λ sets. (⟦<DiagramSets as StateSets>⟧.seen sets).over ≡ model) }
     ensures order { IfOk result (λ sets.
         (⟦<DiagramSets as StateSets>⟧.seen sets).gauge.order ≡ order.now) }

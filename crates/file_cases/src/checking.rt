@@ -4,6 +4,7 @@ ghost use Rattle.std.specs.Prelude.{◌<◌, ◌≡◌, ◌≤◌, IfOk, IsTrue,
 ghost use Rattle.bit_encode.specs.Code.{state_bits};
 ghost use Rattle.kripke_model.specs.Faults.{IsFaultless};
 ghost use Rattle.proof_text.specs.Spells.{Spells};
+ghost use Rattle.bdd_nodes.specs.Steps.{IsBlankOf};
 
 use crate::telling::tell_refusal;
 use bdd_nodes::Steps;
@@ -25,9 +26,7 @@ const CACHE: u32 = 4_096;
 
 /// Whether the model has a relation, so that its files can be checked.
 fn is_checkable<L: Ledger>(alloc: Global, model: &Ruled, blank: Blank) -> Result<bool, AllocError>
-    requires name { blank.name ≡ L.name }
-    requires shares { blank.parts ≡ L.parts }
-    requires some { 0 < L.parts }
+    requires blank { IsBlankOf L.name L.parts blank }
     ensures faultless { IfOk result (λ yes. IsTrue yes → IsFaultless model.now) }
     ensures few { IfOk result (λ yes. IsTrue yes → state_bits model.now ≤ 128) }
 {
@@ -57,9 +56,7 @@ fn tell_blocks<L: Ledger>(
     blank: Blank,
     answer: &mut String,
 ) -> Result<(), AllocError>
-    requires name { blank.name ≡ L.name }
-    requires shares { blank.parts ≡ L.parts }
-    requires some { 0 < L.parts }
+    requires blank { IsBlankOf L.name L.parts blank }
     requires faultless { IsFaultless model.now }
     requires few { state_bits model.now ≤ 128 }
     requires read { (bytes : List ℕ) × Spells model.now file.now bytes }

@@ -13,6 +13,7 @@ ghost use Rattle.proof_text.specs.Spells.{Spells};
 ghost use Rattle.smv_session.specs.Relation.{AreOver};
 ghost use Rattle.smv_session.specs.Source.{most_state_bits};
 ghost use Rattle.smv_texts.specs.Replies.{IsReply};
+ghost use Rattle.bdd_nodes.specs.Steps.{IsBlankOf};
 
 use bdd_nodes::Steps;
 use command_replies::{Answers, rechecked, refuse_proofs};
@@ -37,9 +38,7 @@ fn test_in_steps<L: Ledger>(
     kept: &mut KeptSets,
     blank: Blank,
 ) -> Result<Answer, AllocError>
-    requires name { blank.name ≡ L.name }
-    requires shares { blank.parts ≡ L.parts }
-    requires some { 0 < L.parts }
+    requires blank { IsBlankOf L.name L.parts blank }
     requires limit { limit < 2 ^ 31 }
     requires faultless { IsFaultless model.now }
     requires few { state_bits model.now ≤ most_state_bits }

@@ -4,6 +4,7 @@ ghost use Rattle.std.specs.Prelude.{◌<◌, ◌≡◌, ◌≤◌, IfOk, IsTrue,
 ghost use Rattle.bit_encode.specs.Code.{state_bits};
 ghost use Rattle.kripke_model.specs.Faults.{IsFaultless};
 ghost use Rattle.proof_text.specs.Spells.{Spells};
+ghost use Rattle.bdd_nodes.specs.Steps.{IsBlankOf};
 
 use crate::times::cpu_nanos;
 use bdd_nodes::Steps;
@@ -25,9 +26,7 @@ const CACHE: u32 = 65_536;
 
 /// Whether the model has a relation.
 fn has_relation<L: Ledger>(alloc: Global, model: &Ruled, blank: Blank) -> Result<bool, AllocError>
-    requires name { blank.name ≡ L.name }
-    requires shares { blank.parts ≡ L.parts }
-    requires some { 0 < L.parts }
+    requires blank { IsBlankOf L.name L.parts blank }
     ensures faultless { IfOk result (λ yes. IsTrue yes → IsFaultless model.now) }
     ensures few { IfOk result (λ yes. IsTrue yes → state_bits model.now ≤ 128) }
 {
@@ -46,9 +45,7 @@ fn first_answer<L: Ledger>(
     file: &ProofFile,
     blank: Blank,
 ) -> Result<&'static str, AllocError>
-    requires name { blank.name ≡ L.name }
-    requires shares { blank.parts ≡ L.parts }
-    requires some { 0 < L.parts }
+    requires blank { IsBlankOf L.name L.parts blank }
     requires faultless { IsFaultless model.now }
     requires few { state_bits model.now ≤ 128 }
     requires read { (bytes : List ℕ) × Spells model.now file.now bytes }

@@ -13,6 +13,7 @@ ghost use Rattle.kripke_model.specs.Flat.{IsFlat};
 ghost use Rattle.kripke_model.specs.Evaluable.{IsEvaluable};
 ghost use Rattle.kripke_model.specs.Reading.{term_of};
 ghost use Rattle.work_bench.specs.Ranges.{numbers, range_model};
+ghost use Rattle.bdd_nodes.specs.Steps.{IsBlankOf};
 
 use crate::limits::{CACHE, LIMIT};
 use anyhow::{Result, bail};
@@ -159,9 +160,7 @@ fn built<L: Ledger>(
     expr: &Expr,
     blank: Blank,
 ) -> std::result::Result<Regions, StoreRefusal>
-    requires name { blank.name ≡ L.name }
-    requires parts { blank.parts ≡ L.parts }
-    requires some { 0 < L.parts }
+    requires blank { IsBlankOf L.name L.parts blank }
     requires evaluable { IsEvaluable model.now (term_of expr.now) }
     requires laid { LaidOut layout.now model.now (store_of engine.old) }
 {
