@@ -20,9 +20,6 @@ use std::num::NonZeroUsize;
 /// The most slots that a memo has.
 const SLOTS: usize = 0x10_0000;
 
-/// The most slots that a memo begins with.
-const FIRST_SLOTS: usize = 256;
-
 /// An entry in a slot, with the round in which it came.
 #[derive(Clone, Copy)]
 pub(crate) struct Held<K, V> {
@@ -76,14 +73,14 @@ impl<K: Copy + Eq + Hash, V: Copy> Model for Memo<K, V> {
 }
 
 impl<K: Copy + Eq + Hash, V: Copy> Memo<K, V> {
-    /// A memo of at most `capacity` entries, which holds none. Where there is no memory for slots
-    /// it has none.
-    pub fn new(alloc: Global, capacity: NonZeroUsize) -> Result<Self, AllocError>
+    /// A memo of at most `capacity` entries, which holds none, and has slots for `room` entries, as
+    /// far as there may be as many. Where there is no memory for slots it has none.
+    pub fn new(alloc: Global, capacity: NonZeroUsize, room: usize) -> Result<Self, AllocError>
         ensures { IfOk result (λ m. m ≡ memo [] [] (non_zero_usize_get capacity)) }
     {
         let most = capacity.get();
         Ok(Memo {
-            slots: empty_slots(alloc, most_slots(most).min(FIRST_SLOTS)),
+            slots: empty_slots(alloc, most_slots(most).min(room)),
             filled: 0,
             rest: LruCache::sparse(alloc, capacity)?,
             round: 0,
@@ -94,7 +91,24 @@ impl<K: Copy + Eq + Hash, V: Copy> Memo<K, V> {
     }
 
     /// The value of the key, if there is an entry with it.
+    #[inline(never)]
     pub fn find(&self, key: &K) -> Option<V>
+        ensures { result ≡ found (K.eq key.now) (entries_in self.now) }
+    {
+        self.look_up(key)
+    }
+
+    /// Whether there is an entry with the key.
+    #[inline(always)]
+    pub fn has(&self, key: &K) -> bool
+        ensures { result ≡ is_some (found (K.eq key.now) (entries_in self.now)) }
+    {
+        self.look_up(key).is_some()
+    }
+
+    /// The value of the key. It is put into its callers, which have the key's hash from it.
+    #[inline(always)]
+    fn look_up(&self, key: &K) -> Option<V>
         ensures { result ≡ found (K.eq key.now) (entries_in self.now) }
     {
         let at = place_of(key, self.slots.len());
@@ -112,6 +126,7 @@ impl<K: Copy + Eq + Hash, V: Copy> Memo<K, V> {
 
     /// Adds an entry of this round, whose key no entry has. Where as many are of this round as the
     /// capacity, a new round begins first. Want of memory leaves the entry out.
+    #[inline(always)]
     pub fn insert(&mut self, key: K, value: V) -> Result<(), AllocError>
         requires { found (K.eq key) (entries_in self.old) ≡ None }
         ensures fresh { length self.old.fresh < self.old.cap

@@ -11,7 +11,7 @@ use Rattle.bdd_nodes.proofs.Tables.{node_of-has, node_of-some, value_of-false, v
 use Rattle.bdd_nodes.proofs.Canonical.{level_of-node, level_of-constant, level_of-bound}
 use Rattle.bdd_ops.specs.declared.operation.Operation.{Operation}
 use Rattle.bdd_ops.specs.declared.operation.Operation.TheVariants.{Not, And, Or, Iff, Ite}
-use Rattle.bdd_ops.specs.Operation.{combine, operation_of, highest_of, weight_of, top_of, with_operands, part_of, SomeOperand}
+use Rattle.bdd_ops.specs.Operation.{IsOpen, combine, operation_of, highest_of, weight_of, top_of, with_operands, part_of, SomeOperand}
 use Rattle.bdd_ops.specs.Result as store
 use Rattle.bdd_ops.proofs.Parts.{part_of-le, part_of-less, part_of-deeper, highest_of-with, top_of-with, weight_of-with, top_of-bound, top_of-inside, top_of-grows, operation_of-grows}
 use Rattle.bdd_ops.proofs.Results.{IsResult-made}
@@ -133,3 +133,11 @@ value-before old new g k operands (Err e) h = tt
 -- the bound by all levels
 pub count-whole : (levels top before after : ℕ) → after + 1 ≤ before + 2 ^ (levels - top) → after ≤ before + 2 ^ levels
 count-whole levels top before after h = let m : 2 ^ (levels - top) ≤ 2 ^ levels = pow_mono (omega arith) in omega arith
+
+-- the operands of an operation that they don't answer aren't all constants
+pub open-highest : (k : Operation) → IsOpen k → 2 ≤ highest_of k
+open-highest (Not f) h = h
+open-highest (And f g) h = omega (arith, h.0)
+open-highest (Or f g) h = omega (arith, h.0)
+open-highest (Iff f g) h = h
+open-highest (Ite f g h) some = omega (arith, some)

@@ -7,3 +7,5 @@ pub mod Independence
 pub mod Cost
 pub mod Engine
 pub mod Kept
+pub mod Noted
+pub mod Calls

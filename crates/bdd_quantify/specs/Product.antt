@@ -1,7 +1,7 @@
 -- The conjunction of two diagrams with some levels quantified.
-use Rattle.std.specs.Prelude.{◌≡◌, ℕ, ◌+◌, ◌<◌, ◌≤◌, Bool, ◌&&◌, ◌==◌, if◌then◌else◌, List, length, slice_index}
+use Rattle.std.specs.Prelude.{◌≡◌, ℕ, ◌+◌, ◌-◌, ◌*◌, ◌^◌, ◌<◌, min, ◌≤◌, Bool, ◌&&◌, ◌==◌, if◌then◌else◌, List, length, slice_index}
 use Rattle.bdd_nodes.specs.declared.store.Store.{Store}
-use Rattle.bdd_nodes.specs.Store.{Has, value_of}
+use Rattle.bdd_nodes.specs.Store.{Has, levels_of, level_of, triples, value_of}
 use Rattle.bdd_ops.specs.declared.key.Key.{Key}
 use Rattle.bdd_ops.specs.declared.key.Key.TheVariants.{Exists, AndExists}
 use Rattle.bdd_ops.specs.Answer.{some_choice, list_at}
@@ -29,3 +29,10 @@ key_of f g p = if g == 1 then Exists f p else (if f == 1 then Exists g p else An
 -- the levels at the places before this one lie above a level
 abbrev pub ArePassed : List ℕ → ℕ → ℕ → Type 0
 ArePassed levels from level = (k : ℕ) → k < from → k < length levels → slice_index levels k < level
+
+-- a product of two diagrams adds at most so many triples: fewer, the deeper both lie
+abbrev pub GrowsByProduct : ℕ → ℕ → Store → Store → Type 0
+GrowsByProduct f g old new
+    = length (triples new) + 2 ^ levels_of old
+    ≤ length (triples old)
+    + 2 ^ levels_of old * 2 ^ (levels_of old - min (level_of old f) (level_of old g))

@@ -7,7 +7,7 @@ use Rattle.bdd_ops.specs.declared.key.Key.{Key}
 use Rattle.bdd_ops.specs.Answer.{IsAnswer}
 use Rattle.bdd_ops.specs.Engine.{lists_of, entries_of}
 use Rattle.bdd_ops.proofs.Memo.{same_key, entries-put, found-new, fresh-comes}
-use Rattle.bdd_ops.proofs.engine.Engine.add.Goals as goal
+use Rattle.bdd_ops.proofs.engine.Engine.enter.Goals as goal
 
 pub invariant_of-self-clause-true_entries : goal.invariant_of-self-clause-true_entries
 invariant_of-self-clause-true_entries c =
@@ -19,20 +19,33 @@ invariant_of-self-in-Err-clause-true_entries c =
     let s = c.args.self.now in
     entries-put (IsAnswer s.store (lists_of s)) (entries_of s) (entries_in c.insert.new.self) c.args.key c.args.answer c.insert.ensures.others s.true_entries c.requires.answer
 
-pub returns-in-Ok-clause-outcome : goal.returns-in-Ok-clause-outcome
-returns-in-Ok-clause-outcome c =
+pub returns-in-Ok : goal.returns-in-Ok
+returns-in-Ok c =
     let s = c.args.self.now in
     let m = c.insert.new.self in
-    let here = fresh-comes s.memo.fresh m.fresh s.memo.cap (c.args.key, c.args.answer) c.in-Ok.ensures.fresh c.in-Ok.ensures.full in
-    inl (found-new (entries_of s) (entries_in m) c.args.key c.args.answer (Contains-append_left m.fresh m.old (c.args.key, c.args.answer) here) c.insert.ensures.others c.requires.absent, refl)
-
-pub returns-in-Ok-clause-kept : goal.returns-in-Ok-clause-kept
-returns-in-Ok-clause-kept c = λ less k r m.
-    let s = c.args.self.now in
     let e : Key × ℕ = (c.args.key, c.args.answer) in
-    Contains-permutation (e ∷ s.memo.fresh) c.insert.new.self.fresh (k, r) (c.in-Ok.ensures.fresh less) (Contains-append_right (e ∷ []) s.memo.fresh (k, r) m)
+    let here = fresh-comes s.memo.fresh m.fresh s.memo.cap e c.in-Ok.ensures.fresh c.in-Ok.ensures.full in
+    record {
+      outcome = inl (found-new (entries_of s) (entries_in m) c.args.key c.args.answer (Contains-append_left m.fresh m.old e here) c.insert.ensures.others c.requires.absent, refl);
+      others = c.insert.ensures.others;
+      fresh = λ same last less. c.in-Ok.ensures.fresh less;
+      kept = λ less k r held. Contains-permutation (e ∷ s.memo.fresh) m.fresh (k, r) (c.in-Ok.ensures.fresh less) (Contains-append_right (e ∷ []) s.memo.fresh (k, r) held);
+      refused = search rules;
+      store = refl;
+      lists = refl;
+      capacity = c.insert.ensures.capacity;
+    }
 
-pub returns-in-Err-clause-outcome : goal.returns-in-Err-clause-outcome
-returns-in-Err-clause-outcome c =
+pub returns-in-Err : goal.returns-in-Err
+returns-in-Err c =
     let s = c.args.self.now in
-    inr (absent-within (same_key c.args.key) (entries_in c.insert.new.self) (entries_of s) c.in-Err.ensures.err_within c.requires.absent, search rules)
+    record {
+      outcome = inr (absent-within (same_key c.args.key) (entries_in c.insert.new.self) (entries_of s) c.in-Err.ensures.err_within c.requires.absent, search rules);
+      others = c.insert.ensures.others;
+      fresh = search rules;
+      kept = search rules;
+      refused = search rules;
+      store = refl;
+      lists = refl;
+      capacity = c.insert.ensures.capacity;
+    }

@@ -6,7 +6,7 @@ use Rattle.answer_memo.specs.Memo.{entries_in}
 use Rattle.answer_memo.specs.Slots.{slot_value, may_rest}
 use Rattle.answer_memo.specs.Place.{place}
 use Rattle.answer_memo.proofs.Fits.{found-slot, found-rest, found-none}
-use Rattle.answer_memo.proofs.memo.Memo.find.Goals as goal
+use Rattle.answer_memo.proofs.memo.Memo.look_up.Goals as goal
 
 pub returns-in-Some : goal.returns-in-Some
 returns-in-Some g c =
