@@ -68,10 +68,10 @@ pub fn tell_full(held: &Held, answer: &mut String) -> Result<(), AllocError> {
 pub fn tell_refusal(refusal: &BuildRefusal, answer: &mut String) -> Result<(), AllocError> {
     match refusal {
         BuildRefusal::TooManyBits { bits } => write!(answer, "refused, {bits} bits"),
-        BuildRefusal::Fault { kind, line, .. } => write!(
-            answer,
-            "refused, {kind:?} in line {line}"
-        ),
+        BuildRefusal::Fault(fault) => {
+            let (kind, line) = (fault.kind, fault.line);
+            write!(answer, "refused, {kind:?} in line {line}")
+        }
         BuildRefusal::Full { held } => tell_full(held, answer),
         BuildRefusal::BadOrder => answer.push_str("refused, an order of other variables"),
         BuildRefusal::Memory => Err(AllocError),

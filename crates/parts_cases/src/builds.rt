@@ -1,6 +1,7 @@
 //! What comes of building the parts of a model.
 
 ghost use Rattle.std.specs.Prelude.{◌≡◌, ◌<◌, ◌^◌};
+ghost use Rattle.bdd_nodes.specs.Steps.{IsBlankOf};
 
 use bdd_nodes::Steps;
 use case_text::fault::Fault;
@@ -23,9 +24,7 @@ fn build_refusal<L: Ledger>(
     limit: u32,
     blank: Blank,
 ) -> Option<BuildRefusal>
-    requires name { blank.name ≡ L.name }
-    requires shares { blank.parts ≡ L.parts }
-    requires some { 0 < L.parts }
+    requires blank { IsBlankOf L.name L.parts blank }
     requires limit { limit < 2 ^ 31 }
 {
     let mut steps = Steps::<L>::new(blank);
@@ -93,14 +92,10 @@ pub fn tell_build(
         None => answer.push_str("built")?,
         Some(BuildRefusal::TooManyBits { bits }) => write!(answer, "{bits} bits")?,
         Some(BuildRefusal::BadOrder) => answer.push_str("bad order")?,
-        Some(
-            BuildRefusal::Fault {
-                kind,
-                line,
-                here,
-                after,
-            },
-        ) => tell_fault(model, kind, line, &here, after, answer)?,
+        Some(BuildRefusal::Fault(fault)) => {
+            let after = fault.after;
+            tell_fault(model, fault.kind, fault.line, &fault.here, after, answer)?
+        }
         Some(BuildRefusal::Full { held }) => {
             let levels = held.levels();
             let nodes = held.number();

@@ -18,7 +18,7 @@ module _ (m : System) (order : List ℕ) (limit : ℕ) (few : length m.vars ≤ 
   refused : (r : BuildRefusal) → Refuses m order limit r → IsNotBuilt m limit r
   refused (refusals.TooManyBits bits) h = (h.0, h.1 ∙ told_count (state_bits m) (few_bits m few short))
   refused refusals.BadOrder h = h.1 (subst (λ n. IsOrder n order) (sym (length-map m.vars (λ v. v.values))) ordered)
-  refused (refusals.Fault kind line here after) h = (h.0.few, h.1)
+  refused (refusals.Fault f) h = (h.0.few, h.1)
   refused (refusals.Full held) h = (h.0.few, ((h.1, h.2), build_fits m limit h.3))
   refused refusals.Memory h = tt
 

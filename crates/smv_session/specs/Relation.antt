@@ -49,8 +49,8 @@ abbrev pub IsNotBuilt : System → ℕ → BuildRefusal → Type 0
 IsNotBuilt m limit (refusals.TooManyBits bits) =
     (most_state_bits < state_bits m) × (bits ≡ state_bits m)
 IsNotBuilt m limit refusals.BadOrder = ⊥
-IsNotBuilt m limit (refusals.Fault kind line here after) =
-    (state_bits m ≤ most_state_bits) × IsFirstFault m kind line here after
+IsNotBuilt m limit (refusals.Fault f) =
+    (state_bits m ≤ most_state_bits) × IsFirstFault m f.kind f.line f.here f.after
 IsNotBuilt m limit (refusals.Full held) = (state_bits m ≤ most_state_bits) × IsMet m limit held
 IsNotBuilt m limit refusals.Memory = Unit {0}
 

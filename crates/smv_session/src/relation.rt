@@ -5,6 +5,7 @@ ghost use Rattle.kripke_model.specs.Faults.{IsFaultless};
 ghost use Rattle.smv_session.specs.Relation.{AreOver, IsNotBuilt, Stops};
 ghost use Rattle.smv_session.specs.Source.{most_state_bits};
 ghost use Rattle.smv_texts.specs.Evidence.{IsMet};
+ghost use Rattle.bdd_nodes.specs.Steps.{IsBlankOf};
 
 use bdd_nodes::{Held, Steps};
 use bit_encode::orders::declared_order;
@@ -46,9 +47,7 @@ fn relation_in_steps<L: Ledger>(
     limit: u32,
     blank: Blank,
 ) -> Result<Parts, BuildRefusal>
-    requires name { blank.name ≡ L.name }
-    requires shares { blank.parts ≡ L.parts }
-    requires some { 0 < L.parts }
+    requires blank { IsBlankOf L.name L.parts blank }
     requires limit { limit < 2 ^ 31 }
     ensures parts { IfOk result (AreOver model.now limit) }
     ensures few { OnOk result (state_bits model.now ≤ most_state_bits) }
@@ -87,16 +86,11 @@ pub(crate) fn held_of(model: &Ruled, limit: u32, refusal: BuildRefusal) -> Resul
     match refusal {
         BuildRefusal::Full { held } => Ok(held),
         BuildRefusal::TooManyBits { bits } => Err(Stop::TooManyBits { bits }),
-        BuildRefusal::Fault {
-            kind,
-            line,
-            here,
-            after,
-        } => Err(Stop::Fault(ItemFault {
-            kind,
-            line,
-            here,
-            after,
+        BuildRefusal::Fault(fault) => Err(Stop::Fault(ItemFault {
+            kind: fault.kind,
+            line: fault.line,
+            here: fault.here,
+            after: fault.after,
         })),
         BuildRefusal::BadOrder => unreachable!(),
         BuildRefusal::Memory => Err(Stop::Memory),
