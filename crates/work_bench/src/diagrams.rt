@@ -4,11 +4,13 @@
 //! transition relation of an n bit counter.
 //!
 //! Without words a small case of each is counted. `queens N`, `carry N` and `counter N` count
-//! one, and say how much processor time its operations took. The steps that `Steps` counts take no
-//! bytes at run time, so no program can print them.
+//! one, and say how much processor time its operations took. A third word is the room: so many
+//! triples and answers have their memory before the first operation. The steps that `Steps` counts
+//! take no bytes at run time, so no program can print them.
 
-ghost use Rattle.std.specs.Prelude.{◌≡◌, ◌<◌, true};
+ghost use Rattle.std.specs.Prelude.{◌≡◌, ◌<◌, ◌≤◌, true};
 ghost use Rattle.std.specs.List.Sorted.{IsStrictlyIncreasing};
+ghost use Rattle.bdd_nodes.specs.Steps.{IsBlankOf};
 
 use crate::limits::{CACHE, LIMIT};
 use anyhow::{Result, bail};
@@ -193,9 +195,7 @@ fn safe_at<L: Ledger>(
 }
 
 fn queens<L: Ledger>(engine: &mut Engine, n: u32, blank: Blank) -> Result<Ref, Failure>
-    requires name { blank.name ≡ L.name }
-    requires parts { blank.parts ≡ L.parts }
-    requires some { 0 < L.parts }
+    requires blank { IsBlankOf L.name L.parts blank }
 {
     let mut count = Steps::<L>::new(blank);
     let steps = &mut count;
@@ -231,9 +231,7 @@ fn carried<L: Ledger>(
 /// The carry out of the lowest `n` bits of two summands: the one's bits are the levels below `n`,
 /// the other's those from `n` on.
 fn carry<L: Ledger>(engine: &mut Engine, n: u32, blank: Blank) -> Result<Ref, Failure>
-    requires name { blank.name ≡ L.name }
-    requires parts { blank.parts ≡ L.parts }
-    requires some { 0 < L.parts }
+    requires blank { IsBlankOf L.name L.parts blank }
 {
     let mut count = Steps::<L>::new(blank);
     let steps = &mut count;
@@ -317,9 +315,7 @@ fn counter<L: Ledger>(
     n: u32,
     blank: Blank,
 ) -> Result<Ref, Failure>
-    requires name { blank.name ≡ L.name }
-    requires parts { blank.parts ≡ L.parts }
-    requires some { 0 < L.parts }
+    requires blank { IsBlankOf L.name L.parts blank }
 {
     let mut count = Steps::<L>::new(blank);
     let steps = &mut count;
@@ -336,14 +332,27 @@ fn counter<L: Ledger>(
     Ok(before)
 }
 
+/// An engine of the benchmark's limits. Where a room is said, so many triples and answers have their
+/// memory at once.
+fn engine_of(alloc: Global, levels: u32, room: Option<u32>) -> Result<Engine, AllocError>
+    requires { levels ≤ 256 }
+{
+    match room {
+        Some(room) => {
+            let store = Store::with_room(alloc, levels, LIMIT, room)?;
+            Engine::with_room(alloc, store, CACHE, room)
+        }
+        None => Engine::new(alloc, Store::new(alloc, levels, LIMIT)?, CACHE),
+    }
+}
+
 /// Builds a case in an engine of its own.
-fn run(rt: &HostRuntime, case: Case, n: u32) -> Result<Outcome> {
+fn run(rt: &HostRuntime, case: Case, n: u32, room: Option<u32>) -> Result<Outcome> {
     let levels = case.levels(n);
     if levels > 256 {
         bail!("more than 256 levels");
     }
-    let store = Store::new(rt.alloc(), levels, LIMIT)?;
-    let mut engine = Engine::new(rt.alloc(), store, CACHE)?;
+    let mut engine = engine_of(rt.alloc(), levels, room)?;
     let start = rt.process_cpu_time()?;
     let built = match case {
         Case::Queens => queens::<Brand>(&mut engine, n, Blank::new(1)),
@@ -362,20 +371,30 @@ fn run(rt: &HostRuntime, case: Case, n: u32) -> Result<Outcome> {
     })
 }
 
+/// The room that the second of these words says, if there is one.
+fn room_of(words: &[String]) -> Result<Option<u32>> {
+    match words.get(1) {
+        Some(word) => Ok(Some(word.as_str().parse::<u32>()?)),
+        None => Ok(None),
+    }
+}
+
 /// Counts the case of these words, or without words a small one of each.
 pub fn measure_diagrams(rt: &HostRuntime, words: &[String]) -> Result<()> {
     let mut cases = [(Case::Queens, 5), (Case::Carry, 6), (Case::Counter, 8)];
     let mut timed = false;
+    let mut room = None;
     if let [word, rest @ ..] = words {
         timed = true;
         let (Some(case), Some(number)) = (Case::named(word.as_str()), rest.first()) else {
-            bail!("queens N, carry N or counter N");
+            bail!("queens N, carry N or counter N, and the room");
         };
         let n = number.as_str().parse::<u32>()?;
+        room = room_of(rest)?;
         cases = [(case, n), (case, 1), (case, 1)];
     }
     for (case, n) in cases {
-        let outcome = run(rt, case, n)?;
+        let outcome = run(rt, case, n, room)?;
         let name = case.name();
         let Outcome {
             triples,
