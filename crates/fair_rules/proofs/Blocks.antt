@@ -6,7 +6,7 @@ use Rattle.std.proofs.lemmas.Bool.{false≢true, or_cases, and_parts, and_from, 
 use Rattle.std.proofs.lemmas.List.Elements.{All-nil}
 use Rattle.kripke_model.specs.Ctl.{Ctl}
 use Rattle.kripke_model.specs.System.{System, State}
-use Rattle.kripke_model.specs.Signs.{Rule, rule_of, until_rule, node_count}
+use Rattle.kripke_model.specs.Signs.{ProofRule, rule_of, until_rule, node_count}
 use Rattle.path_laws.specs.StateSet.{StateSet, ◌∈◌}
 use Rattle.fair_rules.specs.SetLists.{everything, nothing, SomeNext}
 use Rattle.path_laws.specs.Fairness.{ConstraintHolds}
@@ -140,14 +140,14 @@ module _ (m : System) (visited avoided : List StateSet) where
       → AllHold m (entry_lines visited avoided p d entry) ↔ Meets m visited avoided p d.rule entry d.first d.last
   entry_lines_hold p d entry has = go d.rule entry d.first d.last has
     where
-      go : (rule : Rule) (entry : Entry) (f g : StateSet) → HasRule rule entry
+      go : (rule : ProofRule) (entry : Entry) (f g : StateSet) → HasRule rule entry
           → AllHold m (entry_lines visited avoided p (record { rule = rule; first = f; last = g }) entry) ↔ Meets m visited avoided p rule entry f g
-      go Rule.EX (Entry.EX set) f g has = (
+      go ProofRule.EX (Entry.EX set) f g has = (
         λ h s is_state e. let x : SomeNext m (λ t. t ∈ both g p.fair) s = h 1 0 none (omega arith) s is_state e in (x.0, x.1, x.2, and_parts (g x.0) (p.fair x.0) x.3),
         λ rule. hold_after m [] ((Check.Leads set (both g p.fair) ∷ []) ∷ []) (All-nil (IsMet m)) (hold_after m (Check.Leads set (both g p.fair) ∷ []) [] (one_check m (Check.Leads set (both g p.fair))
             (λ s is_state e. let x : SomeNext m (λ t. (t ∈ g) × t ∈ p.fair) s = rule s is_state e in (x.0, x.1, x.2, and_from (g x.0) (p.fair x.0) x.3.0 x.3.1))) (no_lines m)),
       )
-      go Rule.AX (Entry.AX set) f g has = (
+      go ProofRule.AX (Entry.AX set) f g has = (
         λ h s is_state e t next step. elim (or_cases (g t) (join_layers p.nonfair t) (h 1 0 none (omega arith) s is_state e t next step)) [
           | inl good ↦ inl good
           | inr lost ↦ inr (in_join_layers p.nonfair t lost)
@@ -158,20 +158,20 @@ module _ (m : System) (visited avoided : List StateSet) where
               | inr lost ↦ or_right (g t) (join_layers p.nonfair t) (join_layers_in p.nonfair t lost)
             ])) (no_lines m)),
       )
-      go Rule.AR (Entry.AR set) f g has = (
+      go ProofRule.AR (Entry.AR set) f g has = (
         λ h. (ar_checks_hold p.nonfair f g set).0 (h 1 0 none (omega arith), h 1 1 none (omega arith)),
         λ rule. let c = (ar_checks_hold p.nonfair f g set).1 rule in
             hold_after m [] ((Check.Inside set g ∷ Check.Keeps (without set f) (either set (join_layers p.nonfair)) ∷ []) ∷ []) (All-nil (IsMet m)) (hold_after m (Check.Inside set g ∷ Check.Keeps (without set f) (either set (join_layers p.nonfair)) ∷ []) [] (two_checks m (Check.Inside set g) (Check.Keeps (without set f) (either set (join_layers p.nonfair))) c.0 c.1) (no_lines m)),
       )
-      go Rule.EU (Entry.EU sets) f g has = (
+      go ProofRule.EU (Entry.EU sets) f g has = (
         λ h. (eu_lines_hold p.fair f g sets).0 (λ n. h (suc n)),
         λ rule. hold_after m [] (until_lines f (both g p.fair) sets) (All-nil (IsMet m)) ((eu_lines_hold p.fair f g sets).1 rule),
       )
-      go Rule.AU (Entry.AU layers) f g has = (
+      go ProofRule.AU (Entry.AU layers) f g has = (
         λ h. (au_lines_hold p.nonfair f g layers).0 (λ n. h (suc n)),
         λ rule. hold_after m [] (layer_lines avoided f (either g (join_layers p.nonfair)) nothing layers) (All-nil (IsMet m)) ((au_lines_hold p.nonfair f g layers).1 rule),
       )
-      go Rule.ER (Entry.ER set reaches untils) f g has =
+      go ProofRule.ER (Entry.ER set reaches untils) f g has =
           (er_there m visited p.fair f g set reaches untils, er_back m visited p.fair f g set reaches untils)
       go _ _ f g has = absurd has
 
@@ -253,8 +253,8 @@ some_same : (x y : Demand) → Some x ≡ Some y → x ≡ y
 unfolding or_else
 some_same x y e = ap (λ o. or_else o x) e
 
-absent_meets : (m : System) (visited avoided : List StateSet) (p : Proof) (rule : Rule) (f g : StateSet) → Meets m visited avoided p rule Entry.Absent f g
-absent_meets m visited avoided p Rule.EX f g = tt
+absent_meets : (m : System) (visited avoided : List StateSet) (p : Proof) (rule : ProofRule) (f g : StateSet) → Meets m visited avoided p rule Entry.Absent f g
+absent_meets m visited avoided p ProofRule.EX f g = tt
 absent_meets m visited avoided p _ f g = tt
 
 module _ (m : System) (visited avoided : List StateSet) (b : Block) (f : Ctl) (n : ℕ)

@@ -10,7 +10,7 @@ use Rattle.kripke_model.specs.Evaluation.{Checked, eval}
 use Rattle.kripke_model.specs.System.{System, State}
 use Rattle.kripke_model.specs.Step.{IsState}
 use Rattle.kripke_model.specs.Path.{Lasso, at, IsPath}
-use Rattle.kripke_model.specs.Signs.{Rule, rule_of, until_rule, node_count}
+use Rattle.kripke_model.specs.Signs.{ProofRule, rule_of, until_rule, node_count}
 use Rattle.kripke_model.specs.Truth.{Next, Until, Exists, Always, quantified, SatOver}
 use Rattle.kripke_model.proofs.Lassos.{all_states}
 use Rattle.path_laws.specs.StateSet.{StateSet, ◌∈◌}
@@ -49,23 +49,23 @@ not_one c e sat = absurd (false≢true (subst (λ x. not (is_one x) ≡ true) sa
 
 -- ---- what each rule proves
 
-abbrev pub Concludes : (Lasso → Type 0) → Rule → StateSet → StateSet → State → Type 0
-Concludes Q Rule.EX f g = Exists Q (Next (In g))
-Concludes Q Rule.AX f g = Always Q (Next (In g))
-Concludes Q Rule.EU f g = Exists Q (Until (In f) (In g))
-Concludes Q Rule.AU f g = Always Q (Until (In f) (In g))
-Concludes Q Rule.ER f g = Exists Q (Release (In f) (In g))
-Concludes Q Rule.AR f g = Always Q (Release (In f) (In g))
+abbrev pub Concludes : (Lasso → Type 0) → ProofRule → StateSet → StateSet → State → Type 0
+Concludes Q ProofRule.EX f g = Exists Q (Next (In g))
+Concludes Q ProofRule.AX f g = Always Q (Next (In g))
+Concludes Q ProofRule.EU f g = Exists Q (Until (In f) (In g))
+Concludes Q ProofRule.AU f g = Always Q (Until (In f) (In g))
+Concludes Q ProofRule.ER f g = Exists Q (Release (In f) (In g))
+Concludes Q ProofRule.AR f g = Always Q (Release (In f) (In g))
 
 module _ (m : System) (count : ℕ) (C : ℕ → State → Type 0) (visited avoided : List StateSet) (sets : AreConstraintSets m count C visited avoided) where
   pub rule_sound : (p : Proof) → AreNonfair m avoided p.nonfair → IsFairSet m visited p.fair p.reaches
-      → (rule : Rule) (entry : Entry) (f g : StateSet) → Meets m visited avoided p rule entry f g
+      → (rule : ProofRule) (entry : Entry) (f g : StateSet) → Meets m visited avoided p rule entry f g
       → (s : State) → IsState m s → s ∈ entry_set p.nonfair entry g → Concludes (IsFairOver m count C) rule f g s
   rule_sound p none some rule Entry.Absent f g h s is_state e = absurd (false≢true e)
-  rule_sound p none some Rule.EX (Entry.EX set) f g h s is_state e = ex_sound m count C visited avoided sets p.fair p.reaches some g set h s is_state e
-  rule_sound p none some Rule.AX (Entry.AX set) f g h s is_state e = ax_sound m count C visited avoided sets p.nonfair none g set h s is_state e
-  rule_sound p none some Rule.EU (Entry.EU eu) f g h s is_state e = eu_sound m count C visited avoided sets p.fair p.reaches some f g eu h s is_state (in_join eu s e)
-  rule_sound p none some Rule.AU (Entry.AU layers) f g h s is_state e =
+  rule_sound p none some ProofRule.EX (Entry.EX set) f g h s is_state e = ex_sound m count C visited avoided sets p.fair p.reaches some g set h s is_state e
+  rule_sound p none some ProofRule.AX (Entry.AX set) f g h s is_state e = ax_sound m count C visited avoided sets p.nonfair none g set h s is_state e
+  rule_sound p none some ProofRule.EU (Entry.EU eu) f g h s is_state e = eu_sound m count C visited avoided sets p.fair p.reaches some f g eu h s is_state (in_join eu s e)
+  rule_sound p none some ProofRule.AU (Entry.AU layers) f g h s is_state e =
       au_sound m count C visited avoided sets p.nonfair none f g layers h s is_state (elim (or_cases (g s) (join_layers p.nonfair s || join_layers layers s) e) [
         | inl there ↦ inl there
         | inr more ↦ elim (or_cases (join_layers p.nonfair s) (join_layers layers s) more) [
@@ -73,12 +73,12 @@ module _ (m : System) (count : ℕ) (C : ℕ → State → Type 0) (visited avoi
           | inr inside ↦ inr (inr (in_join_layers layers s inside))
         ]
       ])
-  rule_sound p none some Rule.AR (Entry.AR set) f g h s is_state e =
+  rule_sound p none some ProofRule.AR (Entry.AR set) f g h s is_state e =
       ar_sound m count C visited avoided sets p.nonfair none f g set h s is_state (elim (or_cases (set s) (join_layers p.nonfair s) e) [
         | inl inside ↦ inl inside
         | inr lost ↦ inr (in_join_layers p.nonfair s lost)
       ])
-  rule_sound p none some Rule.ER (Entry.ER set own untils) f g h s is_state e =
+  rule_sound p none some ProofRule.ER (Entry.ER set own untils) f g h s is_state e =
       er_sound m count C visited avoided sets p.fair p.reaches some f g set own untils h s is_state (elim (or_cases (set s) (join untils s) e) [
         | inl inside ↦ inl inside
         | inr until ↦ inr (in_join untils s until)

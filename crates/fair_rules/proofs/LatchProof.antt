@@ -9,7 +9,7 @@ use Rattle.kripke_model.specs.Ctl.{Ctl}
 use Rattle.kripke_model.specs.System.{State, value_in}
 use Rattle.kripke_model.specs.Evaluation.{same, values}
 use Rattle.kripke_model.specs.Step.{IsState, Step}
-use Rattle.kripke_model.specs.Signs.{Rule, rule_of}
+use Rattle.kripke_model.specs.Signs.{ProofRule, rule_of}
 use Rattle.kripke_model.specs.Term.{has_path_operator}
 use Rattle.kripke_model.proofs.ValueLemmas.{same-true}
 use Rattle.fair_rules.proofs.Fixpoints.{join_layers_in}
@@ -139,7 +139,7 @@ abbrev set_now : StateSet
 set_now = claimed latch (proof_of block) (Ctl.Leaf x_term) 2 true
 
 abbrev demand : Demand
-demand = record { rule = Rule.AU; first = everything; last = set_now }
+demand = record { rule = ProofRule.AU; first = everything; last = set_now }
 
 demanded : demand_at latch (proof_of block) always_set 1 1 true ≡ Some demand
 demanded = refl

@@ -4,7 +4,7 @@ use Rattle.std.specs.Option.{option_and_then}
 use Rattle.kripke_model.specs.Ctl.{Ctl}
 use Rattle.kripke_model.specs.System.{System, State}
 use Rattle.kripke_model.specs.Truth.{Initials}
-use Rattle.kripke_model.specs.Signs.{Rule, rule_of, until_rule, node_count}
+use Rattle.kripke_model.specs.Signs.{ProofRule, rule_of, until_rule, node_count}
 use Rattle.path_laws.specs.StateSet.{StateSet}
 use Rattle.fair_rules.specs.SetLists.{everything, nothing}
 use Rattle.fair_rules.specs.Rules.{Layer}
@@ -46,7 +46,7 @@ proof_of b = record {
 -- ---- the rule of a node's sign, with the sets of its arguments
 
 pub record Demand : Type 0 where
-  pub rule : Rule
+  pub rule : ProofRule
   pub first : StateSet
   pub last : StateSet
 
@@ -71,13 +71,13 @@ abbrev pub demand_at : System → Proof → Ctl → ℕ → ℕ → Bool → Opt
 demand_at m p f n i sign = option_and_then (λ g. demand m p g i sign) (node_at f n i)
 
 -- the entry is one of the rule
-abbrev pub HasRule : Rule → Entry → Type 0
-HasRule Rule.EX (Entry.EX set) = Unit {0}
-HasRule Rule.AX (Entry.AX set) = Unit {0}
-HasRule Rule.EU (Entry.EU sets) = Unit {0}
-HasRule Rule.AU (Entry.AU layers) = Unit {0}
-HasRule Rule.AR (Entry.AR set) = Unit {0}
-HasRule Rule.ER (Entry.ER set reaches untils) = Unit {0}
+abbrev pub HasRule : ProofRule → Entry → Type 0
+HasRule ProofRule.EX (Entry.EX set) = Unit {0}
+HasRule ProofRule.AX (Entry.AX set) = Unit {0}
+HasRule ProofRule.EU (Entry.EU sets) = Unit {0}
+HasRule ProofRule.AU (Entry.AU layers) = Unit {0}
+HasRule ProofRule.AR (Entry.AR set) = Unit {0}
+HasRule ProofRule.ER (Entry.ER set reaches untils) = Unit {0}
 HasRule rule entry = ⊥
 
 -- an entry names a temporal node and has the rule of its sign

@@ -7,7 +7,7 @@ use Rattle.kripke_model.specs.System.{System, State}
 use Rattle.kripke_model.specs.Step.{IsState, Initial}
 use Rattle.kripke_model.specs.Evaluation.{Checked, eval}
 use Rattle.kripke_model.specs.declared.expressions.Value.{Value}
-use Rattle.kripke_model.specs.Signs.{Rule, rule_of, until_rule, node_count}
+use Rattle.kripke_model.specs.Signs.{ProofRule, rule_of, until_rule, node_count}
 use Rattle.path_laws.specs.StateSet.{StateSet, ◌∈◌}
 use Rattle.fair_rules.specs.SetLists.{everything, nothing}
 use Rattle.fair_rules.specs.Rules.{Layer, AreNonfair, IsFairSet, MeetsEX, MeetsAX, MeetsEU, MeetsAU, MeetsAR, MeetsER}
@@ -91,22 +91,23 @@ claimed m p (Ctl.Until all f g) n sign
 -- ---- the obligations
 
 -- the entry has the rule, and meets it for the sets f and g of the arguments
-abbrev pub Meets : System → List StateSet → List StateSet → Proof → Rule → Entry → StateSet
+abbrev pub Meets : System → List StateSet → List StateSet → Proof → ProofRule → Entry → StateSet
     → StateSet → Type 0
 Meets m visited avoided p rule Entry.Absent f g = Unit {0}
-Meets m visited avoided p Rule.EX (Entry.EX set) f g = MeetsEX m p.fair g set
-Meets m visited avoided p Rule.AX (Entry.AX set) f g = MeetsAX m p.nonfair g set
-Meets m visited avoided p Rule.EU (Entry.EU sets) f g = MeetsEU m p.fair f g sets
-Meets m visited avoided p Rule.AU (Entry.AU layers) f g = MeetsAU m avoided p.nonfair f g layers
-Meets m visited avoided p Rule.AR (Entry.AR set) f g = MeetsAR m p.nonfair f g set
-Meets m visited avoided p Rule.ER (Entry.ER set reaches untils) f g
+Meets m visited avoided p ProofRule.EX (Entry.EX set) f g = MeetsEX m p.fair g set
+Meets m visited avoided p ProofRule.AX (Entry.AX set) f g = MeetsAX m p.nonfair g set
+Meets m visited avoided p ProofRule.EU (Entry.EU sets) f g = MeetsEU m p.fair f g sets
+Meets m visited avoided p ProofRule.AU (Entry.AU layers) f g
+    = MeetsAU m avoided p.nonfair f g layers
+Meets m visited avoided p ProofRule.AR (Entry.AR set) f g = MeetsAR m p.nonfair f g set
+Meets m visited avoided p ProofRule.ER (Entry.ER set reaches untils) f g
     = MeetsER m visited p.fair f g set reaches untils
 Meets m visited avoided p rule entry f g = ⊥
 
 -- the first argument of an operator that has one argument alone
-abbrev pub absent_argument : Rule → StateSet
-absent_argument Rule.EU = everything
-absent_argument Rule.AU = everything
+abbrev pub absent_argument : ProofRule → StateSet
+absent_argument ProofRule.EU = everything
+absent_argument ProofRule.AU = everything
 absent_argument rule = nothing
 
 -- each entry of the formula's nodes meets the rule of its operator and sign

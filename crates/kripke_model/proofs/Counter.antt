@@ -9,7 +9,7 @@ use Rattle.kripke_model.specs.declared.models.Part.{Part}
 use Rattle.kripke_model.specs.Term.{Term}
 use Rattle.kripke_model.specs.System.{System, Variable, Assignment, State, value_in}
 use Rattle.kripke_model.specs.Evaluation.{values, runs, Holds}
-use Rattle.kripke_model.specs.Size.{node_count}
+use Rattle.kripke_model.specs.Size.{term_nodes}
 use Rattle.kripke_model.specs.Step.{Step, IsValueOf, IsDriven, HasNextAssign, IsCurrent}
 use Rattle.kripke_model.proofs.Latch.{num, bit, Contains-only}
 use Rattle.kripke_model.proofs.Examples.{constant, main_name, is_only}
@@ -82,7 +82,7 @@ pub comes_round : count 8 ≡ count 0
 comes_round = refl
 
 -- each operator, constant and variable is one node
-pub nodes_of_second_bit : node_count (added 1) ≡ 7
+pub nodes_of_second_bit : term_nodes (added 1) ≡ 7
 nodes_of_second_bit = refl
 
 -- ---- steps

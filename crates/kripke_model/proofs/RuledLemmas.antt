@@ -6,17 +6,17 @@ use Rattle.kripke_model.specs.declared.refusals.StaticRefusal.{StaticRefusal}
 use Rattle.kripke_model.specs.Term.{Term, has_path_operator}
 use Rattle.kripke_model.specs.System.{System, Assignment, Condition}
 use Rattle.kripke_model.specs.Evaluable.{IsEvaluable}
-use Rattle.kripke_model.specs.Refusing.{Rule, refuse, Silent, ◌then◌, First, first_of}
+use Rattle.kripke_model.specs.Refusing.{RefusalRule, refuse, Silent, ◌then◌, First, first_of}
 use Rattle.kripke_model.specs.Static.{refused_condition, HasFormula, formula_not_allowed}
 use Rattle.kripke_model.specs.Flat.{IsFlat, IsSound}
 use Rattle.kripke_model.proofs.SoundLemmas.{evaluable}
 
 -- ---- rules that are silent
 
-pub silent_first : {R : Type 0} {a b : Rule R} → Silent (a then b) → Silent a
+pub silent_first : {R : Type 0} {a b : RefusalRule R} → Silent (a then b) → Silent a
 silent_first s r h = s r (inl h)
 
-pub silent_second : {R : Type 0} {a b : Rule R} → Silent (a then b) → Silent b
+pub silent_second : {R : Type 0} {a b : RefusalRule R} → Silent (a then b) → Silent b
 silent_second s r h = s r (inr (λ q g. s q (inl g), h))
 
 module _ {R A : Type 0} (refusal : A → R) (C : A → Type 0) where

@@ -16,7 +16,7 @@ use Rattle.proof_form.specs.Shape.{spec_formula}
 
 -- ---- a formula has at most the nodes of its expression
 
-some_nodes : (e : Term) → 1 ≤ size.node_count e
+some_nodes : (e : Term) → 1 ≤ size.term_nodes e
 some_nodes (Term.Const v) = omega arith
 some_nodes (Term.Var x) = omega arith
 some_nodes (Term.Running p) = omega arith
@@ -33,25 +33,25 @@ or_leaf : (path : Bool) (e : Term) (f : Ctl) (n : ℕ) → 1 ≤ n → node_coun
 or_leaf true e f n some less = less
 or_leaf false e f n some less = some
 
-nodes_less : (e : Term) → node_count (formula_of e) ≤ size.node_count e
+nodes_less : (e : Term) → node_count (formula_of e) ≤ size.term_nodes e
 nodes_less (Term.Not e) =
     or_leaf (has_path_operator (Term.Not e)) (Term.Not e) (Ctl.Not (formula_of e))
-    (1 + size.node_count e) (omega arith) (omega (arith, nodes_less e))
+    (1 + size.term_nodes e) (omega arith) (omega (arith, nodes_less e))
 nodes_less (Term.Binary BinOp.And a b) =
     or_leaf (has_path_operator (Term.Binary BinOp.And a b)) (Term.Binary BinOp.And a b)
-    (Ctl.And (formula_of a) (formula_of b)) (1 + size.node_count a + size.node_count b)
+    (Ctl.And (formula_of a) (formula_of b)) (1 + size.term_nodes a + size.term_nodes b)
     (omega arith) (omega (arith, nodes_less a, nodes_less b))
 nodes_less (Term.Binary BinOp.Or a b) =
     or_leaf (has_path_operator (Term.Binary BinOp.Or a b)) (Term.Binary BinOp.Or a b)
-    (Ctl.Or (formula_of a) (formula_of b)) (1 + size.node_count a + size.node_count b)
+    (Ctl.Or (formula_of a) (formula_of b)) (1 + size.term_nodes a + size.term_nodes b)
     (omega arith) (omega (arith, nodes_less a, nodes_less b))
 nodes_less (Term.Binary BinOp.Implies a b) =
     or_leaf (has_path_operator (Term.Binary BinOp.Implies a b)) (Term.Binary BinOp.Implies a b)
-    (Ctl.Implies (formula_of a) (formula_of b)) (1 + size.node_count a + size.node_count b)
+    (Ctl.Implies (formula_of a) (formula_of b)) (1 + size.term_nodes a + size.term_nodes b)
     (omega arith) (omega (arith, nodes_less a, nodes_less b))
 nodes_less (Term.Binary BinOp.Iff a b) =
     or_leaf (has_path_operator (Term.Binary BinOp.Iff a b)) (Term.Binary BinOp.Iff a b)
-    (Ctl.Iff (formula_of a) (formula_of b)) (1 + size.node_count a + size.node_count b)
+    (Ctl.Iff (formula_of a) (formula_of b)) (1 + size.term_nodes a + size.term_nodes b)
     (omega arith) (omega (arith, nodes_less a, nodes_less b))
 nodes_less (Term.Quant op e) = omega (arith, nodes_less e)
 nodes_less (Term.Until all a b) = omega (arith, nodes_less a, nodes_less b)
@@ -60,19 +60,19 @@ nodes_less e = some_nodes e
 -- ---- a specification and the constraints have at most the nodes of the model
 
 nodes_in : List Condition → ℕ
-nodes_in cs = sum_by size.node_count (map (λ (c : Condition). c.expr) cs)
+nodes_in cs = sum_by size.term_nodes (map (λ (c : Condition). c.expr) cs)
 
 both_in : (cs ds : List Condition) → nodes_in (cs ++ ds) ≡ nodes_in cs + nodes_in ds
 unfolding nodes_in
 both_in cs ds =
-    ap (sum_by size.node_count) (map-append (λ (c : Condition). c.expr) cs ds)
-    ∙ sum_by-append size.node_count (map (λ (c : Condition). c.expr) cs)
+    ap (sum_by size.term_nodes) (map-append (λ (c : Condition). c.expr) cs ds)
+    ∙ sum_by-append size.term_nodes (map (λ (c : Condition). c.expr) cs)
     (map (λ (c : Condition). c.expr) ds)
 
 more_in : (c : Condition) (cs : List Condition)
-    → nodes_in (c ∷ cs) ≡ size.node_count c.expr + nodes_in cs
+    → nodes_in (c ∷ cs) ≡ size.term_nodes c.expr + nodes_in cs
 unfolding nodes_in
-more_in c cs = sum_by-cons size.node_count c.expr (map (λ (c : Condition). c.expr) cs)
+more_in c cs = sum_by-cons size.term_nodes c.expr (map (λ (c : Condition). c.expr) cs)
 
 spec_in : (cs : List Condition) (j : ℕ) (f : Ctl)
     → option_map (λ (c : Condition). formula_of c.expr) (slice_get cs j) ≡ Some f
@@ -104,8 +104,8 @@ unfolding nodes_in
 total_of m =
     let conditions : List Condition = m.inits ++ m.invars ++ m.trans ++ m.constraints ++ m.specs in
     let rights : List Term = map (λ (a : Assignment). a.right) m.assigns in
-    let whole : node_total m ≡ sum_by size.node_count rights + nodes_in conditions =
-    sum_by-append size.node_count rights (map (λ (c : Condition). c.expr) conditions) in
+    let whole : node_total m ≡ sum_by size.term_nodes rights + nodes_in conditions =
+    sum_by-append size.term_nodes rights (map (λ (c : Condition). c.expr) conditions) in
     omega (
       arith,
       whole,

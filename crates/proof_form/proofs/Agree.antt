@@ -4,7 +4,7 @@ use Rattle.std.specs.Prelude.{All, if◌then◌else◌, ◌==◌}
 use Rattle.std.specs.Option.{option_and_then}
 use Rattle.std.proofs.lemmas.List.Elements.{All-cons, All-head, All-tail}
 use Rattle.kripke_model.specs.Ctl.{Ctl}
-use Rattle.kripke_model.specs.Signs.{Rule, node_count}
+use Rattle.kripke_model.specs.Signs.{ProofRule, node_count}
 use Rattle.kripke_model.specs.Step.{IsState, Initial}
 use Rattle.kripke_model.specs.System.{System, State}
 use Rattle.path_laws.specs.StateSet.{StateSet, ◌∈◌}
@@ -237,7 +237,7 @@ module _ (m : System) where
 
     pub data AgreeDemand : Option Demand → Option Demand → Type 0 where
       nothing_asked : AgreeDemand None None
-      asked : {r : Rule} {F G F' G' : StateSet} → SameOn m F F' → SameOn m G G'
+      asked : {r : ProofRule} {F G F' G' : StateSet} → SameOn m F F' → SameOn m G G'
           → AgreeDemand (Some (record { rule = r; first = F; last = G })) (Some (record { rule = r; first = F'; last = G' }))
 
     own_same : (o : Option Ctl) (i : ℕ) (sign : Bool) → AgreeDemand (option_and_then (λ c. demand m p c i sign) o) (option_and_then (λ c. demand m q c i sign) o)

@@ -4,7 +4,7 @@ use Rattle.std.specs.Prelude.{◌↔◌}
 use Rattle.std.proofs.lemmas.List.{length-map}
 use Rattle.std.specs.Option.{option_and_then}
 use Rattle.kripke_model.specs.Ctl.{Ctl}
-use Rattle.kripke_model.specs.Signs.{Rule, node_count}
+use Rattle.kripke_model.specs.Signs.{ProofRule, node_count}
 use Rattle.fair_rules.specs.Nodes.{node_at}
 use Rattle.fair_rules.proofs.Nodes.{some_node, no_node as none_there}
 use Rattle.proof_form.specs.declared.preorder.Node.{Node}
@@ -42,10 +42,10 @@ module _ {A : Type 0} (f : Ctl) (nodes : List Node) (e : Entry A) (is : node_vie
   count : length nodes ≡ node_count f
   count = sym (length-map nodes node_view) ∙ ap length is ∙ nodes_length f 0
 
-  no_rule : {X : Type 0} {o : Option Rule} (r : Rule) → o ≡ None → o ≡ Some r → X
+  no_rule : {X : Type 0} {o : Option ProofRule} (r : ProofRule) → o ≡ None → o ≡ Some r → X
   no_rule r n s = absurd (none_is_some r (sym n ∙ s))
     where
-      none_is_some : (r : Rule) → None ≡ Some r → ⊥
+      none_is_some : (r : ProofRule) → None ≡ Some r → ⊥
       none_is_some r h = absurd (cc)
 
   pub other_number : (e.node ≡ 0) ⊎ (length nodes < e.node) → HasRule f e → ⊥

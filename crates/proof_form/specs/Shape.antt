@@ -3,7 +3,7 @@ use Rattle.std.specs.Prelude.{◌≡◌, ◌⊎◌, ℕ, zero, suc, ◌<◌, ◌
 use Rattle.std.specs.Option.{option_and_then}
 use Rattle.kripke_model.specs.Ctl.{Ctl, formula_of}
 use Rattle.kripke_model.specs.Leaves.{HasLeafConstraints}
-use Rattle.kripke_model.specs.Signs.{Rule, rule_of, until_rule}
+use Rattle.kripke_model.specs.Signs.{ProofRule, rule_of, until_rule}
 use Rattle.kripke_model.specs.Step.{IsState}
 use Rattle.kripke_model.specs.System.{System, constraint_count}
 use Rattle.fair_rules.specs.Nodes.{node_at}
@@ -21,18 +21,18 @@ constraint_formula m zero = None
 constraint_formula m (suc k) = option_map (λ c. formula_of c.expr) (slice_get m.constraints k)
 
 -- the rule by which a temporal node is claimed true, or false
-abbrev pub rule_for : Bool → Ctl → Option Rule
+abbrev pub rule_for : Bool → Ctl → Option ProofRule
 rule_for sign (Ctl.Quant op f) = Some (rule_of op sign)
 rule_for sign (Ctl.Until all f g) = Some (until_rule all sign)
 rule_for sign f = None
 
-abbrev pub kind_of : {A : Type 0} → form.Rule A → Rule
-kind_of (EX set) = Rule.EX
-kind_of (AX set) = Rule.AX
-kind_of (AR set) = Rule.AR
-kind_of (EU sets) = Rule.EU
-kind_of (AU layers) = Rule.AU
-kind_of (ER fair untils) = Rule.ER
+abbrev pub kind_of : {A : Type 0} → form.Rule A → ProofRule
+kind_of (EX set) = ProofRule.EX
+kind_of (AX set) = ProofRule.AX
+kind_of (AR set) = ProofRule.AR
+kind_of (EU sets) = ProofRule.EU
+kind_of (AU layers) = ProofRule.AU
+kind_of (ER fair untils) = ProofRule.ER
 
 -- the entry names a temporal node of the formula, by its number in preorder from 1, and has the rule of its sign
 abbrev pub HasRule : {A : Type 0} → Ctl → Entry A → Type 0

@@ -6,7 +6,7 @@ use Rattle.std.specs.Global.{Vec}
 use Rattle.std.proofs.lemmas.Bool.{cases_lt}
 use Rattle.std.proofs.lemmas.List.Elements.{All-nil, All-cons, All-head, All-tail}
 use Rattle.kripke_model.specs.Ctl.{Ctl, formula_of}
-use Rattle.kripke_model.specs.Signs.{Rule, node_count}
+use Rattle.kripke_model.specs.Signs.{ProofRule, node_count}
 use Rattle.kripke_model.specs.System.{System, Condition}
 use Rattle.kripke_model.specs.Term.{Term}
 use Rattle.region_sets.specs.Sets.{Sets}
@@ -25,10 +25,10 @@ all_weaker : {A : Type 0} (P Q : A → Type 0) (xs : List A) → ((x : A) → P 
 all_weaker P Q [] f h = All-nil Q
 all_weaker P Q (x ∷ xs) f h = All-cons Q x xs (f x (All-head P x xs h)) (all_weaker P Q xs f (All-tail P x xs h))
 
-no_rule : {X : Type 0} {o : Option Rule} (r : Rule) → o ≡ None → o ≡ Some r → X
+no_rule : {X : Type 0} {o : Option ProofRule} (r : ProofRule) → o ≡ None → o ≡ Some r → X
 no_rule r n s = absurd (none_is_some r (sym n ∙ s))
   where
-    none_is_some : (r : Rule) → None ≡ Some r → ⊥
+    none_is_some : (r : ProofRule) → None ≡ Some r → ⊥
     none_is_some r h = absurd (cc)
 
 -- ---- of one formula

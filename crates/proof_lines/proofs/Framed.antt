@@ -2,7 +2,7 @@
 use Rattle.std.proofs.Common.{◌≡◌, ℕ, ◌+◌, ◌<◌, true, List, [], ◌∷◌, length, get_or, refl, sym, ◌∙◌, ap, subst, arith}
 use Rattle.std.specs.Global.{Vec}
 use Rattle.kripke_model.specs.Ctl.{Ctl}
-use Rattle.kripke_model.specs.Signs.{Rule}
+use Rattle.kripke_model.specs.Signs.{ProofRule}
 use Rattle.kripke_model.specs.Step.{IsState}
 use Rattle.kripke_model.specs.System.{System, Condition}
 use Rattle.path_laws.specs.StateSet.{StateSet}
@@ -39,24 +39,24 @@ frame_of_then a b frame q p g of = record {
 -- ---- an argument that isn't there
 
 module _ (s : Sets) (frame : Frame) (is : IsFrame s frame) where
-  pub absent_live : (rule : Rule) → IsLive s (absent_pin frame rule).slot
-  absent_live Rule.EX = is.empty_live
-  absent_live Rule.AX = is.empty_live
-  absent_live Rule.EU = is.full_live
-  absent_live Rule.AU = is.full_live
-  absent_live Rule.ER = is.empty_live
-  absent_live Rule.AR = is.empty_live
+  pub absent_live : (rule : ProofRule) → IsLive s (absent_pin frame rule).slot
+  absent_live ProofRule.EX = is.empty_live
+  absent_live ProofRule.AX = is.empty_live
+  absent_live ProofRule.EU = is.full_live
+  absent_live ProofRule.AU = is.full_live
+  absent_live ProofRule.ER = is.empty_live
+  absent_live ProofRule.AR = is.empty_live
 
-  empty_same : SameOn s.over (region s frame.empty.now) (absent_argument Rule.EX)
+  empty_same : SameOn s.over (region s frame.empty.now) (absent_argument ProofRule.EX)
   empty_same st is_state = ap (λ (F : StateSet). F st) is.none
 
-  pub absent_same : (rule : Rule) → SameOn s.over (region s (absent_pin frame rule)) (absent_argument rule)
-  absent_same Rule.EX = empty_same
-  absent_same Rule.AX = empty_same
-  absent_same Rule.EU = is.full
-  absent_same Rule.AU = is.full
-  absent_same Rule.ER = empty_same
-  absent_same Rule.AR = empty_same
+  pub absent_same : (rule : ProofRule) → SameOn s.over (region s (absent_pin frame rule)) (absent_argument rule)
+  absent_same ProofRule.EX = empty_same
+  absent_same ProofRule.AX = empty_same
+  absent_same ProofRule.EU = is.full
+  absent_same ProofRule.AU = is.full
+  absent_same ProofRule.ER = empty_same
+  absent_same ProofRule.AR = empty_same
 
 -- ---- claims, after a test that left no pin
 

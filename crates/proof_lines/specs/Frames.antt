@@ -1,7 +1,7 @@
 -- What the lines of entries are tested with.
 use Rattle.std.specs.Prelude.{◌≡◌, ℕ, ◌+◌, ◌-◌, ◌<◌, ◌≤◌, Bool, true, false, List, length}
 use Rattle.kripke_model.specs.Step.{IsState}
-use Rattle.kripke_model.specs.Signs.{Rule}
+use Rattle.kripke_model.specs.Signs.{ProofRule}
 use Rattle.kripke_model.specs.System.{State}
 use Rattle.path_laws.specs.StateSet.{StateSet}
 use Rattle.region_sets.specs.declared.pins.Pin.{Pin}
@@ -39,7 +39,7 @@ abbrev pub avoided_in : Sets → Frame → List StateSet
 avoided_in sets frame = constraint_list sets frame.constraints false
 
 -- the set of a first argument that isn't there
-abbrev pub absent_pin : Frame → Rule → Pin
-absent_pin frame Rule.EU = frame.full.now
-absent_pin frame Rule.AU = frame.full.now
+abbrev pub absent_pin : Frame → ProofRule → Pin
+absent_pin frame ProofRule.EU = frame.full.now
+absent_pin frame ProofRule.AU = frame.full.now
 absent_pin frame rule = frame.empty.now

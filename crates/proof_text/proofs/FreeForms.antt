@@ -4,7 +4,7 @@ use Rattle.std.specs.Option.{option_and_then}
 use Rattle.std.specs.Prelude.{All, Err}
 use Rattle.kripke_model.specs.Ctl.{formula_of}
 use Rattle.kripke_model.specs.Flat.{IsFlat}
-use Rattle.kripke_model.specs.Signs.{Rule as Kind}
+use Rattle.kripke_model.specs.Signs.{ProofRule as Kind}
 use Rattle.kripke_model.specs.System.{System}
 use Rattle.fair_rules.specs.Nodes.{node_at}
 use Rattle.proof_form.specs.Form.{FreeEntry}

@@ -31,20 +31,20 @@ leaf_less false e f n le some = some
 or_leaf : (e : Term) (f : Ctl) (n : ℕ) → node_count f ≤ n → 1 ≤ n → node_count (leaf_or e f) ≤ n
 or_leaf e f n le some = leaf_less (has_path_operator e) e f n le some
 
-nodes_less : (e : Term) → node_count (formula_of e) ≤ size.node_count e
+nodes_less : (e : Term) → node_count (formula_of e) ≤ size.term_nodes e
 nodes_less (Term.Const v) = omega arith
 nodes_less (Term.Var x) = omega arith
 nodes_less (Term.Running p) = omega arith
 nodes_less (Term.Next e) = omega arith
-nodes_less (Term.Not e) = or_leaf (Term.Not e) (Ctl.Not (formula_of e)) (1 + size.node_count e) (omega (arith, nodes_less e)) (omega arith)
+nodes_less (Term.Not e) = or_leaf (Term.Not e) (Ctl.Not (formula_of e)) (1 + size.term_nodes e) (omega (arith, nodes_less e)) (omega arith)
 nodes_less (Term.Binary BinOp.And a b) =
-    or_leaf (Term.Binary BinOp.And a b) (Ctl.And (formula_of a) (formula_of b)) (1 + size.node_count a + size.node_count b) (omega (arith, nodes_less a, nodes_less b)) (omega arith)
+    or_leaf (Term.Binary BinOp.And a b) (Ctl.And (formula_of a) (formula_of b)) (1 + size.term_nodes a + size.term_nodes b) (omega (arith, nodes_less a, nodes_less b)) (omega arith)
 nodes_less (Term.Binary BinOp.Or a b) =
-    or_leaf (Term.Binary BinOp.Or a b) (Ctl.Or (formula_of a) (formula_of b)) (1 + size.node_count a + size.node_count b) (omega (arith, nodes_less a, nodes_less b)) (omega arith)
+    or_leaf (Term.Binary BinOp.Or a b) (Ctl.Or (formula_of a) (formula_of b)) (1 + size.term_nodes a + size.term_nodes b) (omega (arith, nodes_less a, nodes_less b)) (omega arith)
 nodes_less (Term.Binary BinOp.Implies a b) =
-    or_leaf (Term.Binary BinOp.Implies a b) (Ctl.Implies (formula_of a) (formula_of b)) (1 + size.node_count a + size.node_count b) (omega (arith, nodes_less a, nodes_less b)) (omega arith)
+    or_leaf (Term.Binary BinOp.Implies a b) (Ctl.Implies (formula_of a) (formula_of b)) (1 + size.term_nodes a + size.term_nodes b) (omega (arith, nodes_less a, nodes_less b)) (omega arith)
 nodes_less (Term.Binary BinOp.Iff a b) =
-    or_leaf (Term.Binary BinOp.Iff a b) (Ctl.Iff (formula_of a) (formula_of b)) (1 + size.node_count a + size.node_count b) (omega (arith, nodes_less a, nodes_less b)) (omega arith)
+    or_leaf (Term.Binary BinOp.Iff a b) (Ctl.Iff (formula_of a) (formula_of b)) (1 + size.term_nodes a + size.term_nodes b) (omega (arith, nodes_less a, nodes_less b)) (omega arith)
 nodes_less (Term.Binary BinOp.Mul a b) = omega arith
 nodes_less (Term.Binary BinOp.Div a b) = omega arith
 nodes_less (Term.Binary BinOp.Add a b) = omega arith
@@ -76,10 +76,10 @@ IsFew c = node_count (formula_of c.expr) ≤ 200000
 
 pub few_in : (m : System) → IsFlat m → All IsFew m.constraints × All IsFew m.specs
 few_in m flat =
-    let all : All (λ e. size.node_count e ≤ node_total m) (expressions m) = λ i d lt. get_or-le-sum_by size.node_count (expressions m) i d lt in
+    let all : All (λ e. size.term_nodes e ≤ node_total m) (expressions m) = λ i d lt. get_or-le-sum_by size.term_nodes (expressions m) i d lt in
     let conditions : List Condition = m.inits ++ m.invars ++ m.trans ++ m.constraints ++ m.specs in
-    let small : All (λ (c : Condition). size.node_count c.expr ≤ node_total m) conditions =
-    unmapped (λ c. c.expr) (λ e. size.node_count e ≤ node_total m) conditions (all_right (λ e. size.node_count e ≤ node_total m) (map (λ a. a.right) m.assigns) (map (λ c. c.expr) conditions) all) in
+    let small : All (λ (c : Condition). size.term_nodes c.expr ≤ node_total m) conditions =
+    unmapped (λ c. c.expr) (λ e. size.term_nodes e ≤ node_total m) conditions (all_right (λ e. size.term_nodes e ≤ node_total m) (map (λ a. a.right) m.assigns) (map (λ c. c.expr) conditions) all) in
     let few : All IsFew conditions = λ i d lt. let k = small i d lt in omega (arith, k, nodes_less (slice_index_or conditions i d).expr, flat.limits.nodes) in
     let front : List Condition = m.inits ++ m.invars ++ m.trans in
     (all_right IsFew front m.constraints (all_left IsFew (front ++ m.constraints) m.specs few), all_right IsFew (front ++ m.constraints) m.specs few)

@@ -14,7 +14,7 @@ use Rattle.kripke_model.specs.Ctl.{Ctl}
 use Rattle.kripke_model.specs.System.{Condition, State, value_in}
 use Rattle.kripke_model.specs.Term.{has_path_operator}
 use Rattle.kripke_model.specs.Evaluation.{same, values}
-use Rattle.kripke_model.specs.Signs.{Rule}
+use Rattle.kripke_model.specs.Signs.{ProofRule}
 use Rattle.kripke_model.specs.Step.{IsState, Step}
 use Rattle.kripke_model.proofs.ValueLemmas.{same-true}
 use Rattle.kripke_model.proofs.Latch.{state, steps, is_state_of, zero_bit, one_bit, initial_01, num, bit, x_term, latched, latch, Contains-only, stepped, set_after_go, initially}
@@ -215,7 +215,7 @@ abbrev lines_of : ℕ → List (Layer ℕ) → List (List Check)
 lines_of fair ls = obligations latch always_set (states_of fair ls)
 
 abbrev demand : Demand
-demand = record { rule = Rule.AU; first = everything; last = set_now }
+demand = record { rule = ProofRule.AU; first = everything; last = set_now }
 
 no_fair_set : IsFairSet latch seen (set 0) ([] ∷ [] ∷ [])
 no_fair_set = record {

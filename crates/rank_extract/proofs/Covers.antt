@@ -3,7 +3,7 @@ use Rattle.std.proofs.Common.{◌≡◌, inl, inr, ℕ, ◌+◌, ◌<◌, ◌≤
 use Rattle.std.proofs.lemmas.Bool.{cases_Bool, or_left, or_right, or_cases, and_parts, and_from}
 use Rattle.kripke_model.specs.Ctl.{Ctl}
 use Rattle.kripke_model.specs.Evaluation.{eval}
-use Rattle.kripke_model.specs.Signs.{Rule, rule_of, until_rule, node_count}
+use Rattle.kripke_model.specs.Signs.{ProofRule, rule_of, until_rule, node_count}
 use Rattle.kripke_model.specs.Step.{IsState}
 use Rattle.kripke_model.specs.System.{System, State}
 use Rattle.kripke_model.specs.Term.{Term}
@@ -37,8 +37,8 @@ pub other_wanted : (plus minus sign : Bool) → wants plus minus sign ≡ true �
 other_wanted plus minus true h = h
 other_wanted plus minus false h = h
 
-absent_meets : (m : System) (vs avs : List StateSet) (p : Proof) (rule : Rule) (f g : StateSet) → Meets m vs avs p rule Entry.Absent f g
-absent_meets m vs avs p Rule.EX f g = tt
+absent_meets : (m : System) (vs avs : List StateSet) (p : Proof) (rule : ProofRule) (f g : StateSet) → Meets m vs avs p rule Entry.Absent f g
+absent_meets m vs avs p ProofRule.EX f g = tt
 absent_meets m vs avs p _ f g = tt
 
 module _ (m : System) (visited vs avs : List StateSet) (Z fair : StateSet) (nonfair : List Layer) (reaches : List (List StateSet)) (look : ℕ → Bool → Entry)
@@ -85,7 +85,7 @@ module _ (m : System) (visited vs avs : List StateSet) (Z fair : StateSet) (nonf
   rest_looks n high some plus minus es looks i sign low less =
       looks i sign (omega (arith, low)) less ∙ look_past n (n + 1) (own_entries fair at n some plus minus) es i sign (own_within fair at n some plus minus) (inr low)
 
-  module _ (n high : ℕ) (some plus minus sign : Bool) (es : List (Written StateSet)) (rule : Rule) (f g f' g' : StateSet)
+  module _ (n high : ℕ) (some plus minus sign : Bool) (es : List (Written StateSet)) (rule : ProofRule) (f g f' g' : StateSet)
       (own : look n sign ≡ look_up (own_entries fair at n some plus minus ++ es) n sign) (fits : FitsRule (length visited) rule (same_sign some sign) (at n).ranks)
       (ruled : MeetsRule m visited nonfair fair rule f g (sign_set sign (at n)) (at n).ranks) where
     temporal_covers : wants plus minus sign ≡ true → IsInside m f (λ s. s ∈ f') → IsInside m g (λ s. s ∈ g')

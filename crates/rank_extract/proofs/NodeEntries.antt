@@ -4,7 +4,7 @@ use Rattle.std.specs.Prelude.{All}
 use Rattle.std.proofs.lemmas.Bool.{or_left, or_right, or_cases, and_parts, and_from}
 use Rattle.std.proofs.lemmas.List.Elements.{All-nil, All-cons, All-head, All-tail}
 use Rattle.kripke_model.specs.declared.expressions.PathOp.{PathOp}
-use Rattle.kripke_model.specs.Signs.{Rule, rule_of, until_rule}
+use Rattle.kripke_model.specs.Signs.{ProofRule, rule_of, until_rule}
 use Rattle.kripke_model.specs.System.{System, State}
 use Rattle.path_laws.specs.StateSet.{StateSet, ◌∈◌}
 use Rattle.fair_rules.specs.SetLists.{set_at, IsInside}
@@ -23,13 +23,13 @@ use Rattle.proof_form.specs.Shape.{kind_of, Avoids, FitsConstraints}
 use Rattle.rank_extract.specs.Given.{written_layer, given}
 
 -- the sets by which a node's sets grew are those that the rule asks for
-abbrev pub FitsRule : ℕ → Rule → Bool → RanksView → Type 0
-FitsRule count Rule.EX true RanksView.Plain = Unit {0}
-FitsRule count Rule.AX false RanksView.Plain = Unit {0}
-FitsRule count Rule.EU true (RanksView.Reach sets) = Unit {0}
-FitsRule count Rule.AR false (RanksView.Reach sets) = Unit {0}
-FitsRule count Rule.ER true (RanksView.Layered layers inside reaches untils) = length reaches ≡ count
-FitsRule count Rule.AU false (RanksView.Layered layers inside reaches untils) = All (AvoidsOne count) layers
+abbrev pub FitsRule : ℕ → ProofRule → Bool → RanksView → Type 0
+FitsRule count ProofRule.EX true RanksView.Plain = Unit {0}
+FitsRule count ProofRule.AX false RanksView.Plain = Unit {0}
+FitsRule count ProofRule.EU true (RanksView.Reach sets) = Unit {0}
+FitsRule count ProofRule.AR false (RanksView.Reach sets) = Unit {0}
+FitsRule count ProofRule.ER true (RanksView.Layered layers inside reaches untils) = length reaches ≡ count
+FitsRule count ProofRule.AU false (RanksView.Layered layers inside reaches untils) = All (AvoidsOne count) layers
 FitsRule count rule some ranks = ⊥
 
 pub written : (layers : List LayerView) → map layer_of (map written_layer layers) ≡ rule_layers layers
@@ -38,13 +38,13 @@ written (l ∷ layers) = ap (λ ls. rule_layer l ∷ ls) (written layers)
 
 -- ---- its shape
 
-pub given_kind : (count : ℕ) (fair set : StateSet) (rule : Rule) (some : Bool) (ranks : RanksView) → FitsRule count rule some ranks → kind_of (given fair some set ranks) ≡ rule
-given_kind count fair set Rule.EX true RanksView.Plain fits = refl
-given_kind count fair set Rule.AX false RanksView.Plain fits = refl
-given_kind count fair set Rule.EU true (RanksView.Reach sets) fits = refl
-given_kind count fair set Rule.AR false (RanksView.Reach sets) fits = refl
-given_kind count fair set Rule.ER true (RanksView.Layered layers inside reaches untils) fits = refl
-given_kind count fair set Rule.AU false (RanksView.Layered layers inside reaches untils) fits = refl
+pub given_kind : (count : ℕ) (fair set : StateSet) (rule : ProofRule) (some : Bool) (ranks : RanksView) → FitsRule count rule some ranks → kind_of (given fair some set ranks) ≡ rule
+given_kind count fair set ProofRule.EX true RanksView.Plain fits = refl
+given_kind count fair set ProofRule.AX false RanksView.Plain fits = refl
+given_kind count fair set ProofRule.EU true (RanksView.Reach sets) fits = refl
+given_kind count fair set ProofRule.AR false (RanksView.Reach sets) fits = refl
+given_kind count fair set ProofRule.ER true (RanksView.Layered layers inside reaches untils) fits = refl
+given_kind count fair set ProofRule.AU false (RanksView.Layered layers inside reaches untils) fits = refl
 given_kind count fair set _ _ _ fits = absurd fits
 
 pub avoid_all : (count : ℕ) (layers : List LayerView) → All (AvoidsOne count) layers → All (Avoids {A = StateSet} count) (map written_layer layers)
@@ -52,13 +52,13 @@ avoid_all count [] h = All-nil (Avoids {A = StateSet} count)
 avoid_all count (l ∷ layers) h =
     All-cons (Avoids {A = StateSet} count) (written_layer l) (map written_layer layers) (All-head (AvoidsOne count) l layers h) (avoid_all count layers (All-tail (AvoidsOne count) l layers h))
 
-pub given_fits : (count : ℕ) (fair set : StateSet) (rule : Rule) (some : Bool) (ranks : RanksView) → FitsRule count rule some ranks → FitsConstraints count (given fair some set ranks)
-given_fits count fair set Rule.EX true RanksView.Plain fits = tt
-given_fits count fair set Rule.AX false RanksView.Plain fits = tt
-given_fits count fair set Rule.EU true (RanksView.Reach sets) fits = tt
-given_fits count fair set Rule.AR false (RanksView.Reach sets) fits = tt
-given_fits count fair set Rule.ER true (RanksView.Layered layers inside reaches untils) fits = fits
-given_fits count fair set Rule.AU false (RanksView.Layered layers inside reaches untils) fits = avoid_all count layers fits
+pub given_fits : (count : ℕ) (fair set : StateSet) (rule : ProofRule) (some : Bool) (ranks : RanksView) → FitsRule count rule some ranks → FitsConstraints count (given fair some set ranks)
+given_fits count fair set ProofRule.EX true RanksView.Plain fits = tt
+given_fits count fair set ProofRule.AX false RanksView.Plain fits = tt
+given_fits count fair set ProofRule.EU true (RanksView.Reach sets) fits = tt
+given_fits count fair set ProofRule.AR false (RanksView.Reach sets) fits = tt
+given_fits count fair set ProofRule.ER true (RanksView.Layered layers inside reaches untils) fits = fits
+given_fits count fair set ProofRule.AU false (RanksView.Layered layers inside reaches untils) fits = avoid_all count layers fits
 given_fits count fair set _ _ _ fits = absurd fits
 
 -- ---- computed nodes have such sets
@@ -171,36 +171,36 @@ module _ (m : System) (visited vs avs : List StateSet) (fair : StateSet) (nonfai
       };
     }
 
-    pub given_meets : (count : ℕ) (rule : Rule) (some : Bool) (ranks : RanksView) → FitsRule count rule some ranks → MeetsRule m visited nonfair fair rule f g set ranks
+    pub given_meets : (count : ℕ) (rule : ProofRule) (some : Bool) (ranks : RanksView) → FitsRule count rule some ranks → MeetsRule m visited nonfair fair rule f g set ranks
         → Meets m vs avs proof rule (entry_of (given fair some set ranks)) f' g'
-    given_meets count Rule.EX true RanksView.Plain fits h = λ s is_state e. let x = h s is_state e in (x.0, x.1, x.2, (more_g x.0 x.1 x.3.0, x.3.1))
-    given_meets count Rule.AX false RanksView.Plain fits h = λ s is_state e t next step. elim (h s is_state e t next step) [
+    given_meets count ProofRule.EX true RanksView.Plain fits h = λ s is_state e. let x = h s is_state e in (x.0, x.1, x.2, (more_g x.0 x.1 x.3.0, x.3.1))
+    given_meets count ProofRule.AX false RanksView.Plain fits h = λ s is_state e t next step. elim (h s is_state e t next step) [
       | inl good ↦ inl (more_g t next good)
       | inr lost ↦ inr lost
     ]
-    given_meets count Rule.EU true (RanksView.Reach sets) fits h = record {
+    given_meets count ProofRule.EU true (RanksView.Reach sets) fits h = record {
       first = λ s is_state e. let x = h.0.first s is_state e in (more_g s is_state x.0, x.1);
       later = λ k l s is_state e. let x = h.0.later k l s is_state e in (more_f s is_state x.0, x.1);
     }
-    given_meets count Rule.AR false (RanksView.Reach sets) fits h = ar_meets sets h.0 h.1
-    given_meets count Rule.ER true (RanksView.Layered layers inside lists untils) fits h = er_meets inside lists untils h.0
-    given_meets count Rule.AU false (RanksView.Layered layers inside lists untils) fits h =
+    given_meets count ProofRule.AR false (RanksView.Reach sets) fits h = ar_meets sets h.0 h.1
+    given_meets count ProofRule.ER true (RanksView.Layered layers inside lists untils) fits h = er_meets inside lists untils h.0
+    given_meets count ProofRule.AU false (RanksView.Layered layers inside lists untils) fits h =
         subst (λ ls. MeetsAU m avs nonfair f' g' ls) (sym (written layers)) (au_meets (rule_layers layers) h.0)
     given_meets count _ _ _ fits h = absurd fits
 
     -- and its set has the node's states
-    pub given_covers : (count : ℕ) (rule : Rule) (some : Bool) (ranks : RanksView) → FitsRule count rule some ranks → MeetsRule m visited nonfair fair rule f g set ranks
+    pub given_covers : (count : ℕ) (rule : ProofRule) (some : Bool) (ranks : RanksView) → FitsRule count rule some ranks → MeetsRule m visited nonfair fair rule f g set ranks
         → IsInside m set (λ s. s ∈ entry_set nonfair (entry_of (given fair some set ranks)) g')
-    given_covers count Rule.EX true RanksView.Plain fits h = λ s is_state e. e
-    given_covers count Rule.AX false RanksView.Plain fits h = λ s is_state e. e
-    given_covers count Rule.EU true (RanksView.Reach sets) fits h = λ s is_state e. (h.1 s is_state).0 e
-    given_covers count Rule.AR false (RanksView.Reach sets) fits h = λ s is_state e.
+    given_covers count ProofRule.EX true RanksView.Plain fits h = λ s is_state e. e
+    given_covers count ProofRule.AX false RanksView.Plain fits h = λ s is_state e. e
+    given_covers count ProofRule.EU true (RanksView.Reach sets) fits h = λ s is_state e. (h.1 s is_state).0 e
+    given_covers count ProofRule.AR false (RanksView.Reach sets) fits h = λ s is_state e.
         elim (or_cases (without fair (join sets) s) (join_layers nonfair s) ((h.1 s is_state).0 e)) [
           | inl there ↦ or_left (both set fair s) (join_layers nonfair s) (and_from (set s) (fair s) e (without_parts fair (join sets) s there).0)
           | inr lost ↦ or_right (both set fair s) (join_layers nonfair s) lost
         ]
-    given_covers count Rule.ER true (RanksView.Layered layers inside lists untils) fits h = λ s is_state e. (h.1 s is_state).0 e
-    given_covers count Rule.AU false (RanksView.Layered layers inside lists untils) fits h = λ s is_state e.
+    given_covers count ProofRule.ER true (RanksView.Layered layers inside lists untils) fits h = λ s is_state e. (h.1 s is_state).0 e
+    given_covers count ProofRule.AU false (RanksView.Layered layers inside lists untils) fits h = λ s is_state e.
         subst (λ ls. s ∈ either g' (either (join_layers nonfair) (join_layers ls))) (sym (written layers))
         (elim (or_cases (g s) (join_layers nonfair s || join_layers (rule_layers layers) s) ((h.1 s is_state).0 e)) [
           | inl good ↦ or_left (g' s) (join_layers nonfair s || join_layers (rule_layers layers) s) (more_g s is_state good)

@@ -4,7 +4,7 @@ use Rattle.std.specs.Option.{option_and_then}
 use Rattle.std.proofs.lemmas.List.Elements.{All-nil, All-cons}
 use Rattle.std.proofs.lemmas.List.Kept.{AllPairs-cons}
 use Rattle.kripke_model.specs.Ctl.{Ctl}
-use Rattle.kripke_model.specs.Signs.{Rule, rule_of, until_rule, node_count}
+use Rattle.kripke_model.specs.Signs.{ProofRule, rule_of, until_rule, node_count}
 use Rattle.kripke_model.specs.System.{System}
 use Rattle.path_laws.specs.StateSet.{StateSet}
 use Rattle.fair_rules.specs.Block.{same_sign}
@@ -91,7 +91,7 @@ module _ (fair : StateSet) (at : ℕ → NodeView) where
     IsShaped e = HasRule top e × FitsConstraints (length visited) e.rule
 
     own_shaped : (c : Ctl) (n : ℕ) (some plus minus : Bool) → node_at top 1 n ≡ Some c
-        → ((sign : Bool) → (rule : Rule) × (rule_for sign c ≡ Some rule) × FitsRule (length visited) rule (same_sign some sign) (at n).ranks)
+        → ((sign : Bool) → (rule : ProofRule) × (rule_for sign c ≡ Some rule) × FitsRule (length visited) rule (same_sign some sign) (at n).ranks)
         → Each IsShaped (own_entries fair at n some plus minus)
     own_shaped c n some plus minus here rules = go plus minus
       where

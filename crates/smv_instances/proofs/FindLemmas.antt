@@ -6,7 +6,7 @@ use Rattle.std.specs.Str.{bytes_eq}
 use Rattle.std.proofs.lemmas.List.{length-map, map-append, take-append-drop}
 use Rattle.std.proofs.lemmas.List.Folds.{find_at}
 use Rattle.std.proofs.lemmas.Option.{same_Some, slice_get_within}
-use Rattle.kripke_model.specs.Refusing.{Rule, Silent, First}
+use Rattle.kripke_model.specs.Refusing.{RefusalRule, Silent, First}
 use Rattle.kripke_model.specs.declared.refusals.FlatRefusal.{FlatRefusal}
 use Rattle.smv_instances.specs.Program.{Name, Form, Formal, Declaration, Definition, Section, Module, Program}
 use Rattle.smv_instances.specs.Entries.{Entity, Entry, entries, entity_in, entity_of_form, module_named, of_declaration, of_definition, of_formal, of_section}
@@ -23,7 +23,7 @@ use Rattle.smv_instances.proofs.ListSteps.{map_map, take_whole}
 
 -- ---- the body of an instance is not refused
 
-pub silent_member : {R A : Type 0} (rule : List A → A → Rule R) (before xs : List A) (k : ℕ) (x : A) → Silent (First rule before xs) → slice_get xs k ≡ Some x → (earlier : List A) × Silent (rule earlier x)
+pub silent_member : {R A : Type 0} (rule : List A → A → RefusalRule R) (before xs : List A) (k : ℕ) (x : A) → Silent (First rule before xs) → slice_get xs k ≡ Some x → (earlier : List A) × Silent (rule earlier x)
 silent_member rule before [] k x silent at = absurd (let none : None ≡ Some x = at in cc)
 silent_member rule before (y ∷ ys) zero x silent at = (before, subst (λ z. Silent (rule before z)) (same_Some _ _ at) (λ r h. silent r (inl h)))
 silent_member rule before (y ∷ ys) (suc k) x silent at = silent_member rule (before ++ (y ∷ [])) ys k x (λ r h. silent r (inr (λ q g. silent q (inl g), h))) at
@@ -91,7 +91,7 @@ entity_absent m x none = ap (option_map (λ (d : Entry). d.entity)) (none_of (fi
 
 -- ---- the number of a child
 
-pub then_parts : {R : Type 0} (a b : Rule R) → Silent (λ r. a r ⊎ (Silent a × b r)) → Silent a × Silent b
+pub then_parts : {R : Type 0} (a b : RefusalRule R) → Silent (λ r. a r ⊎ (Silent a × b r)) → Silent a × Silent b
 then_parts a b silent = (λ r h. silent r (inl h), λ r h. silent r (inr (λ q k. silent q (inl k), h)))
 
 -- an entry that is not refused is an instance exactly where it leads to a child

@@ -1,10 +1,10 @@
 -- Rules that refuse the first member of a list, as the list grows.
 use Rattle.std.proofs.Common.{◌≡◌, refl, sym, ◌∙◌, ap, subst, append_assoc, append-nil, ℕ, zero, suc, ◌+◌, ◌<◌, arith, List, [], ◌∷◌, ◌++◌, length, take, get_or, inl, inr}
 use Rattle.std.proofs.lemmas.List.{take_more}
-use Rattle.kripke_model.specs.Refusing.{Rule, Silent, First}
+use Rattle.kripke_model.specs.Refusing.{RefusalRule, Silent, First}
 use Rattle.kripke_model.proofs.FirstLemmas.{silent_then}
 
-module _ {R A : Type 0} (rule : List A → A → Rule R) where
+module _ {R A : Type 0} (rule : List A → A → RefusalRule R) where
   silent_head : (before : List A) (x : A) (xs : List A) → Silent (First rule before (x ∷ xs)) → Silent (rule before x)
   silent_head before x xs silent r h = silent r (inl h)
 

@@ -6,7 +6,7 @@ use Rattle.std.proofs.lemmas.List.{take_more}
 use Rattle.std.proofs.lemmas.List.Elements.{filter_map-append}
 use Rattle.std.proofs.lemmas.Grind.{flat_map-append}
 use Rattle.std.proofs.lemmas.Option.{same_Some, slice_get_within}
-use Rattle.kripke_model.specs.Refusing.{Silent, First, Rule, ◌then◌}
+use Rattle.kripke_model.specs.Refusing.{Silent, First, RefusalRule, ◌then◌}
 use Rattle.kripke_model.proofs.FirstLemmas.{silent_then}
 use Rattle.smv_instances.specs.declared.modules.Modules.{Modules}
 use Rattle.smv_instances.specs.declared.rows.Row.{Row}
@@ -156,7 +156,7 @@ module _ (ms : Modules) (p : Program) where
 
 -- ---- no instance is too deep
 
-then_parts : {R : Type 0} {a b : Rule R} → Silent (a then b) → Silent a × Silent b
+then_parts : {R : Type 0} {a b : RefusalRule R} → Silent (a then b) → Silent a × Silent b
 then_parts {a} silent = (λ r h. silent r (inl h), λ r h. silent r (inr (λ q k. silent q (inl k), h)))
 
 no_child : (p : Program) (before : List Scope) (s : Scope) (earlier : List Entry) (name : Name) (line : ℕ) (e : Entity) → Silent (declaration p before s earlier (record { name = name; line = line; entity = e })) → 32 ≤ depth s → child p s (record { name = name; line = line; entity = e }) ≡ None

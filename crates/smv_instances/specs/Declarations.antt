@@ -1,7 +1,7 @@
 -- What a program is refused for up to its declarations and constants.
 use Rattle.std.specs.Prelude.{◌≡◌, ℕ, ◌+◌, ◌-◌, ◌*◌, ◌<◌, Bool, true, false, ◌&&◌, ◌||◌, not, ltb, int_lt, List, [], ◌∷◌, ◌++◌, flat_map, length, Some, None, IsTrue, Any, sum_by, is_some, Contains, ◌⊎◌, ◌≢◌}
 use Rattle.std.specs.List.{list_any}
-use Rattle.kripke_model.specs.Refusing.{Rule, refuse, ◌then◌, First, first_of}
+use Rattle.kripke_model.specs.Refusing.{RefusalRule, refuse, ◌then◌, First, first_of}
 use Rattle.kripke_model.specs.declared.refusals.Which.{Which}
 use Rattle.kripke_model.specs.declared.refusals.FlatRefusal.{FlatRefusal}
 use Rattle.smv_instances.specs.Program.{Plain, Module, Program}
@@ -9,7 +9,7 @@ use Rattle.smv_instances.specs.Entries.{Entity, Entry, entries, module_named}
 use Rattle.smv_instances.specs.Instances.{Scope, module_of, depth, modules_to, main_name, main_scope, instances, declares_process, atoms_in, integer_count, type_values, is_symbol}
 
 abbrev pub Refusal : Type 1
-Refusal = Rule FlatRefusal
+Refusal = RefusalRule FlatRefusal
 
 -- an entry with the instance in whose body it stands
 abbrev pub PlacedEntry : Type 0

@@ -4,7 +4,7 @@ use Rattle.std.specs.Prelude.{cond, sum_by}
 use Rattle.kripke_model.specs.Refusing.{Silent}
 use Rattle.kripke_model.specs.declared.expressions.PathOp.{PathOp}
 use Rattle.kripke_model.specs.Term.{Term}
-use Rattle.kripke_model.specs.Size.{node_count, nesting}
+use Rattle.kripke_model.specs.Size.{term_nodes, nesting}
 use Rattle.kripke_model.proofs.FirstLemmas.{silent_refuse, silent_then}
 use Rattle.smv_instances.specs.Program.{Expr, Path, Plain, Program}
 use Rattle.smv_instances.specs.Instances.{Scope, main_scope}
@@ -51,6 +51,6 @@ not_refused =
     (silent_then (silent_refuse (λ h. omega arith))
     (silent_then
     (silent_refuse (λ h. let same : h.0 ≡ Term.Quant PathOp.AG (Term.Var 0) ∷ [] = terms_one accepted (all_items accepted) h.0 _ h.1 (expands, tt) in
-    let few : sum_by node_count h.0 ≡ 2 = ap (sum_by node_count) same in omega (arith, few, h.2)))
+    let few : sum_by term_nodes h.0 ≡ 2 = ap (sum_by term_nodes) same in omega (arith, few, h.2)))
     (silent_refuse (λ h. let low : nesting h.0 ≡ 2 = ap nesting (expands_one h.1 expands) in omega (arith, low, h.2))))))
     (λ r h. h)))

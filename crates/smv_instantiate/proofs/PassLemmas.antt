@@ -3,7 +3,7 @@ use Rattle.std.proofs.Common.{◌≡◌, refl, sym, ◌∙◌, ap, subst, ℕ, z
 use Rattle.std.proofs.lemmas.Option.{slice_get_within}
 use Rattle.std.specs.Prelude.{IfErr, OnOk, Result, Ok, Err, MatchResult, slice_get, sum_by}
 use Rattle.kripke_model.specs.Refusing.{Silent}
-use Rattle.kripke_model.specs.Size.{node_count, nesting}
+use Rattle.kripke_model.specs.Size.{term_nodes, nesting}
 use Rattle.kripke_model.specs.Term.{Term}
 use Rattle.kripke_model.proofs.FirstLemmas.{silent_refuse, silent_then}
 use Rattle.kripke_model.specs.declared.refusals.FlatRefusal.{FlatRefusal}
@@ -81,41 +81,41 @@ item_silent p before s (Item.States c) first second third =
 terms_one : (p : Program) (items : List Placed) (ts us : List Term) → AreTerms p items ts → AreTerms p items us → ts ≡ us
 terms_one p items ts us a b = matches_one (λ x y z h k. expands_one h k) items ts us a b
 
-add_terms : (ts : List Term) (t : Term) → sum_by node_count (ts ++ (t ∷ [])) ≡ sum_by node_count ts + node_count t
+add_terms : (ts : List Term) (t : Term) → sum_by term_nodes (ts ++ (t ∷ [])) ≡ sum_by term_nodes ts + term_nodes t
 add_terms ts t =
-    let x : total node_count (ts ++ (t ∷ [])) ≡ total node_count ts + (node_count t + 0) = total-append node_count ts (t ∷ []) in
-    let y : sum_by node_count (ts ++ (t ∷ [])) ≡ total node_count (ts ++ (t ∷ [])) = sum_is_total node_count (ts ++ (t ∷ [])) in
-    let z : sum_by node_count ts ≡ total node_count ts = sum_is_total node_count ts in
+    let x : total term_nodes (ts ++ (t ∷ [])) ≡ total term_nodes ts + (term_nodes t + 0) = total-append term_nodes ts (t ∷ []) in
+    let y : sum_by term_nodes (ts ++ (t ∷ [])) ≡ total term_nodes (ts ++ (t ∷ [])) = sum_is_total term_nodes (ts ++ (t ∷ [])) in
+    let z : sum_by term_nodes ts ≡ total term_nodes ts = sum_is_total term_nodes ts in
     omega (arith, x, y, z)
 
 module _ (p : Program) (before : List Placed) (s : Scope) (i : Item) (old : Totals) (passed : IsPassed p before old) (t : Term) (expands : Expands p s (expression i) t) where
   terms_more : AreTerms p (before ++ ((s, i) ∷ [])) (passed.terms ++ (t ∷ []))
   terms_more = matched_append (λ (j : Placed) u. Expands p j.0 (expression j.1) u) before ((s, i) ∷ []) passed.terms (t ∷ []) passed.are (expands, tt)
 
-  nodes_more : sum_by node_count (passed.terms ++ (t ∷ [])) ≡ old.nodes + node_count t
+  nodes_more : sum_by term_nodes (passed.terms ++ (t ∷ [])) ≡ old.nodes + term_nodes t
   nodes_more = let e = add_terms passed.terms t in omega (arith, e, passed.nodes)
 
-  few_nodes : old.nodes + node_count t ≤ 200000 → (ts : List Term) → AreTerms p (before ++ ((s, i) ∷ [])) ts → 200000 < sum_by node_count ts → ⊥
+  few_nodes : old.nodes + term_nodes t ≤ 200000 → (ts : List Term) → AreTerms p (before ++ ((s, i) ∷ [])) ts → 200000 < sum_by term_nodes ts → ⊥
   few_nodes few ts are many =
       let same : ts ≡ passed.terms ++ (t ∷ []) = terms_one p (before ++ ((s, i) ∷ [])) ts (passed.terms ++ (t ∷ [])) are terms_more in
-      let sums : sum_by node_count ts ≡ sum_by node_count (passed.terms ++ (t ∷ [])) = ap (sum_by node_count) same in
+      let sums : sum_by term_nodes ts ≡ sum_by term_nodes (passed.terms ++ (t ∷ [])) = ap (sum_by term_nodes) same in
       omega (arith, few, many, sums, nodes_more)
 
-  nodes_silent : (line : ℕ) → old.nodes + node_count t ≤ 200000 → Silent (λ r. (r ≡ FlatRefusal.Limit line Which.Nodes 200001) × ((ts : List Term) × AreTerms p (before ++ ((s, i) ∷ [])) ts × (200000 < sum_by node_count ts)))
+  nodes_silent : (line : ℕ) → old.nodes + term_nodes t ≤ 200000 → Silent (λ r. (r ≡ FlatRefusal.Limit line Which.Nodes 200001) × ((ts : List Term) × AreTerms p (before ++ ((s, i) ∷ [])) ts × (200000 < sum_by term_nodes ts)))
   nodes_silent line few = silent_refuse (λ h. few_nodes few h.0 h.1 h.2)
 
   nesting_silent : (line : ℕ) → nesting t ≤ 1024 → Silent (λ r. (r ≡ FlatRefusal.Limit line Which.Nesting 1025) × ((u : Term) × Expands p s (expression i) u × (1024 < nesting u)))
   nesting_silent line few = silent_refuse (λ h. let same : nesting h.0 ≡ nesting t = ap nesting (expands_one h.1 expands) in absurd (omega (arith, few, same, h.2)))
 
-  sizes_silent : old.nodes + node_count t ≤ 200000 → nesting t ≤ 1024 → Silent (size_rows p (before ++ ((s, i) ∷ [])) (s, i))
+  sizes_silent : old.nodes + term_nodes t ≤ 200000 → nesting t ≤ 1024 → Silent (size_rows p (before ++ ((s, i) ∷ [])) (s, i))
   sizes_silent few deep = silent_then (nodes_silent (item_line i) few) (nesting_silent (item_line i) deep)
 
   -- the answer after the size
   pub passes : (counted : Totals) (line : ℕ) (result : Result Totals FlatRefusal) → line ≡ item_line i → Silent (path_rows p s (item_mentions i))
       → AreCounts counted (before ++ ((s, i) ∷ [])) → counted.nodes ≡ old.nodes → HasLeft p s i → Silent (own_rows p (before ++ ((s, i) ∷ [])) s i)
-      → AddsSize counted line (node_count t) (nesting t) result → PassesItem p before (s, i) result
+      → AddsSize counted line (term_nodes t) (nesting t) result → PassesItem p before (s, i) result
   passes counted line (Ok new) at first counts same left second h =
-      let few : old.nodes + node_count t ≤ 200000 = omega (arith, same, h.1) in (
+      let few : old.nodes + term_nodes t ≤ 200000 = omega (arith, same, h.1) in (
         subst (λ n. IsPassed p (before ++ ((s, i) ∷ [])) n) (sym h.0) (record {
           counts = record {
             specifications = counts.specifications;

@@ -3,7 +3,7 @@ use Rattle.std.proofs.Common.{◌≡◌, refl, sym, ◌∙◌, ap, subst, ℕ, z
 use Rattle.std.specs.Prelude.{cond, pos, is_some, Ok}
 use Rattle.std.specs.Str.{bytes_eq}
 use Rattle.std.specs.List.{slice_index_or}
-use Rattle.kripke_model.specs.Refusing.{Rule, refuse, Silent, ◌then◌, First, first_of}
+use Rattle.kripke_model.specs.Refusing.{RefusalRule, refuse, Silent, ◌then◌, First, first_of}
 use Rattle.kripke_model.specs.declared.expressions.Value.TheVariants.{Number}
 use Rattle.kripke_model.specs.Term.{Term}
 use Rattle.kripke_model.specs.Evaluation.{Checked}
@@ -26,7 +26,7 @@ use Rattle.smv_instantiate.proofs.Samples.{declared_twice, unknown, contains_its
 silent_refuse : {R : Type 0} {r : R} {C : Type 0} → (C → ⊥) → Silent (refuse r C)
 silent_refuse never q h = never h.1
 
-silent_then : {R : Type 0} {a b : Rule R} → Silent a → Silent b → Silent (a then b)
+silent_then : {R : Type 0} {a b : RefusalRule R} → Silent a → Silent b → Silent (a then b)
 silent_then s t r h = ⊎_elim (s r) (λ x. t r x.1) h
 
 -- false is not true, and nothing is not something
@@ -68,7 +68,7 @@ another_name : (y : Name) (before : Entry) → bytes_eq y before.name ≡ false 
 another_name y before apart same h = names_differ before.name y apart same (any_one (λ (other : Entry). other.name ≡ y) before h)
 
 -- a program of one body
-silent_body : {R : Type 0} {a : Rule R} → Silent a → Silent (λ r. a r ⊎ (Silent a × ⊥))
+silent_body : {R : Type 0} {a : RefusalRule R} → Silent a → Silent (λ r. a r ⊎ (Silent a × ⊥))
 silent_body s = silent_then s (λ r h. h)
 
 -- the passes over modules, declarations and constants are one rule

@@ -1,13 +1,13 @@
 -- What a silent rule over a list says of each member and of those before it.
 use Rattle.std.proofs.Common.{sym, subst, List, [], ◌∷◌, ◌++◌, inl, inr, append_assoc, append-nil}
 use Rattle.std.specs.Prelude.{flat_map}
-use Rattle.kripke_model.specs.Refusing.{Rule, Silent, ◌then◌, First}
+use Rattle.kripke_model.specs.Refusing.{RefusalRule, Silent, ◌then◌, First}
 use Rattle.smv_instantiate.proofs.Members.{In, in_left}
 
-pub silent_first : {R : Type 0} {a b : Rule R} → Silent (a then b) → Silent a
+pub silent_first : {R : Type 0} {a b : RefusalRule R} → Silent (a then b) → Silent a
 silent_first s r h = s r (inl h)
 
-pub silent_second : {R : Type 0} {a b : Rule R} → Silent (a then b) → Silent b
+pub silent_second : {R : Type 0} {a b : RefusalRule R} → Silent (a then b) → Silent b
 silent_second s r h = s r (inr (silent_first s, h))
 
 -- P holds of each member after those before it
@@ -15,7 +15,7 @@ abbrev pub EachAfter : {A : Type 0} → (List A → A → Type 0) → List A →
 EachAfter P before [] = Unit {0}
 EachAfter P before (x ∷ xs) = P before x × EachAfter P (before ++ (x ∷ [])) xs
 
-pub silent_each : {R A : Type 0} (rule : List A → A → Rule R) (before xs : List A) → Silent (First rule before xs) → EachAfter (λ b x. Silent (rule b x)) before xs
+pub silent_each : {R A : Type 0} (rule : List A → A → RefusalRule R) (before xs : List A) → Silent (First rule before xs) → EachAfter (λ b x. Silent (rule b x)) before xs
 silent_each rule before [] s = tt
 silent_each rule before (x ∷ xs) s = (λ r h. s r (inl h), silent_each rule (before ++ (x ∷ [])) xs (λ r h. s r (inr (λ q k. s q (inl k), h))))
 

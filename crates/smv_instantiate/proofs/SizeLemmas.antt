@@ -4,7 +4,7 @@ use Rattle.std.specs.Prelude.{map, filter, sum_by}
 use Rattle.std.proofs.lemmas.Bool.{cases_lt}
 use Rattle.kripke_model.specs.Refusing.{Silent}
 use Rattle.kripke_model.specs.Term.{Term}
-use Rattle.kripke_model.specs.Size.{node_count, nesting}
+use Rattle.kripke_model.specs.Size.{term_nodes, nesting}
 use Rattle.kripke_model.specs.System.{System, Assignment, Condition}
 use Rattle.kripke_model.specs.Flat.{expressions}
 use Rattle.kripke_model.specs.declared.refusals.FlatRefusal.{FlatRefusal}
@@ -43,18 +43,18 @@ matched_append R (x ∷ xs) us (y ∷ ys) vs m n = (m.0, matched_append R xs us 
 -- ---- the parts of the items, and the terms of all of them
 
 abbrev right_nodes : Assignment → ℕ
-right_nodes a = node_count a.right
+right_nodes a = term_nodes a.right
 
 abbrev condition_nodes : Condition → ℕ
-condition_nodes c = node_count c.expr
+condition_nodes c = term_nodes c.expr
 
 record HasTerms (p : Program) (items : List Placed) (count : ℕ) : Type 0 where
   terms : List Term
   are : AreTerms p items terms
-  nodes : total node_count terms ≡ count
+  nodes : total term_nodes terms ≡ count
 
-add_term : (p : Program) (i : Placed) (items : List Placed) (t : Term) (rest count : ℕ) → Expands p i.0 (expression i.1) t → HasTerms p items rest → count ≡ node_count t + rest → HasTerms p (i ∷ items) count
-add_term p i items t rest count x h e = record { terms = t ∷ h.terms; are = (x, h.are); nodes = ap (λ n. node_count t + n) h.nodes ∙ sym e }
+add_term : (p : Program) (i : Placed) (items : List Placed) (t : Term) (rest count : ℕ) → Expands p i.0 (expression i.1) t → HasTerms p items rest → count ≡ term_nodes t + rest → HasTerms p (i ∷ items) count
+add_term p i items t rest count x h e = record { terms = t ∷ h.terms; are = (x, h.are); nodes = ap (λ n. term_nodes t + n) h.nodes ∙ sym e }
 
 -- the terms of the items, from what the flat model has of each kind
 abbrev TermsOf : Program → List Placed → Type 0
@@ -111,39 +111,39 @@ silent_sizes p b (s, Item.Assigns a) h = silent_second (silent_second h)
 silent_sizes p b (s, Item.States c) h = silent_second (silent_second h)
 
 -- the terms of the items, and of one more, are few
-nodes_kept : (p : Program) (b : List Placed) (i : Placed) → Silent (item p b i) → (ts : List Term) → AreTerms p (b ++ (i ∷ [])) ts → sum_by node_count ts ≤ 200000
+nodes_kept : (p : Program) (b : List Placed) (i : Placed) → Silent (item p b i) → (ts : List Term) → AreTerms p (b ++ (i ∷ [])) ts → sum_by term_nodes ts ≤ 200000
 nodes_kept p b i h ts are = not_above _ _ (λ more. silent_first (silent_sizes p b i h) (FlatRefusal.Limit (item_line i.1) Which.Nodes 200001) (refl, (ts, are, more)))
 
 FewNodes : Program → List Placed → Type 0
-FewNodes p items = (ts : List Term) → AreTerms p items ts → sum_by node_count ts ≤ 200000
+FewNodes p items = (ts : List Term) → AreTerms p items ts → sum_by term_nodes ts ≤ 200000
 
 no_terms : (p : Program) → FewNodes p []
 unfolding FewNodes
 no_terms p [] are = omega arith
 no_terms p (t ∷ ts) are = absurd are
 
-few_nodes : (p : Program) → EachAfter (λ b i. Silent (item p b i)) [] (all_items p) → (ts : List Term) → AreTerms p (all_items p) ts → sum_by node_count ts ≤ 200000
+few_nodes : (p : Program) → EachAfter (λ b i. Silent (item p b i)) [] (all_items p) → (ts : List Term) → AreTerms p (all_items p) ts → sum_by term_nodes ts ≤ 200000
 unfolding FewNodes
 few_nodes p e = after_all (λ b i. Silent (item p b i)) (FewNodes p) (λ b i h few. nodes_kept p b i h) [] (all_items p) e (no_terms p)
 
-pub node_limit : (p : Program) (m : System) → EachAfter (λ b i. Silent (item p b i)) [] (all_items p) → Flattens p m → sum_by node_count (expressions m) ≤ 200000
+pub node_limit : (p : Program) (m : System) → EachAfter (λ b i. Silent (item p b i)) [] (all_items p) → Flattens p m → sum_by term_nodes (expressions m) ≤ 200000
 node_limit p m e flat =
     let h = terms_of p (all_items p) m.assigns m.inits m.invars m.trans m.constraints m.specs flat.assigns flat.inits flat.invars flat.trans flat.constraints flat.specs in
-    let few : sum_by node_count h.terms ≤ 200000 = few_nodes p e h.terms h.are in
-    let sums : sum_by node_count h.terms ≡ total right_nodes m.assigns + (total condition_nodes m.inits + (total condition_nodes m.invars + (total condition_nodes m.trans + (total condition_nodes m.constraints + total condition_nodes m.specs)))) = sum_is_total node_count h.terms ∙ h.nodes in
-    let all : sum_by node_count (expressions m) ≡ total right_nodes m.assigns + (total condition_nodes m.inits + (total condition_nodes m.invars + (total condition_nodes m.trans + (total condition_nodes m.constraints + total condition_nodes m.specs)))) = by m in
+    let few : sum_by term_nodes h.terms ≤ 200000 = few_nodes p e h.terms h.are in
+    let sums : sum_by term_nodes h.terms ≡ total right_nodes m.assigns + (total condition_nodes m.inits + (total condition_nodes m.invars + (total condition_nodes m.trans + (total condition_nodes m.constraints + total condition_nodes m.specs)))) = sum_is_total term_nodes h.terms ∙ h.nodes in
+    let all : sum_by term_nodes (expressions m) ≡ total right_nodes m.assigns + (total condition_nodes m.inits + (total condition_nodes m.invars + (total condition_nodes m.trans + (total condition_nodes m.constraints + total condition_nodes m.specs)))) = by m in
     omega (arith, few, sums, all)
   where
-    by : (n : System) → sum_by node_count (expressions n) ≡ total right_nodes n.assigns + (total condition_nodes n.inits + (total condition_nodes n.invars + (total condition_nodes n.trans + (total condition_nodes n.constraints + total condition_nodes n.specs))))
+    by : (n : System) → sum_by term_nodes (expressions n) ≡ total right_nodes n.assigns + (total condition_nodes n.inits + (total condition_nodes n.invars + (total condition_nodes n.trans + (total condition_nodes n.constraints + total condition_nodes n.specs))))
     by n =
-        let a : total node_count (expressions n) ≡ total node_count (map (λ a. a.right) n.assigns) + total node_count (map (λ c. c.expr) (n.inits ++ n.invars ++ n.trans ++ n.constraints ++ n.specs)) = total-append node_count (map (λ a. a.right) n.assigns) _ in
-        let b : total node_count (map (λ a. a.right) n.assigns) ≡ total right_nodes n.assigns = total-map node_count (λ a. a.right) n.assigns in
-        let c : total node_count (map (λ c. c.expr) (n.inits ++ n.invars ++ n.trans ++ n.constraints ++ n.specs)) ≡ total condition_nodes (n.inits ++ n.invars ++ n.trans ++ n.constraints ++ n.specs) = total-map node_count (λ c. c.expr) (n.inits ++ n.invars ++ n.trans ++ n.constraints ++ n.specs) in
+        let a : total term_nodes (expressions n) ≡ total term_nodes (map (λ a. a.right) n.assigns) + total term_nodes (map (λ c. c.expr) (n.inits ++ n.invars ++ n.trans ++ n.constraints ++ n.specs)) = total-append term_nodes (map (λ a. a.right) n.assigns) _ in
+        let b : total term_nodes (map (λ a. a.right) n.assigns) ≡ total right_nodes n.assigns = total-map term_nodes (λ a. a.right) n.assigns in
+        let c : total term_nodes (map (λ c. c.expr) (n.inits ++ n.invars ++ n.trans ++ n.constraints ++ n.specs)) ≡ total condition_nodes (n.inits ++ n.invars ++ n.trans ++ n.constraints ++ n.specs) = total-map term_nodes (λ c. c.expr) (n.inits ++ n.invars ++ n.trans ++ n.constraints ++ n.specs) in
         let d : total condition_nodes (n.inits ++ n.invars ++ n.trans ++ n.constraints ++ n.specs) ≡ total condition_nodes (n.inits ++ n.invars ++ n.trans ++ n.constraints) + total condition_nodes n.specs = total-append condition_nodes (n.inits ++ n.invars ++ n.trans ++ n.constraints) n.specs in
         let f : total condition_nodes (n.inits ++ n.invars ++ n.trans ++ n.constraints) ≡ total condition_nodes (n.inits ++ n.invars ++ n.trans) + total condition_nodes n.constraints = total-append condition_nodes (n.inits ++ n.invars ++ n.trans) n.constraints in
         let g : total condition_nodes (n.inits ++ n.invars ++ n.trans) ≡ total condition_nodes (n.inits ++ n.invars) + total condition_nodes n.trans = total-append condition_nodes (n.inits ++ n.invars) n.trans in
         let h : total condition_nodes (n.inits ++ n.invars) ≡ total condition_nodes n.inits + total condition_nodes n.invars = total-append condition_nodes n.inits n.invars in
-        let z : sum_by node_count (expressions n) ≡ total node_count (expressions n) = sum_is_total node_count (expressions n) in
+        let z : sum_by term_nodes (expressions n) ≡ total term_nodes (expressions n) = sum_is_total term_nodes (expressions n) in
         omega (arith, a, b, c, d, f, g, h, z)
 
 -- ---- nesting

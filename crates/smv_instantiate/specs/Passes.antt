@@ -1,7 +1,7 @@
 -- What the pass over items knows of the items that it went over.
 use Rattle.std.specs.Prelude.{◌≡◌, ℕ, ◌+◌, ◌<◌, ◌≤◌, ◌⊎◌, List, [], ◌∷◌, ◌++◌, map, All, Some, Result, MatchResult, sum_by}
 use Rattle.kripke_model.specs.Refusing.{Silent, First, refuse}
-use Rattle.kripke_model.specs.Size.{node_count, nesting}
+use Rattle.kripke_model.specs.Size.{term_nodes, nesting}
 use Rattle.kripke_model.specs.Term.{Term}
 use Rattle.smv_instances.specs.declared.instances.Instances.{Instances}
 use Rattle.kripke_model.specs.declared.refusals.Which.{Which}
@@ -77,7 +77,7 @@ pub record IsPassed (p : Program) (items : List Placed) (totals : Totals) : Type
   pub counts : AreCounts totals items
   pub terms : List Term
   pub are : AreTerms p items terms
-  pub nodes : totals.nodes ≡ sum_by node_count terms
+  pub nodes : totals.nodes ≡ sum_by term_nodes terms
   pub few_nodes : totals.nodes ≤ 200000
   pub ready : All (HasTerm p) items
 

@@ -2,7 +2,7 @@
 use Rattle.std.specs.Prelude.{ℕ, ◌<◌, false, List, [], ◌∷◌, ◌++◌, sum_by}
 use Rattle.kripke_model.specs.Refusing.{refuse, ◌then◌, First, first_of}
 use Rattle.kripke_model.specs.Term.{Term}
-use Rattle.kripke_model.specs.Size.{node_count, nesting}
+use Rattle.kripke_model.specs.Size.{term_nodes, nesting}
 use Rattle.kripke_model.specs.declared.refusals.Which.{Which}
 use Rattle.kripke_model.specs.declared.refusals.FlatRefusal.{FlatRefusal}
 use Rattle.smv_instances.specs.Program.{Expr, Program, Kind, Stated}
@@ -32,7 +32,7 @@ AreTerms p items ts = Matches (λ i t. Expands p i.0 (expression i.1) t) items t
 abbrev pub size_rows : Program → List Placed → Placed → Refusal
 size_rows p upto (s, i) =
     refuse (FlatRefusal.Limit (item_line i) Which.Nodes 200001)
-    ((ts : List Term) × AreTerms p upto ts × (200000 < sum_by node_count ts))
+    ((ts : List Term) × AreTerms p upto ts × (200000 < sum_by term_nodes ts))
     then refuse (FlatRefusal.Limit (item_line i) Which.Nesting 1025)
     ((t : Term) × Expands p s (expression i) t × (1024 < nesting t))
 

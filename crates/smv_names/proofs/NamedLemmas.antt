@@ -2,7 +2,7 @@
 use Rattle.std.proofs.Common.{◌≡◌, refl, sym, ◌∙◌, ap, subst, List, [], Bool, true, false, Some, None, Option}
 use Rattle.std.specs.Prelude.{cond, option_and_then, option_map}
 use Rattle.kripke_model.specs.Term.{Term}
-use Rattle.kripke_model.specs.Size.{node_count, nesting}
+use Rattle.kripke_model.specs.Size.{term_nodes, nesting}
 use Rattle.smv_instances.specs.Program.{Name, Expr, Path, Plain, Program}
 use Rattle.smv_instances.specs.Entries.{Entity, entity_in, module_named}
 use Rattle.smv_instances.specs.Instances.{Scope, module_of}
@@ -166,7 +166,7 @@ named_of_text p s q a n is x = by_text p s q a n (text_means p a is) x
 
 -- a variable or a symbolic constant
 pub record IsLeaf (t : Term) : Type 0 where
-  pub nodes : node_count t ≡ 1
+  pub nodes : term_nodes t ≡ 1
   pub deep : nesting t ≡ 1
   pub no_number : is_arithmetic t ≡ false
 

@@ -3,7 +3,7 @@ use Rattle.std.proofs.Common.{◌≡◌, sym, subst, ℕ, ◌+◌, max, arith, L
 use Rattle.kripke_model.specs.declared.expressions.BinOp.{BinOp}
 use Rattle.kripke_model.specs.declared.expressions.PathOp.{PathOp}
 use Rattle.kripke_model.specs.Term.{Term, Terms, Arms}
-use Rattle.kripke_model.specs.Size.{node_count, nesting, element_nodes, element_nesting, arm_nodes, arm_nesting}
+use Rattle.kripke_model.specs.Size.{term_nodes, nesting, element_nodes, element_nesting, arm_nodes, arm_nesting}
 use Rattle.smv_parser.specs.declared.expressions.Arm.{Arm}
 use Rattle.smv_parser.specs.declared.expressions.Expr.{Expr as Written}
 use Rattle.smv_parser.specs.declared.expressions.PrefixOperator.{PrefixOperator}
@@ -66,7 +66,7 @@ regroup : (z : Size) (a b d : ℕ) → IsSize z (1 + (a + b)) d → IsSize z (1 
 regroup z a b d h = let e : 1 + (a + b) ≡ 1 + a + b = omega arith in subst (λ n. IsSize z n d) e h
 
 pub both_size : {p : Program} {s : Scope} (a b : Expr) {w x y z : Size} → IsSizeOf p s a x → IsSizeOf p s b y → Joins w x y → Surrounds z w → BothSizeOf p s a b z
-both_size a b {z = z} x y j f t u k l = regroup z (node_count t) (node_count u) (1 + max (nesting t) (nesting u)) (f _ _ (j _ _ _ _ (x t k) (y u l)))
+both_size a b {z = z} x y j f t u k l = regroup z (term_nodes t) (term_nodes u) (1 + max (nesting t) (nesting u)) (f _ _ (j _ _ _ _ (x t k) (y u l)))
 
 pub binary_size : {p : Program} {s : Scope} (op : BinOp) (a b : Expr) {z : Size} → BothSizeOf p s a b z → IsSizeOf p s (Expr.Binary op a b) z
 binary_size op a b z t (Expands.binary {t = u} {u = v} k l) = z u v k l
@@ -94,7 +94,7 @@ record LastElement (p : Program) (s : Scope) (xs : List Written) (e : Written) (
   pub last : Term
   pub front_expands : ExpandElements p s (abstract.exprs (tree.trees_of (map tree_of xs))) front
   pub last_expands : Expands p s (plain_expr e) last
-  pub nodes : element_nodes ts ≡ element_nodes front + node_count last
+  pub nodes : element_nodes ts ≡ element_nodes front + term_nodes last
   pub deep : element_nesting ts ≡ max (element_nesting front) (nesting last)
 
 last_element : {p : Program} {s : Scope} {ts : Terms} (xs : List Written) (e : Written) → ExpandElements p s (abstract.exprs (tree.trees_of (map tree_of (xs ++ e ∷ [])))) ts → LastElement p s xs e ts
@@ -115,7 +115,7 @@ pub elements_size : {p : Program} {s : Scope} (xs : List Written) (e : Written) 
     → AreSizesOf p s (abstract.exprs (tree.trees_of (map tree_of (xs ++ e ∷ [])))) z
 elements_size {p} {s} xs e {z = z} x y j ts k =
     let r = last_element xs e k in
-    subst (λ n. IsSize z n (element_nesting ts)) (sym r.nodes) (subst (λ d. IsSize z (element_nodes r.front + node_count r.last) d) (sym r.deep) (j _ _ _ _ (x r.front r.front_expands) (y r.last r.last_expands)))
+    subst (λ n. IsSize z n (element_nesting ts)) (sym r.nodes) (subst (λ d. IsSize z (element_nodes r.front + term_nodes r.last) d) (sym r.deep) (j _ _ _ _ (x r.front r.front_expands) (y r.last r.last_expands)))
 
 record LastArm (p : Program) (s : Scope) (xs : List Arm) (a : Arm) (ts : Arms) : Type 0 where
   pub front : Arms
@@ -124,7 +124,7 @@ record LastArm (p : Program) (s : Scope) (xs : List Arm) (a : Arm) (ts : Arms) :
   pub front_expands : ExpandArms p s (abstract.arms (tree.arms_of (map arm_pair xs))) front
   pub guard_expands : Expands p s (plain_expr a.guard) guard
   pub right_expands : Expands p s (plain_expr a.right) right
-  pub nodes : arm_nodes ts ≡ arm_nodes front + (node_count guard + node_count right)
+  pub nodes : arm_nodes ts ≡ arm_nodes front + (term_nodes guard + term_nodes right)
   pub deep : arm_nesting ts ≡ max (arm_nesting front) (max (nesting guard) (nesting right))
 
 last_arm : {p : Program} {s : Scope} {ts : Arms} (xs : List Arm) (a : Arm) → ExpandArms p s (abstract.arms (tree.arms_of (map arm_pair (xs ++ a ∷ [])))) ts → LastArm p s xs a ts
@@ -147,7 +147,7 @@ pub arms_size : {p : Program} {s : Scope} (xs : List Arm) (a : Arm) {w x y v z :
     → Joins v x y → Joins z w v → AreArmSizesOf p s (abstract.arms (tree.arms_of (map arm_pair (xs ++ a ∷ [])))) z
 arms_size {p} {s} xs a {z = z} w x y j i ts k =
     let r = last_arm xs a k in
-    subst (λ n. IsSize z n (arm_nesting ts)) (sym r.nodes) (subst (λ d. IsSize z (arm_nodes r.front + (node_count r.guard + node_count r.right)) d) (sym r.deep)
+    subst (λ n. IsSize z n (arm_nesting ts)) (sym r.nodes) (subst (λ d. IsSize z (arm_nodes r.front + (term_nodes r.guard + term_nodes r.right)) d) (sym r.deep)
     (i _ _ _ _ (w r.front r.front_expands) (j _ _ _ _ (x r.guard r.guard_expands) (y r.right r.right_expands))))
 
 -- ---- parentheses and paths

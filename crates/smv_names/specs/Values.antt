@@ -5,7 +5,7 @@ use Rattle.kripke_model.specs.declared.expressions.Value.{Value}
 use Rattle.kripke_model.specs.declared.expressions.Value.TheVariants.{Number}
 use Rattle.kripke_model.specs.declared.expressions.BinOp.{BinOp}
 use Rattle.kripke_model.specs.Term.{Term, Terms, Arms}
-use Rattle.kripke_model.specs.Size.{node_count, nesting, element_nodes, element_nesting, arm_nodes, arm_nesting}
+use Rattle.kripke_model.specs.Size.{term_nodes, nesting, element_nodes, element_nesting, arm_nodes, arm_nesting}
 use Rattle.kripke_model.specs.Evaluation.{Checked, eval, binary}
 use Rattle.smv_instances.specs.Program.{Expr, Exprs, Program}
 use Rattle.smv_instances.specs.Program
@@ -70,13 +70,13 @@ pub record IsSize (size : Size) (nodes deep : ℕ) : Type 0 where
 
 -- the size of the term, if the expression stands for one
 abbrev pub IsSizeOf : Program → Scope → Expr → Size → Type 0
-IsSizeOf p s e size = (t : Term) → Expands p s e t → IsSize size (node_count t) (nesting t)
+IsSizeOf p s e size = (t : Term) → Expands p s e t → IsSize size (term_nodes t) (nesting t)
 
 -- that of an expression with these two parts
 abbrev pub BothSizeOf : Program → Scope → Expr → Expr → Size → Type 0
 BothSizeOf p s a b size
     = (t u : Term) → Expands p s a t → Expands p s b u
-    → IsSize size (1 + node_count t + node_count u) (1 + max (nesting t) (nesting u))
+    → IsSize size (1 + term_nodes t + term_nodes u) (1 + max (nesting t) (nesting u))
 
 abbrev pub AreSizesOf : Program → Scope → Exprs → Size → Type 0
 AreSizesOf p s es size

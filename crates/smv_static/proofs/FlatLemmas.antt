@@ -7,7 +7,7 @@ use Rattle.std.proofs.lemmas.List.Sums.{sum_by-cons}
 use Rattle.kripke_model.specs.declared.models.Part.{Part}
 use Rattle.kripke_model.specs.Term.{Term}
 use Rattle.kripke_model.specs.System.{System, Assignment, Condition}
-use Rattle.kripke_model.specs.Size.{node_count}
+use Rattle.kripke_model.specs.Size.{term_nodes}
 use Rattle.kripke_model.specs.Static.{variables_in}
 use Rattle.kripke_model.specs.Flat.{IsFlat, HasNumbers, expressions, node_total}
 use Rattle.kripke_model.proofs.RuledLemmas.{rights_sound}
@@ -17,7 +17,7 @@ use Rattle.smv_static.specs.Groups.{IsTable}
 use Rattle.smv_static.proofs.NumberLemmas.{all_members}
 use Rattle.smv_static.proofs.TargetLemmas.{next_to, within, variables_known}
 
-some_node : (e : Term) → 1 ≤ node_count e
+some_node : (e : Term) → 1 ≤ term_nodes e
 some_node (Term.Const v) = omega arith
 some_node (Term.Var x) = omega arith
 some_node (Term.Running p) = omega arith
@@ -29,9 +29,9 @@ some_node (Term.Case arms) = omega arith
 some_node (Term.Quant op e) = omega arith
 some_node (Term.Until all a b) = omega arith
 
-few_members : (es : List Term) → length es ≤ sum_by node_count es
+few_members : (es : List Term) → length es ≤ sum_by term_nodes es
 few_members [] = omega arith
-few_members (e ∷ es) = let h = few_members es in let n = some_node e in omega (arith, sum_by-cons node_count e es)
+few_members (e ∷ es) = let h = few_members es in let n = some_node e in omega (arith, sum_by-cons term_nodes e es)
 
 module _ (m : System) (flat : IsFlat m) where
   pub few_assigns : length m.assigns ≤ 200000

@@ -6,14 +6,14 @@ use Rattle.std.proofs.lemmas.List.{get_or-take, get_or_default, length-take-le}
 use Rattle.kripke_model.specs.declared.models.Part.{Part}
 use Rattle.kripke_model.specs.declared.refusals.StaticRefusal.{StaticRefusal}
 use Rattle.kripke_model.specs.System.{System, Assignment}
-use Rattle.kripke_model.specs.Refusing.{Rule, refuse, Silent, First}
+use Rattle.kripke_model.specs.Refusing.{RefusalRule, refuse, Silent, First}
 use Rattle.kripke_model.specs.Static.{AssignsAgain, assigned_twice, current_beside_other}
 use Rattle.kripke_model.proofs.RuledLemmas.{never_in}
 use Rattle.smv_static.specs.Groups.{group_by, group_of}
 use Rattle.smv_static.proofs.SideLemmas.{same_part}
 
 -- where no member is refused, none is refused after those before it
-module _ {R A : Type 0} (rule : List A → A → Rule R) where
+module _ {R A : Type 0} (rule : List A → A → RefusalRule R) where
   silent_at : (before xs : List A) → Silent (First rule before xs) → (k : ℕ) (d : A) → k < length xs → Silent (rule (before ++ take k xs) (get_or xs k d))
   silent_at before [] silent k d below = absurd (omega arith)
   silent_at before (x ∷ xs) silent zero d below = subst (λ ys. Silent (rule ys x)) (sym (append-nil before)) (λ r h. silent r (inl h))

@@ -9,7 +9,7 @@ use Rattle.kripke_model.specs.declared.expressions.Arm.{Arm}
 use Rattle.bit_encode.specs.Code.{Coding}
 use Rattle.kripke_model.specs.Term.{Term, Terms}
 use Rattle.std.proofs.lemmas.Bool.{false≢true}
-use Rattle.kripke_model.specs.Size.{node_count, element_nodes, arm_nodes}
+use Rattle.kripke_model.specs.Size.{term_nodes, element_nodes, arm_nodes}
 use Rattle.kripke_model.specs.System.{System}
 use Rattle.kripke_model.specs.Reading.{term_of, terms_in, arms_in}
 use Rattle.kripke_model.specs.Evaluation.{Checked, ◌>>=◌, binary, distinct, truth}
@@ -27,7 +27,7 @@ use Rattle.value_tables.specs.Tables.{IsTable, IsSetTable, IsOperand, IsProper, 
 use Rattle.value_tables.proofs.EvalLemmas.{single_negation, elements_joined, values_last}
 use Rattle.value_tables.proofs.RegionLemmas.{AreCells-grows}
 use Rattle.value_tables.proofs.BinaryLemmas.{reads_grows, reads_as, any_of-distinct}
-use Rattle.value_tables.proofs.ReadingCounts.{node_count-some}
+use Rattle.value_tables.proofs.ReadingCounts.{term_nodes-some}
 
 -- ---- the parts of lists
 
@@ -37,9 +37,9 @@ nodes_joined (e ∷ xs) ys = omega (arith, nodes_joined xs ys)
 
 pub nodes-some : (es : List Expr) → 0 < length es → 1 ≤ element_nodes (terms_in es)
 nodes-some [] h = absurd (omega arith)
-nodes-some (e ∷ es) h = omega (arith, node_count-some (term_of e))
+nodes-some (e ∷ es) h = omega (arith, term_nodes-some (term_of e))
 
-pub arm_nodes_at : (arms : List Arm) (i : ℕ) (d : Arm) → i < length arms → node_count (term_of (get_or arms i d).guard) + node_count (term_of (get_or arms i d).right) ≤ arm_nodes (arms_in arms)
+pub arm_nodes_at : (arms : List Arm) (i : ℕ) (d : Arm) → i < length arms → term_nodes (term_of (get_or arms i d).guard) + term_nodes (term_of (get_or arms i d).right) ≤ arm_nodes (arms_in arms)
 arm_nodes_at [] i d h = absurd (omega arith)
 arm_nodes_at (a ∷ arms) zero d h = omega arith
 arm_nodes_at (a ∷ arms) (suc i) d h = omega (arith, arm_nodes_at arms i d (omega arith))
@@ -81,7 +81,7 @@ only_element [] e one is = absurd (omega (arith, one))
 only_element (x ∷ []) e one is = ap (λ (y : Expr). y ∷ []) (sym is)
 only_element (x ∷ y ∷ es) e one is = absurd (omega (arith, one))
 
-pub only_nodes : (es : List Expr) (e : Expr) → es ≡ e ∷ [] → element_nodes (terms_in es) ≡ node_count (term_of e)
+pub only_nodes : (es : List Expr) (e : Expr) → es ≡ e ∷ [] → element_nodes (terms_in es) ≡ term_nodes (term_of e)
 only_nodes es e is = omega (arith, ap (λ (xs : List Expr). element_nodes (terms_in xs)) is)
 
 pub only_evaluable : (m : System) (es : List Expr) (e : Expr) → es ≡ e ∷ [] → IsEvaluable m (Term.Braces (terms_in es)) → IsEvaluable m (term_of e)

@@ -9,7 +9,7 @@ use Rattle.bdd_nodes.specs.declared.store.Store.{Store}
 use Rattle.bdd_nodes.specs.Store.{levels_of, triples, Has, Grows}
 use Rattle.kripke_model.specs.declared.expressions.Arm.{Arm}
 use Rattle.kripke_model.specs.Reading.{term_of, arms_in}
-use Rattle.kripke_model.specs.Size.{node_count, arm_nodes}
+use Rattle.kripke_model.specs.Size.{term_nodes, arm_nodes}
 use Rattle.value_tables.specs.declared.cells.Cell.{Cell}
 use Rattle.value_tables.specs.Work.{Spends, allowance, list_allowance, operator_allowance}
 use Rattle.value_tables.specs.Weights.{AreApart, weights}
@@ -20,24 +20,24 @@ use Rattle.value_tables.proofs.AllowanceLemmas.{allowance-next, allowance-least,
 -- ---- the nodes of lists
 
 abbrev pub nodes_of_arms : List Arm → ℕ
-nodes_of_arms arms = sum_by (λ (a : Arm). node_count (term_of a.guard) + node_count (term_of a.right)) arms
+nodes_of_arms arms = sum_by (λ (a : Arm). term_nodes (term_of a.guard) + term_nodes (term_of a.right)) arms
 
 pub arm_nodes-are : (arms : List Arm) → nodes_of_arms arms ≡ arm_nodes (arms_in arms)
 arm_nodes-are [] = refl
-arm_nodes-are (a ∷ arms) = omega (arith, sum_by-cons (λ (x : Arm). node_count (term_of x.guard) + node_count (term_of x.right)) a arms, arm_nodes-are arms)
+arm_nodes-are (a ∷ arms) = omega (arith, sum_by-cons (λ (x : Arm). term_nodes (term_of x.guard) + term_nodes (term_of x.right)) a arms, arm_nodes-are arms)
 
 module _ (arms : List Arm) (i : ℕ) (a : Arm) (lt : i < length arms) (is : a ≡ get_or arms i a) where
-  arm_here : node_count (term_of a.guard) + node_count (term_of a.right) ≡ node_count (term_of (get_or arms i a).guard) + node_count (term_of (get_or arms i a).right)
-  arm_here = ap (λ (x : Arm). node_count (term_of x.guard) + node_count (term_of x.right)) is
+  arm_here : term_nodes (term_of a.guard) + term_nodes (term_of a.right) ≡ term_nodes (term_of (get_or arms i a).guard) + term_nodes (term_of (get_or arms i a).right)
+  arm_here = ap (λ (x : Arm). term_nodes (term_of x.guard) + term_nodes (term_of x.right)) is
 
-  pub arms_more : nodes_of_arms (take (i + 1) arms) ≡ nodes_of_arms (take i arms) + (node_count (term_of a.guard) + node_count (term_of a.right))
-  arms_more = omega (arith, arm_here, sum_by_more (λ (x : Arm). node_count (term_of x.guard) + node_count (term_of x.right)) arms i a lt)
+  pub arms_more : nodes_of_arms (take (i + 1) arms) ≡ nodes_of_arms (take i arms) + (term_nodes (term_of a.guard) + term_nodes (term_of a.right))
+  arms_more = omega (arith, arm_here, sum_by_more (λ (x : Arm). term_nodes (term_of x.guard) + term_nodes (term_of x.right)) arms i a lt)
 
-  pub arms_step : nodes_of_arms (take i arms) + (node_count (term_of a.guard) + node_count (term_of a.right)) ≤ nodes_of_arms (take (i + 1) arms)
+  pub arms_step : nodes_of_arms (take i arms) + (term_nodes (term_of a.guard) + term_nodes (term_of a.right)) ≤ nodes_of_arms (take (i + 1) arms)
   arms_step = omega (arith, arms_more)
 
-  pub arms_more_le : nodes_of_arms (take i arms) + (node_count (term_of a.guard) + node_count (term_of a.right)) ≤ arm_nodes (arms_in arms)
-  arms_more_le = omega (arith, arm_here, arm_nodes-are arms, sum_by_more_le (λ (x : Arm). node_count (term_of x.guard) + node_count (term_of x.right)) arms i a lt)
+  pub arms_more_le : nodes_of_arms (take i arms) + (term_nodes (term_of a.guard) + term_nodes (term_of a.right)) ≤ arm_nodes (arms_in arms)
+  arms_more_le = omega (arith, arm_here, arm_nodes-are arms, sum_by_more_le (λ (x : Arm). term_nodes (term_of x.guard) + term_nodes (term_of x.right)) arms i a lt)
 
 pub arms_all : (arms : List Arm) (i : ℕ) → length arms ≤ i → nodes_of_arms (take i arms) ≡ arm_nodes (arms_in arms)
 arms_all arms i le = ap nodes_of_arms (take_all i arms le) ∙ arm_nodes-are arms

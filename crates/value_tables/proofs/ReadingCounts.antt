@@ -7,7 +7,7 @@ use Rattle.kripke_model.specs.declared.expressions.Value.{Value}
 use Rattle.kripke_model.specs.declared.expressions.BinOp.{BinOp}
 use Rattle.kripke_model.specs.Term.{Term, Terms, Arms, none, more, esac, arm}
 use Rattle.kripke_model.specs.System.{System, State}
-use Rattle.kripke_model.specs.Size.{node_count, element_nodes, arm_nodes}
+use Rattle.kripke_model.specs.Size.{term_nodes, element_nodes, arm_nodes}
 use Rattle.kripke_model.specs.Evaluation.{Checked, ◌>>=◌, same, distinct, truth, boolean, binary, runs, eval, eval_elements, eval_arms}
 use Rattle.value_tables.specs.declared.cells.Cell.{Cell}
 use Rattle.value_tables.specs.Cells.{readings, Reads, AreCells}
@@ -87,7 +87,7 @@ choice_amount (Err kind) d r n k h j = omega arith
 -- ---- expressions
 
 mutual
-  pub eval_amount : (m : System) (e : Term) (s t : State) → length (readings (eval m e s t)) ≤ node_count e
+  pub eval_amount : (m : System) (e : Term) (s t : State) → length (readings (eval m e s t)) ≤ term_nodes e
   eval_amount m (Term.Const v) s t = omega arith
   eval_amount m (Term.Var x) s t = omega arith
   eval_amount m (Term.Running p) s t = amount_single (Ok (truth (runs m s p))) (one_truth (runs m s p))
@@ -106,20 +106,20 @@ mutual
   arms_amount : (m : System) (arms : Arms) (s t : State) → length (readings (eval_arms m arms s t)) ≤ arm_nodes arms + 1
   arms_amount m esac s t = omega arith
   arms_amount m (arm g r rest) s t =
-      omega (arith, choice_amount (eval m g s t >>= boolean) (eval m r s t) (eval_arms m rest s t) (node_count r) (arm_nodes rest) (eval_amount m r s t) (arms_amount m rest s t))
+      omega (arith, choice_amount (eval m g s t >>= boolean) (eval m r s t) (eval_arms m rest s t) (term_nodes r) (arm_nodes rest) (eval_amount m r s t) (arms_amount m rest s t))
 
 -- each expression has a node
-pub node_count-some : (e : Term) → 1 ≤ node_count e
-node_count-some (Term.Const v) = omega arith
-node_count-some (Term.Var x) = omega arith
-node_count-some (Term.Running p) = omega arith
-node_count-some (Term.Next e) = omega arith
-node_count-some (Term.Not e) = omega arith
-node_count-some (Term.Binary op a b) = omega arith
-node_count-some (Term.Braces es) = omega arith
-node_count-some (Term.Case arms) = omega arith
-node_count-some (Term.Quant op e) = omega arith
-node_count-some (Term.Until all a b) = omega arith
+pub term_nodes-some : (e : Term) → 1 ≤ term_nodes e
+term_nodes-some (Term.Const v) = omega arith
+term_nodes-some (Term.Var x) = omega arith
+term_nodes-some (Term.Running p) = omega arith
+term_nodes-some (Term.Next e) = omega arith
+term_nodes-some (Term.Not e) = omega arith
+term_nodes-some (Term.Binary op a b) = omega arith
+term_nodes-some (Term.Braces es) = omega arith
+term_nodes-some (Term.Case arms) = omega arith
+term_nodes-some (Term.Quant op e) = omega arith
+term_nodes-some (Term.Until all a b) = omega arith
 
 -- ---- cells
 

@@ -7,7 +7,7 @@ ghost use Rattle.bdd_ops.specs.Engine.{store_of};
 ghost use Rattle.variable_codes.specs.LaidOut.{LaidOut};
 ghost use Rattle.kripke_model.specs.Evaluable.{IsEvaluable, AreEvaluable, AreEvaluableArms};
 ghost use Rattle.kripke_model.specs.Reading.{term_of, terms_in, arms_in};
-ghost use Rattle.kripke_model.specs.Size.{node_count, element_nodes, arm_nodes};
+ghost use Rattle.kripke_model.specs.Size.{term_nodes, element_nodes, arm_nodes};
 ghost use Rattle.value_tables.specs.Work.{Keeps, Spends, allowance, list_allowance};
 ghost use Rattle.value_tables.specs.States.{meaning_of, elements_meaning, arms_meaning};
 ghost use Rattle.kripke_model.specs.declared.expressions.Value.{Value as Values};
@@ -48,7 +48,7 @@ pub(crate) fn build<L: Ledger>(
         (meaning_of layout.now model.now next (term_of expr.now))) }
     ensures held { IfErr result (IsRefusalOf (store_of engine.new)) }
     ensures keeps { Keeps engine.old engine.new steps.old steps.new }
-    ensures spends { Spends (allowance (node_count (term_of expr.now))
+    ensures spends { Spends (allowance (term_nodes (term_of expr.now))
         (2 ^ levels_of (store_of engine.old))) (store_of engine.old) (store_of engine.new) }
 {
     match expr {
@@ -149,7 +149,7 @@ fn build_arm<L: Ledger>(
         (guard_of (meaning_of layout.now model.now next (term_of arm.now.guard) bits)))) }
     ensures held { IfErr result (IsRefusalOf (store_of engine.new)) }
     ensures keeps { Keeps engine.old engine.new steps.old steps.new }
-    ensures spends { Spends (list_allowance (node_count (term_of arm.now.guard) + node_count
+    ensures spends { Spends (list_allowance (term_nodes (term_of arm.now.guard) + term_nodes
         (term_of arm.now.right)) (2 ^ levels_of (store_of engine.old))) (store_of engine.old)
         (store_of engine.new) }
 {

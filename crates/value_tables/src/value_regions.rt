@@ -7,7 +7,7 @@ ghost use Rattle.bdd_ops.specs.Engine.{store_of, capacity_of, lists_of, refused_
 ghost use Rattle.variable_codes.specs.LaidOut.{LaidOut};
 ghost use Rattle.kripke_model.specs.Evaluable.{IsEvaluable};
 ghost use Rattle.kripke_model.specs.Reading.{term_of};
-ghost use Rattle.kripke_model.specs.Size.{node_count};
+ghost use Rattle.kripke_model.specs.Size.{term_nodes};
 ghost use Rattle.value_tables.specs.Regions.{rows_of, faults_of, rows_in, faults_in, AreRegions};
 
 use crate::build::build;
@@ -91,12 +91,12 @@ pub fn table<L: Ledger>(
     ensures regions { IfOk result (λ t. AreRegions (store_of engine.new) layout.now model.now
         (term_of expr.now) t.rows.items t.faults.items) }
     ensures few { IfOk result (λ t. length t.rows.items + length t.faults.items
-        ≤ node_count (term_of expr.now) * 2 ^ levels_of (store_of engine.old)) }
+        ≤ term_nodes (term_of expr.now) * 2 ^ levels_of (store_of engine.old)) }
     ensures held { IfErr result (IsRefusalOf (store_of engine.new)) }
     ensures grows { Grows (store_of engine.old) (store_of engine.new) }
     // at each list of the levels' bits an expression of n nodes has at most n readings
     ensures growth { length (triples (store_of engine.new)) ≤ length (triples (store_of engine.old))
-        + 16 * (node_count (term_of expr.now) + 1) ^ 2 * 4 ^ levels_of (store_of engine.old) }
+        + 16 * (term_nodes (term_of expr.now) + 1) ^ 2 * 4 ^ levels_of (store_of engine.old) }
     ensures refused { refused_of engine.old ≤ refused_of engine.new }
     ensures lists { lists_of engine.new ≡ lists_of engine.old }
     ensures capacity { capacity_of engine.new ≡ capacity_of engine.old }

@@ -1,6 +1,6 @@
 use Rattle.std.proofs.Common.{sym, ◌∙◌, ap, subst, ◌≤◌, arith, length, List}
 use Rattle.std.proofs.lemmas.Result.{err_from_is_err_and}
-use Rattle.kripke_model.specs.Size.{node_count, nesting}
+use Rattle.kripke_model.specs.Size.{term_nodes, nesting}
 use Rattle.smv_names.specs.declared.sizes.Size.{Size}
 use Rattle.smv_names.specs.Known.{AreSizes}
 use Rattle.smv_names.specs.Expands.{Expands}
@@ -50,4 +50,4 @@ returns c = λ p s before tables at passed.
     let sizes = subst (λ (zs : List Size). AreSizes p zs) (sym c.deref.ensures.value) known.sizes_are in
     let measured = c.in_ok-measured.ensures p s known.targets_are at (λ v a numbered named. sizes v a numbered) term.0 (subst (λ e. Expands p s e term.0) (sym c.right.ensures) term.1) in
     passes p before s i c.args.totals.now passed term.0 term.1 c.in_ok-counted.counted c.line.result c.add_size.result c.line.ensures paths.1 counted.0 counted.1 counted.2 counted.3
-    (c.add_size.ensures (node_count term.0) (nesting term.0) measured)
+    (c.add_size.ensures (term_nodes term.0) (nesting term.0) measured)

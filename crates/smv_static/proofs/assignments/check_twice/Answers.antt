@@ -3,7 +3,7 @@ use Rattle.std.specs.Prelude.{All, Bool, cond}
 use Rattle.std.proofs.lemmas.List.{get_or_default, length-set}
 use Rattle.kripke_model.specs.declared.refusals.StaticRefusal.{StaticRefusal}
 use Rattle.kripke_model.specs.System.{System, Assignment}
-use Rattle.kripke_model.specs.Refusing.{refuse, Rule, Silent, First}
+use Rattle.kripke_model.specs.Refusing.{refuse, RefusalRule, Silent, First}
 use Rattle.kripke_model.specs.Static.{AssignsAgain}
 use Rattle.kripke_model.proofs.FirstLemmas.{silent_refuse, silent_with_before, first_with_before}
 use Rattle.smv_static.specs.Sides.{cell_of}
@@ -16,10 +16,10 @@ differ : false ≡ true → ⊥
 differ e = subst (λ (b : Bool). cond b ⊥ (Unit {0})) e tt
 
 -- the rule of one assignment
-abbrev rule : List Assignment → Assignment → Rule StaticRefusal
+abbrev rule : List Assignment → Assignment → RefusalRule StaticRefusal
 rule before a = refuse (StaticRefusal.AssignedTwice a.line) (Any (AssignsAgain a) before)
 
-abbrev twice_in : List Assignment → Rule StaticRefusal
+abbrev twice_in : List Assignment → RefusalRule StaticRefusal
 twice_in xs = First rule [] xs
 
 pub returns-then-index-clause-err : goal.returns-then-index-clause-err

@@ -4,7 +4,7 @@ use Rattle.std.proofs.lemmas.List.{get_or_default}
 use Rattle.kripke_model.specs.declared.models.Part.{Part}
 use Rattle.kripke_model.specs.declared.refusals.StaticRefusal.{StaticRefusal}
 use Rattle.kripke_model.specs.System.{System, Assignment}
-use Rattle.kripke_model.specs.Refusing.{refuse, Rule, Silent, first_of}
+use Rattle.kripke_model.specs.Refusing.{refuse, RefusalRule, Silent, first_of}
 use Rattle.kripke_model.specs.Static.{IsBesideOther}
 use Rattle.kripke_model.proofs.FirstLemmas.{silent_refuse, silent_list, first_in_list}
 use Rattle.smv_static.specs.Sides.{HasOther, IsFlagged}
@@ -14,10 +14,10 @@ differ : false ≡ true → ⊥
 differ e = subst (λ (b : Bool). cond b ⊥ (Unit {0})) e tt
 
 -- the rule of one assignment
-abbrev rule : System → Assignment → Rule StaticRefusal
+abbrev rule : System → Assignment → RefusalRule StaticRefusal
 rule m a = refuse (StaticRefusal.CurrentBesideOther a.line) (IsBesideOther m a)
 
-abbrev rule_of : System → List Assignment → Rule StaticRefusal
+abbrev rule_of : System → List Assignment → RefusalRule StaticRefusal
 rule_of m xs = first_of xs (rule m)
 
 pub loop-assign-preserved : goal.loop-assign-preserved

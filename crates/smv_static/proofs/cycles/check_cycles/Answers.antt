@@ -1,13 +1,13 @@
 use Rattle.std.proofs.Common.{◌≡◌, ℕ, ◌<◌, inr, List, length, get_or, ◌∙◌, ap, arith}
 use Rattle.kripke_model.specs.declared.refusals.StaticRefusal.{StaticRefusal}
 use Rattle.kripke_model.specs.System.{System, Assignment}
-use Rattle.kripke_model.specs.Refusing.{refuse, Rule}
+use Rattle.kripke_model.specs.Refusing.{refuse, RefusalRule}
 use Rattle.kripke_model.specs.Static.{IsOnCycle}
 use Rattle.kripke_model.proofs.FirstLemmas.{silent_refuse, silent_list, first_in_list}
 use Rattle.smv_static.proofs.cycles.check_cycles.Goals as goal
 
 -- the rule of one assignment
-abbrev rule : System → Assignment → Rule StaticRefusal
+abbrev rule : System → Assignment → RefusalRule StaticRefusal
 rule m a = refuse (StaticRefusal.CircularAssignment a.line) (IsOnCycle m a)
 
 pub returns-then-least-assigns-clause-err : goal.returns-then-least-assigns-clause-err

@@ -1,14 +1,14 @@
 use Rattle.std.proofs.Common.{arith, List, ◌∙◌, ap, subst}
 use Rattle.kripke_model.specs.declared.refusals.StaticRefusal.{StaticRefusal}
 use Rattle.kripke_model.specs.System.{Assignment}
-use Rattle.kripke_model.specs.Refusing.{refuse, Rule}
+use Rattle.kripke_model.specs.Refusing.{refuse, RefusalRule}
 use Rattle.kripke_model.proofs.FirstLemmas.{silent_refuse, silent_list, first_in_list}
 use Rattle.smv_static.specs.declared.sections.ItemRule.{ItemRule}
 use Rattle.smv_static.specs.Sections.{IsWrongIn, refusal}
 use Rattle.smv_static.proofs.sections.refuse_assigns.Goals as goal
 
 -- the rule of one assignment
-abbrev rule : ItemRule → Assignment → Rule StaticRefusal
+abbrev rule : ItemRule → Assignment → RefusalRule StaticRefusal
 rule r a = refuse (refusal r a.line) (IsWrongIn r a)
 
 pub returns-then-is_wrong_in-clause-err : goal.returns-then-is_wrong_in-clause-err

@@ -1,7 +1,7 @@
 use Rattle.std.proofs.Common.{arith, List, ◌∙◌, ap, subst}
 use Rattle.kripke_model.specs.declared.refusals.StaticRefusal.{StaticRefusal}
 use Rattle.kripke_model.specs.System.{Condition}
-use Rattle.kripke_model.specs.Refusing.{refuse, Rule}
+use Rattle.kripke_model.specs.Refusing.{refuse, RefusalRule}
 use Rattle.kripke_model.proofs.FirstLemmas.{silent_refuse, silent_list, first_in_list}
 use Rattle.smv_static.specs.declared.sections.ItemRule.{ItemRule}
 use Rattle.smv_static.specs.declared.sections.Section.{Section}
@@ -9,7 +9,7 @@ use Rattle.smv_static.specs.Sections.{IsWrong, refusal}
 use Rattle.smv_static.proofs.sections.refuse_items.Goals as goal
 
 -- the rule of one item
-abbrev rule : ItemRule → Section → Condition → Rule StaticRefusal
+abbrev rule : ItemRule → Section → Condition → RefusalRule StaticRefusal
 rule r s c = refuse (refusal r c.line) (IsWrong r s c.expr)
 
 pub returns-then-is_wrong-clause-err : goal.returns-then-is_wrong-clause-err

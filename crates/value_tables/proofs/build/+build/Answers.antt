@@ -1,7 +1,7 @@
 use Rattle.std.proofs.Common.{◌≡◌, ◌+◌, ◌*◌, ◌/◌, ◌^◌, ◌<◌, ◌≤◌, length, take, ◌&&◌, ◌||◌, cond, drop, Bool, true, List, refl, sym, ◌∙◌, ap, arith, rules, subst}
 use Rattle.std.proofs.lemmas.Bool.{false≢true}
 use Rattle.bdd_nodes.specs.Store.{value_of, levels_of}
-use Rattle.kripke_model.specs.Size.{node_count, element_nodes, arm_nodes}
+use Rattle.kripke_model.specs.Size.{term_nodes, element_nodes, arm_nodes}
 use Rattle.bdd_nodes.proofs.Tables.{Grows-same, Grows-then}
 use Rattle.kripke_model.specs.declared.expressions.Expr.{Expr}
 use Rattle.kripke_model.specs.declared.expressions.Arm.{Arm}
@@ -21,7 +21,7 @@ use Rattle.value_tables.proofs.BuildLemmas.{operand, term_table, not_table, bina
 use Rattle.value_tables.specs.declared.cells.Cell.{Cell}
 use Rattle.value_tables.specs.Work.{Spends, allowance}
 use Rattle.std.proofs.lemmas.Result.{err_from_is_err_and, on_ok_weaker}
-use Rattle.value_tables.proofs.ReadingCounts.{eval_amount, elements_amount, node_count-some, table-few, set-few}
+use Rattle.value_tables.proofs.ReadingCounts.{eval_amount, elements_amount, term_nodes-some, table-few, set-few}
 use Rattle.value_tables.proofs.GrowthLemmas.{nodes_of_arms, arms_step, arms_more_le, arms_all, variable_spends, running_spends, next_spends, not_spends, left_spends, both_spend, binary_spends, element_spends, half_spends, halves_spend, lists_spend, list_spends, arm_guard, arm_right, arm_spends, arms_spend}
 use Rattle.value_tables.proofs.build.+build.Goals as goal
 
@@ -103,7 +103,7 @@ build_arms-loop-arm-preserved g t c =
           ∙ ap (λ (x : Arm). guard_of (eval m (term_of x.guard) (state_shown lay c.args.next bits) (state_shown lay true bits)) >>= λ b. cond b (eval m (term_of x.right) (state_shown lay c.args.next bits) (state_shown lay true bits)) rest) (sym c.arm-item.is)) j))))
           (c.in_ok-left.ensures.shows bits k)
           (c.in_ok-left.ensures.rest bits);
-      spends = lists_spend c.args.engine.now.store s c.build_arm.new.engine.store i.keeps.engine.grows (nodes_of_arms (take n arms)) (node_count (term_of a.guard) + node_count (term_of a.right)) (nodes_of_arms (take (n + 1) arms))
+      spends = lists_spend c.args.engine.now.store s c.build_arm.new.engine.store i.keeps.engine.grows (nodes_of_arms (take n arms)) (term_nodes (term_of a.guard) + term_nodes (term_of a.right)) (nodes_of_arms (take (n + 1) arms))
           (arms_step arms n a c.loop-arm-test.true c.arm-item.is) i.spends c.build_arm.ensures.spends;
       keeps = keeps_join i.keeps c.build_arm.ensures.keeps;
     }
@@ -115,16 +115,16 @@ build-build-requires-in-Braces g t c =
     let one : length es ≡ 1 = omega (arith, c.len.ensures, c.if-len-eq1.true, c.in-Braces.elements.ok) in
     let only = only_element es e one c.index.ensures in
     let is : term_of c.args.expr.now ≡ Term.Braces (terms_in es) = ap term_of c.in-Braces.is ∙ braces_term c.in-Braces.elements in
-    let w = ap node_count is in
-    let smaller : 2 * node_count (term_of e) < 2 * node_count (term_of c.args.expr.now) = omega (arith, w, only_nodes es e only) in
+    let w = ap term_nodes is in
+    let smaller : 2 * term_nodes (term_of e) < 2 * term_nodes (term_of c.args.expr.now) = omega (arith, w, only_nodes es e only) in
     let good : IsEvaluable c.args.model.now (term_of e) = only_evaluable c.args.model.now es e only (subst (λ (x : Term). IsEvaluable c.args.model.now x) is c.requires.evaluable) in
     search rules
 
 pub build-build_elements-requires : goal.build-build_elements-requires
 build-build_elements-requires g t c =
     let e : term_of c.args.expr.now ≡ Term.Braces (terms_in c.deref-in-Braces-2.result.now) = ap term_of c.in-Braces-2.is ∙ braces_term c.in-Braces-2.elements ∙ ap (λ (x : List Expr). Term.Braces (terms_in x)) (sym c.deref-in-Braces-2.ensures.value) in
-    let w = ap node_count e in
-    let smaller : 2 * element_nodes (terms_in c.deref-in-Braces-2.result.now) + 1 < 2 * node_count (term_of c.args.expr.now) = omega (arith, w) in
+    let w = ap term_nodes e in
+    let smaller : 2 * element_nodes (terms_in c.deref-in-Braces-2.result.now) + 1 < 2 * term_nodes (term_of c.args.expr.now) = omega (arith, w) in
     let whole = subst (λ (x : Term). IsEvaluable c.args.model.now x) e c.requires.evaluable in
     let some : 0 < length c.deref-in-Braces-2.result.now = elements_some c.args.model.now _ whole in
     let good : AreEvaluable c.args.model.now (terms_in c.deref-in-Braces-2.result.now) = elements_evaluable c.args.model.now _ whole in
@@ -133,8 +133,8 @@ build-build_elements-requires g t c =
 pub build-build_arms-requires : goal.build-build_arms-requires
 build-build_arms-requires g t c =
     let e : term_of c.args.expr.now ≡ Term.Case (arms_in c.deref-in-Case.result.now) = ap term_of c.in-Case.is ∙ case_term c.in-Case.arms ∙ ap (λ (x : List Arm). Term.Case (arms_in x)) (sym c.deref-in-Case.ensures.value) in
-    let w = ap node_count e in
-    let smaller : 2 * arm_nodes (arms_in c.deref-in-Case.result.now) + 1 < 2 * node_count (term_of c.args.expr.now) = omega (arith, w) in
+    let w = ap term_nodes e in
+    let smaller : 2 * arm_nodes (arms_in c.deref-in-Case.result.now) + 1 < 2 * term_nodes (term_of c.args.expr.now) = omega (arith, w) in
     let good : AreEvaluableArms c.args.model.now (arms_in c.deref-in-Case.result.now) = subst (λ (x : Term). IsEvaluable c.args.model.now x) e c.requires.evaluable in
     search rules
 
@@ -156,8 +156,8 @@ build_arms-build_arm-requires g t c =
     let arms = c.args.arms.now in
     let a : Arm = c.arm-item.result in
     let w = arm_nodes_at arms c.loop-arm.arm-index a c.loop-arm-test.true in
-    let u = ap (λ (x : Arm). node_count (term_of x.guard) + node_count (term_of x.right)) c.arm-item.is in
-    let smaller : 2 * (node_count (term_of a.guard) + node_count (term_of a.right)) < 2 * arm_nodes (arms_in arms) + 1 = omega (arith, w, u) in
+    let u = ap (λ (x : Arm). term_nodes (term_of x.guard) + term_nodes (term_of x.right)) c.arm-item.is in
+    let smaller : 2 * (term_nodes (term_of a.guard) + term_nodes (term_of a.right)) < 2 * arm_nodes (arms_in arms) + 1 = omega (arith, w, u) in
     let good = arm_evaluable_at m arms c.loop-arm.arm-index a c.loop-arm-test.true c.requires.evaluable in
     let guard : IsEvaluable m (term_of a.guard) = subst (λ (x : Arm). IsEvaluable m (term_of x.guard)) (sym c.arm-item.is) good.0 in
     let right : IsEvaluable m (term_of a.right) = subst (λ (x : Arm). IsEvaluable m (term_of x.right)) (sym c.arm-item.is) good.1 in
@@ -173,7 +173,7 @@ build_arms-returns-in_err-left-clause-spends g t c =
     let a : Arm = c.arm-item.result in
     let i = c.loop-arm.invariant in
     list_spends c.args.engine.now.store c.build_arm.new.engine.store (arm_nodes (arms_in arms)) (1 + arm_nodes (arms_in arms)) refl
-    (lists_spend c.args.engine.now.store c.loop-arm.engine.store c.build_arm.new.engine.store i.keeps.engine.grows (nodes_of_arms (take n arms)) (node_count (term_of a.guard) + node_count (term_of a.right)) (arm_nodes (arms_in arms))
+    (lists_spend c.args.engine.now.store c.loop-arm.engine.store c.build_arm.new.engine.store i.keeps.engine.grows (nodes_of_arms (take n arms)) (term_nodes (term_of a.guard) + term_nodes (term_of a.right)) (arm_nodes (arms_in arms))
     (arms_more_le arms n a c.loop-arm-test.true c.arm-item.is) i.spends c.build_arm.ensures.spends)
 
 -- ---- elements
@@ -188,13 +188,13 @@ pub build_elements-returns-in_err-table-clause-spends : goal.build_elements-retu
 build_elements-returns-in_err-table-clause-spends g t c =
     let es = c.args.elements.now in
     let e : Expr = c.index-elements-0.result in
-    element_spends c.args.engine.now.store c.build.new.engine.store (node_count (term_of e)) (element_nodes (terms_in es)) (node_count-some (term_of e)) (only_nodes es e (only_element es e c.if-elements-eq1.true c.index-elements-0.is)) c.build.ensures.spends
+    element_spends c.args.engine.now.store c.build.new.engine.store (term_nodes (term_of e)) (element_nodes (terms_in es)) (term_nodes-some (term_of e)) (only_nodes es e (only_element es e c.if-elements-eq1.true c.index-elements-0.is)) c.build.ensures.spends
 
 pub build_elements-returns-then-elements-eq1-clause-spends : goal.build_elements-returns-then-elements-eq1-clause-spends
 build_elements-returns-then-elements-eq1-clause-spends g t c =
     let es = c.args.elements.now in
     let e : Expr = c.index-elements-0.result in
-    element_spends c.args.engine.now.store c.build.new.engine.store (node_count (term_of e)) (element_nodes (terms_in es)) (node_count-some (term_of e)) (only_nodes es e (only_element es e c.if-elements-eq1.true c.index-elements-0.is)) c.build.ensures.spends
+    element_spends c.args.engine.now.store c.build.new.engine.store (term_nodes (term_of e)) (element_nodes (terms_in es)) (term_nodes-some (term_of e)) (only_nodes es e (only_element es e c.if-elements-eq1.true c.index-elements-0.is)) c.build.ensures.spends
 
 pub build_elements-build_elements-requires : goal.build_elements-build_elements-requires
 build_elements-build_elements-requires g t c =
@@ -294,13 +294,13 @@ build_elements-returns-clause-spends g t c =
 pub build_arm-build-requires : goal.build_arm-build-requires
 build_arm-build-requires g t c =
     let a : Arm = c.args.arm.now in
-    let smaller : 2 * node_count (term_of a.guard) < 2 * (node_count (term_of a.guard) + node_count (term_of a.right)) = omega (arith, node_count-some (term_of a.right)) in
+    let smaller : 2 * term_nodes (term_of a.guard) < 2 * (term_nodes (term_of a.guard) + term_nodes (term_of a.right)) = omega (arith, term_nodes-some (term_of a.right)) in
     search rules
 
 pub build_arm-build-requires-2 : goal.build_arm-build-requires-2
 build_arm-build-requires-2 g t c =
     let a : Arm = c.args.arm.now in
-    let smaller : 2 * node_count (term_of a.right) < 2 * (node_count (term_of a.guard) + node_count (term_of a.right)) = omega (arith, node_count-some (term_of a.guard)) in
+    let smaller : 2 * term_nodes (term_of a.right) < 2 * (term_nodes (term_of a.guard) + term_nodes (term_of a.right)) = omega (arith, term_nodes-some (term_of a.guard)) in
     search rules
 
 pub build_arm-add_arm-requires-clause-guard : goal.build_arm-add_arm-requires-clause-guard
@@ -362,13 +362,13 @@ pub build_arm-returns-in_err-guard-clause-spends : goal.build_arm-returns-in_err
 build_arm-returns-in_err-guard-clause-spends g t c =
     let a : Arm = c.args.arm.now in
     let p = c.build.new.engine.store in
-    arm_guard c.args.engine.now.store p p c.build.ensures.keeps.engine.grows (Grows-same p) (node_count (term_of a.guard)) (node_count (term_of a.right)) (node_count-some (term_of a.guard)) (node_count-some (term_of a.right)) c.build.ensures.spends
+    arm_guard c.args.engine.now.store p p c.build.ensures.keeps.engine.grows (Grows-same p) (term_nodes (term_of a.guard)) (term_nodes (term_of a.right)) (term_nodes-some (term_of a.guard)) (term_nodes-some (term_of a.right)) c.build.ensures.spends
 
 pub build_arm-returns-in_err-right-clause-spends : goal.build_arm-returns-in_err-right-clause-spends
 build_arm-returns-in_err-right-clause-spends g t c =
     let a : Arm = c.args.arm.now in
-    arm_right c.args.engine.now.store c.build.new.engine.store c.build-2.new.engine.store c.build.ensures.keeps.engine.grows c.build-2.ensures.keeps.engine.grows (node_count (term_of a.guard)) (node_count (term_of a.right))
-    (node_count-some (term_of a.guard)) (node_count-some (term_of a.right)) c.build.ensures.spends c.build-2.ensures.spends
+    arm_right c.args.engine.now.store c.build.new.engine.store c.build-2.new.engine.store c.build.ensures.keeps.engine.grows c.build-2.ensures.keeps.engine.grows (term_nodes (term_of a.guard)) (term_nodes (term_of a.right))
+    (term_nodes-some (term_of a.guard)) (term_nodes-some (term_of a.right)) c.build.ensures.spends c.build-2.ensures.spends
 
 pub build_arm-returns-clause-spends : goal.build_arm-returns-clause-spends
 build_arm-returns-clause-spends g t c =
@@ -379,11 +379,11 @@ build_arm-returns-clause-spends g t c =
     let q = c.build-2.new.engine.store in
     let f : List Bool → Checked (List Value) = meaning_of lay m c.args.next (term_of a.guard) in
     let d : List Bool → Checked (List Value) = meaning_of lay m c.args.next (term_of a.right) in
-    arm_spends c.args.engine.now.store p q c.build.ensures.keeps.engine.grows c.build-2.ensures.keeps.engine.grows (node_count (term_of a.guard)) (node_count (term_of a.right))
-    (node_count-some (term_of a.guard)) (node_count-some (term_of a.right)) c.build.ensures.spends c.build-2.ensures.spends
+    arm_spends c.args.engine.now.store p q c.build.ensures.keeps.engine.grows c.build-2.ensures.keeps.engine.grows (term_nodes (term_of a.guard)) (term_nodes (term_of a.right))
+    (term_nodes-some (term_of a.guard)) (term_nodes-some (term_of a.right)) c.build.ensures.spends c.build-2.ensures.spends
     c.add_arm.new.engine.store (length c.in_ok-guard.guard.cells.items) (length c.deref.result.now)
-    (table-few p c.in_ok-guard.guard.cells.items _ f (node_count (term_of a.guard)) c.in_ok-guard.ensures.table (λ bits. eval_amount m (term_of a.guard) (state_shown lay c.args.next bits) (state_shown lay true bits)))
-    (subst (λ (xs : List Cell). length xs ≤ node_count (term_of a.right) * 2 ^ levels_of q) (sym c.deref.ensures.value) (table-few q c.in_ok-right.right.cells.items _ d (node_count (term_of a.right)) c.in_ok-right.ensures.table (λ bits. eval_amount m (term_of a.right) (state_shown lay c.args.next bits) (state_shown lay true bits))))
+    (table-few p c.in_ok-guard.guard.cells.items _ f (term_nodes (term_of a.guard)) c.in_ok-guard.ensures.table (λ bits. eval_amount m (term_of a.guard) (state_shown lay c.args.next bits) (state_shown lay true bits)))
+    (subst (λ (xs : List Cell). length xs ≤ term_nodes (term_of a.right) * 2 ^ levels_of q) (sym c.deref.ensures.value) (table-few q c.in_ok-right.right.cells.items _ d (term_nodes (term_of a.right)) c.in_ok-right.ensures.table (λ bits. eval_amount m (term_of a.right) (state_shown lay c.args.next bits) (state_shown lay true bits))))
     c.add_arm.ensures.spends
 
 pub build_arms-returns-clause-table : goal.build_arms-returns-clause-table
@@ -406,15 +406,15 @@ pub build-returns-in-Const-clause-spends : goal.build-returns-in-Const-clause-sp
 build-returns-in-Const-clause-spends g t c = Spends-same c.args.engine.now.store _
 
 pub build-returns-in-Var-clause-spends : goal.build-returns-in-Var-clause-spends
-build-returns-in-Var-clause-spends g t c = variable_spends c.args.engine.now.store c.variable.new.engine.store (node_count (term_of c.args.expr.now)) c.variable.ensures.spends
+build-returns-in-Var-clause-spends g t c = variable_spends c.args.engine.now.store c.variable.new.engine.store (term_nodes (term_of c.args.expr.now)) c.variable.ensures.spends
 
 pub build-returns-in-Running-clause-spends : goal.build-returns-in-Running-clause-spends
-build-returns-in-Running-clause-spends g t c = running_spends c.args.engine.now.store c.running.new.engine.store (node_count (term_of c.args.expr.now)) c.running.ensures.spends
+build-returns-in-Running-clause-spends g t c = running_spends c.args.engine.now.store c.running.new.engine.store (term_nodes (term_of c.args.expr.now)) c.running.ensures.spends
 
 pub build-returns-in-Next-clause-spends : goal.build-returns-in-Next-clause-spends
 build-returns-in-Next-clause-spends g t c =
-    next_spends c.args.engine.now.store c.build.new.engine.store (node_count (term_of c.deref.result.now)) (node_count (term_of c.args.expr.now))
-    (ap node_count (ap term_of c.in-Next.is ∙ ap (λ (x : Expr). Term.Next (term_of x)) (sym c.deref.ensures))) c.build.ensures.spends
+    next_spends c.args.engine.now.store c.build.new.engine.store (term_nodes (term_of c.deref.result.now)) (term_nodes (term_of c.args.expr.now))
+    (ap term_nodes (ap term_of c.in-Next.is ∙ ap (λ (x : Expr). Term.Next (term_of x)) (sym c.deref.ensures))) c.build.ensures.spends
 
 pub build-returns-in_ok-operand-in-Not-clause-spends : goal.build-returns-in_ok-operand-in-Not-clause-spends
 build-returns-in_ok-operand-in-Not-clause-spends g t c =
@@ -424,9 +424,9 @@ build-returns-in_ok-operand-in-Not-clause-spends g t c =
     let is : term_of c.args.expr.now ≡ Term.Not e = ap term_of c.in-Not.is ∙ ap (λ (x : Expr). Term.Not (term_of x)) (sym c.deref-in-Not.ensures) in
     let s = c.args.engine.now.store in
     let b = c.build-in-Not.new.engine.store in
-    not_spends s b c.negated.new.engine.store c.build-in-Not.ensures.keeps.engine.grows (node_count e) (node_count (term_of c.args.expr.now)) (length c.in_ok-operand-in-Not.operand.cells.items) (ap node_count is)
+    not_spends s b c.negated.new.engine.store c.build-in-Not.ensures.keeps.engine.grows (term_nodes e) (term_nodes (term_of c.args.expr.now)) (length c.in_ok-operand-in-Not.operand.cells.items) (ap term_nodes is)
     c.build-in-Not.ensures.spends c.negated.ensures.spends
-    (table-few b c.in_ok-operand-in-Not.operand.cells.items _ (meaning_of lay m c.args.next e) (node_count e) c.in_ok-operand-in-Not.ensures.table (λ bits. eval_amount m e (state_shown lay c.args.next bits) (state_shown lay true bits)))
+    (table-few b c.in_ok-operand-in-Not.operand.cells.items _ (meaning_of lay m c.args.next e) (term_nodes e) c.in_ok-operand-in-Not.ensures.table (λ bits. eval_amount m e (state_shown lay c.args.next bits) (state_shown lay true bits)))
 
 pub build-returns-in_ok-right-in-Binary-clause-spends : goal.build-returns-in_ok-right-in-Binary-clause-spends
 build-returns-in_ok-right-in-Binary-clause-spends g t c =
@@ -443,32 +443,32 @@ build-returns-in_ok-right-in-Binary-clause-spends g t c =
     let left = c.in_ok-left-in-Binary.left in
     let right = c.in_ok-right-in-Binary.right in
     let there = IsTable-grows s z c.build-in-Binary-2.ensures.keeps.engine.grows left.cells.items left.single f c.in_ok-left-in-Binary.ensures.table in
-    binary_spends c.args.engine.now.store s z c.binary_of.new.engine.store c.build-in-Binary.ensures.keeps.engine.grows c.build-in-Binary-2.ensures.keeps.engine.grows (node_count a) (node_count b) (node_count (term_of c.args.expr.now))
-    (length left.cells.items) (length right.cells.items) (ap node_count is) c.build-in-Binary.ensures.spends c.build-in-Binary-2.ensures.spends
+    binary_spends c.args.engine.now.store s z c.binary_of.new.engine.store c.build-in-Binary.ensures.keeps.engine.grows c.build-in-Binary-2.ensures.keeps.engine.grows (term_nodes a) (term_nodes b) (term_nodes (term_of c.args.expr.now))
+    (length left.cells.items) (length right.cells.items) (ap term_nodes is) c.build-in-Binary.ensures.spends c.build-in-Binary-2.ensures.spends
     (c.binary_of.ensures.spends
     (record { result = λ bits. (f bits, operand z left.cells.items left.single f there (λ xs. eval_proper m a _ _ good.0) bits) })
     (record { result = λ bits. (h bits, operand z right.cells.items right.single h c.in_ok-right-in-Binary.ensures.table (λ xs. eval_proper m b _ _ good.1) bits) }))
-    (table-few s left.cells.items left.single f (node_count a) c.in_ok-left-in-Binary.ensures.table (λ bits. eval_amount m a (state_shown lay c.args.next bits) (state_shown lay true bits)))
-    (table-few z right.cells.items right.single h (node_count b) c.in_ok-right-in-Binary.ensures.table (λ bits. eval_amount m b (state_shown lay c.args.next bits) (state_shown lay true bits)))
+    (table-few s left.cells.items left.single f (term_nodes a) c.in_ok-left-in-Binary.ensures.table (λ bits. eval_amount m a (state_shown lay c.args.next bits) (state_shown lay true bits)))
+    (table-few z right.cells.items right.single h (term_nodes b) c.in_ok-right-in-Binary.ensures.table (λ bits. eval_amount m b (state_shown lay c.args.next bits) (state_shown lay true bits)))
 
 pub build-returns-in-Braces-clause-spends : goal.build-returns-in-Braces-clause-spends
 build-returns-in-Braces-clause-spends g t c =
     let es : List Expr = c.in-Braces.elements.items in
     let e : Expr = c.index.result.now in
     let one : length es ≡ 1 = omega (arith, c.len.ensures, c.if-len-eq1.true, c.in-Braces.elements.ok) in
-    let w = ap node_count (ap term_of c.in-Braces.is ∙ braces_term c.in-Braces.elements) in
-    next_spends c.args.engine.now.store c.build-in-Braces.new.engine.store (node_count (term_of e)) (node_count (term_of c.args.expr.now))
+    let w = ap term_nodes (ap term_of c.in-Braces.is ∙ braces_term c.in-Braces.elements) in
+    next_spends c.args.engine.now.store c.build-in-Braces.new.engine.store (term_nodes (term_of e)) (term_nodes (term_of c.args.expr.now))
     (omega (arith, w, only_nodes es e (only_element es e one c.index.ensures))) c.build-in-Braces.ensures.spends
 
 pub build-returns-in_ok-cells-in-Braces-2-clause-spends : goal.build-returns-in_ok-cells-in-Braces-2-clause-spends
 build-returns-in_ok-cells-in-Braces-2-clause-spends g t c =
-    list_spends c.args.engine.now.store c.build_elements.new.engine.store (element_nodes (terms_in c.deref-in-Braces-2.result.now)) (node_count (term_of c.args.expr.now))
-    (ap node_count (ap term_of c.in-Braces-2.is ∙ braces_term c.in-Braces-2.elements ∙ ap (λ (x : List Expr). Term.Braces (terms_in x)) (sym c.deref-in-Braces-2.ensures.value))) c.build_elements.ensures.spends
+    list_spends c.args.engine.now.store c.build_elements.new.engine.store (element_nodes (terms_in c.deref-in-Braces-2.result.now)) (term_nodes (term_of c.args.expr.now))
+    (ap term_nodes (ap term_of c.in-Braces-2.is ∙ braces_term c.in-Braces-2.elements ∙ ap (λ (x : List Expr). Term.Braces (terms_in x)) (sym c.deref-in-Braces-2.ensures.value))) c.build_elements.ensures.spends
 
 pub build-returns-in-Case-clause-spends : goal.build-returns-in-Case-clause-spends
 build-returns-in-Case-clause-spends g t c =
     subst (λ n. Spends (allowance n (2 ^ levels_of c.args.engine.now.store)) c.args.engine.now.store c.build_arms.new.engine.store)
-    (sym (ap node_count (ap term_of c.in-Case.is ∙ case_term c.in-Case.arms ∙ ap (λ (x : List Arm). Term.Case (arms_in x)) (sym c.deref-in-Case.ensures.value)))) c.build_arms.ensures.spends
+    (sym (ap term_nodes (ap term_of c.in-Case.is ∙ case_term c.in-Case.arms ∙ ap (λ (x : List Arm). Term.Case (arms_in x)) (sym c.deref-in-Case.ensures.value)))) c.build_arms.ensures.spends
 
 pub build_arms-returns-clause-spends : goal.build_arms-returns-clause-spends
 build_arms-returns-clause-spends g t c =
@@ -481,26 +481,26 @@ pub build-returns-in_err-operand-in-Not-clause-spends : goal.build-returns-in_er
 build-returns-in_err-operand-in-Not-clause-spends g t c =
     let e : Term = term_of c.deref-in-Not.result.now in
     let is : term_of c.args.expr.now ≡ Term.Not e = ap term_of c.in-Not.is ∙ ap (λ (x : Expr). Term.Not (term_of x)) (sym c.deref-in-Not.ensures) in
-    next_spends c.args.engine.now.store c.build-in-Not.new.engine.store (node_count e) (node_count (term_of c.args.expr.now)) (ap node_count is) c.build-in-Not.ensures.spends
+    next_spends c.args.engine.now.store c.build-in-Not.new.engine.store (term_nodes e) (term_nodes (term_of c.args.expr.now)) (ap term_nodes is) c.build-in-Not.ensures.spends
 
 pub build-returns-in_err-left-in-Binary-clause-spends : goal.build-returns-in_err-left-in-Binary-clause-spends
 build-returns-in_err-left-in-Binary-clause-spends g t c =
     let a : Term = term_of c.deref-in-Binary.result.now in
     let is : term_of c.args.expr.now ≡ Term.Binary c.in-Binary.op a (term_of c.in-Binary.b.value) = ap term_of c.in-Binary.is ∙ ap (λ (x : Expr). Term.Binary c.in-Binary.op (term_of x) (term_of c.in-Binary.b.value)) (sym c.deref-in-Binary.ensures) in
-    left_spends c.args.engine.now.store c.build-in-Binary.new.engine.store (node_count a) (node_count (term_of c.in-Binary.b.value)) (node_count (term_of c.args.expr.now)) (ap node_count is) c.build-in-Binary.ensures.spends
+    left_spends c.args.engine.now.store c.build-in-Binary.new.engine.store (term_nodes a) (term_nodes (term_of c.in-Binary.b.value)) (term_nodes (term_of c.args.expr.now)) (ap term_nodes is) c.build-in-Binary.ensures.spends
 
 pub build-returns-in_err-right-in-Binary-clause-spends : goal.build-returns-in_err-right-in-Binary-clause-spends
 build-returns-in_err-right-in-Binary-clause-spends g t c =
     let a : Term = term_of c.deref-in-Binary.result.now in
     let b : Term = term_of c.deref-in-Binary-2.result.now in
     let is : term_of c.args.expr.now ≡ Term.Binary c.in-Binary.op a b = ap term_of c.in-Binary.is ∙ (λ i. Term.Binary c.in-Binary.op (term_of (sym c.deref-in-Binary.ensures i)) (term_of (sym c.deref-in-Binary-2.ensures i))) in
-    both_spend c.args.engine.now.store c.build-in-Binary.new.engine.store c.build-in-Binary-2.new.engine.store c.build-in-Binary.ensures.keeps.engine.grows (node_count a) (node_count b) (node_count (term_of c.args.expr.now)) (ap node_count is)
+    both_spend c.args.engine.now.store c.build-in-Binary.new.engine.store c.build-in-Binary-2.new.engine.store c.build-in-Binary.ensures.keeps.engine.grows (term_nodes a) (term_nodes b) (term_nodes (term_of c.args.expr.now)) (ap term_nodes is)
     c.build-in-Binary.ensures.spends c.build-in-Binary-2.ensures.spends
 
 pub build-returns-in_err-cells-in-Braces-2-clause-spends : goal.build-returns-in_err-cells-in-Braces-2-clause-spends
 build-returns-in_err-cells-in-Braces-2-clause-spends g t c =
-    list_spends c.args.engine.now.store c.build_elements.new.engine.store (element_nodes (terms_in c.deref-in-Braces-2.result.now)) (node_count (term_of c.args.expr.now))
-    (ap node_count (ap term_of c.in-Braces-2.is ∙ braces_term c.in-Braces-2.elements ∙ ap (λ (x : List Expr). Term.Braces (terms_in x)) (sym c.deref-in-Braces-2.ensures.value))) c.build_elements.ensures.spends
+    list_spends c.args.engine.now.store c.build_elements.new.engine.store (element_nodes (terms_in c.deref-in-Braces-2.result.now)) (term_nodes (term_of c.args.expr.now))
+    (ap term_nodes (ap term_of c.in-Braces-2.is ∙ braces_term c.in-Braces-2.elements ∙ ap (λ (x : List Expr). Term.Braces (terms_in x)) (sym c.deref-in-Braces-2.ensures.value))) c.build_elements.ensures.spends
 
 pub build_arms-returns-in_err-add-clause-spends : goal.build_arms-returns-in_err-add-clause-spends
 build_arms-returns-in_err-add-clause-spends g t c =

@@ -4,7 +4,7 @@ use Rattle.bdd_ops.specs.Engine.{store_of}
 use Rattle.kripke_model.specs.declared.expressions.Value.{Value}
 use Rattle.kripke_model.specs.Evaluation.{Checked}
 use Rattle.kripke_model.specs.Reading.{term_of, terms_in, arms_in}
-use Rattle.kripke_model.specs.Size.{node_count, element_nodes, arm_nodes}
+use Rattle.kripke_model.specs.Size.{term_nodes, element_nodes, arm_nodes}
 use Rattle.value_tables.specs.Work.{Keeps, Spends, list_allowance}
 use Rattle.value_tables.specs.Cells.{shows, same_reading, any_of, AreCells}
 use Rattle.value_tables.specs.States.{arms_meaning}
@@ -12,13 +12,13 @@ use Rattle.value_tables.proofs.GrowthLemmas.{nodes_of_arms}
 use Rattle.value_tables.proofs.build.+build.Given as goal
 
 abbrev pub decreases-build : goal.decreases-build
-decreases-build g l = 2 * node_count (term_of l.expr.now)
+decreases-build g l = 2 * term_nodes (term_of l.expr.now)
 
 abbrev pub decreases-build_elements : goal.decreases-build_elements
 decreases-build_elements g l = 2 * element_nodes (terms_in l.elements.now) + 1
 
 abbrev pub decreases-build_arm : goal.decreases-build_arm
-decreases-build_arm g l = 2 * (node_count (term_of l.arm.now.guard) + node_count (term_of l.arm.now.right))
+decreases-build_arm g l = 2 * (term_nodes (term_of l.arm.now.guard) + term_nodes (term_of l.arm.now.right))
 
 abbrev pub decreases-build_arms : goal.decreases-build_arms
 decreases-build_arms g l = 2 * arm_nodes (arms_in l.arms.now) + 1
