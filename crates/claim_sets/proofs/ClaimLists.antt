@@ -2,7 +2,7 @@
 use Rattle.std.proofs.Common.{◌≡◌, ◌⊎◌, ℕ, ◌+◌, ◌-◌, ◌<◌, ◌≤◌, Bool, true, false, List, [], ◌∷◌, length, get_or, Some, None, refl, sym, ◌∙◌, ap, subst, arith}
 use Rattle.std.specs.Option.{option_and_then}
 use Rattle.kripke_model.specs.Ctl.{Ctl}
-use Rattle.kripke_model.specs.Leaves.{IsModelLeaf}
+use Rattle.kripke_model.specs.Leaves.{IsModelLeaf, HasModelLeaves}
 use Rattle.kripke_model.specs.Signs.{rule_of, until_rule, node_count}
 use Rattle.kripke_model.specs.System.{System}
 use Rattle.fair_rules.specs.Claims as claims
@@ -16,7 +16,7 @@ use Rattle.proof_form.specs.declared.preorder.Binary.TheVariants as binary
 use Rattle.claim_sets.specs.declared.claims.Asks.{Asks}
 use Rattle.claim_sets.specs.declared.claims.Asks.TheVariants as asks
 use Rattle.proof_form.specs.Preorder.{NodeView, one_of, two_of, nodes_from}
-use Rattle.claim_sets.specs.Claimed.{AreBefore, AsksBefore, ArePlaced, ClaimView, Follows, HasModelLeaves, IsPlaced, asked_by, claim_of, claims_of, demand_in, no_claim, node_view_at, one_asks, one_view, signed, two_asks, two_view, view_at}
+use Rattle.claim_sets.specs.Claimed.{AreBefore, AsksBefore, ArePlaced, ClaimView, Follows, IsPlaced, asked_by, claim_of, claims_of, demand_in, no_claim, node_view_at, one_asks, one_view, signed, two_asks, two_view, view_at}
 use Rattle.proof_form.proofs.NodeLists.{joined, one_each, at_node}
 use Rattle.proof_form.proofs.Preordered.{own_view, nodes_length, view_there}
 use Rattle.proof_form.proofs.RuleAt.{no_node}

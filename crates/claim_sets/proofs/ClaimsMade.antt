@@ -12,7 +12,8 @@ use Rattle.claim_sets.specs.declared.entry_sets.Ground.{Ground}
 use Rattle.proof_form.specs.declared.preorder.Node.{Node}
 use Rattle.claim_sets.specs.EntrySets.{IsGroundOf}
 use Rattle.proof_form.specs.Preorder.{node_view, node_views, nodes_from}
-use Rattle.claim_sets.specs.Claimed.{AreClaims, AreSoFar, ArePlaced, ClaimView, Follows, HasModelLeaves, claims_of, claims_slots, view_at}
+use Rattle.claim_sets.specs.Claimed.{AreClaims, AreSoFar, ArePlaced, ClaimView, Follows, claims_of, claims_slots, view_at}
+use Rattle.kripke_model.specs.Leaves.{HasModelLeaves}
 use Rattle.proof_form.proofs.Preordered.{nodes_length}
 use Rattle.claim_sets.proofs.ClaimPins.{to_err, to_ok, claims_pins}
 use Rattle.claim_sets.proofs.ClaimLists.{are_placed, claims_length, follows}

@@ -8,13 +8,12 @@ use Rattle.kripke_model.specs.declared.expressions.BinOp.{BinOp}
 use Rattle.kripke_model.specs.declared.expressions.Formula.{Formula}
 use Rattle.kripke_model.specs.Ctl.{Ctl, formula_of}
 use Rattle.kripke_model.specs.Evaluable.{IsEvaluable}
-use Rattle.kripke_model.specs.Leaves.{IsLeafOf, IsModelLeaf}
+use Rattle.kripke_model.specs.Leaves.{IsLeafOf, IsModelLeaf, is_leaf, HasModelLeaves}
 use Rattle.kripke_model.specs.Signs.{node_count}
 use Rattle.kripke_model.specs.Step.{IsState}
 use Rattle.kripke_model.specs.System.{System, Condition}
 use Rattle.kripke_model.specs.Term.{Term, has_path_operator}
 use Rattle.kripke_model.specs.WellFormed.{ctl_of}
-use Rattle.single_states.specs.Formulas.{is_leaf}
 use Rattle.region_sets.specs.declared.pins.Pin.{Pin}
 use Rattle.region_sets.specs.declared.pins.SetRefusal.{SetRefusal}
 use Rattle.region_sets.specs.declared.pins.SetRefusal.TheVariants.{Memory}
@@ -31,7 +30,7 @@ use Rattle.proof_form.specs.Meaning.{entries_for, free_proof}
 use Rattle.fair_rules.proofs.Nodes.{some_nodes}
 use Rattle.claim_sets.specs.declared.claims.Claim.{Claim}
 use Rattle.claim_sets.specs.declared.entry_sets.Ground.{Ground}
-use Rattle.claim_sets.specs.Claimed.{AreClaims, ClaimView, HasModelLeaves, claims_of, claims_slots, view_at}
+use Rattle.claim_sets.specs.Claimed.{AreClaims, ClaimView, claims_of, claims_slots, view_at}
 use Rattle.claim_sets.specs.ConstraintClaims.{AreFitting, HasClaims, HaveClaims, claims_at, lists_claims_slots}
 use Rattle.claim_sets.specs.EntrySets.{IsGround, IsGroundOf, entry_slots, listed_in}
 use Rattle.claim_sets.specs.FreeClaims.{ArePathClaims, IsFreeGround, IsListing}

@@ -2,7 +2,7 @@
 use Rattle.std.specs.Prelude.{◌≡◌, ℕ, ◌+◌, ◌-◌, ◌<◌, ◌≤◌, Bool, true, false, not, List, [], ◌∷◌, ◌++◌, length, map, slice_index_or, Option, Some, None, Result, Ok, Err, IfOk, OnOk}
 use Rattle.std.specs.Global.{Vec}
 use Rattle.kripke_model.specs.Ctl.{Ctl}
-use Rattle.kripke_model.specs.Leaves.{IsLeafOf, IsModelLeaf}
+use Rattle.kripke_model.specs.Leaves.{IsModelLeaf}
 use Rattle.kripke_model.specs.Evaluation.{eval}
 use Rattle.kripke_model.specs.Signs.{rule_of, until_rule, node_count}
 use Rattle.kripke_model.specs.System.{System}
@@ -13,7 +13,7 @@ use Rattle.region_sets.specs.declared.pins.SetRefusal.{SetRefusal}
 use Rattle.region_sets.specs.Sets.{Sets, IsCall, pin_slots, region}
 use Rattle.fair_rules.specs.SetLists.{nothing}
 use Rattle.fair_rules.specs.Claims as claims
-use Rattle.fair_rules.specs.Claims.{either, both, join_layers, entry_set, claimed, leaf_set, absent_argument}
+use Rattle.fair_rules.specs.Claims.{either, both, entry_set, claimed, leaf_set, absent_argument}
 use Rattle.fair_rules.specs.Block.{Demand}
 use Rattle.proof_form.specs.declared.preorder.Unary.{Unary}
 use Rattle.proof_form.specs.declared.preorder.Unary.TheVariants as unary
@@ -24,10 +24,6 @@ use Rattle.claim_sets.specs.declared.claims.Asks.TheVariants as asks
 use Rattle.claim_sets.specs.declared.claims.Claim.{Claim}
 use Rattle.proof_form.specs.Agrees.{SameOn}
 use Rattle.proof_form.specs.Preorder.{NodeView}
-
--- each leaf is one of the model's constraints or specifications
-abbrev pub HasModelLeaves : System → Ctl → Type 0
-HasModelLeaves m f = (t : Term) → IsLeafOf t f → IsModelLeaf m t
 
 -- ---- the claimed sets in a list: those of the last part's nodes, then the first one's, then the node's own
 

@@ -4,7 +4,7 @@ use Rattle.std.specs.Global.{Vec}
 use Rattle.kripke_model.specs.Ctl.{Ctl}
 use Rattle.kripke_model.specs.Step.{IsState}
 use Rattle.kripke_model.specs.System.{System, State}
-use Rattle.single_states.specs.Formulas.{is_leaf}
+use Rattle.kripke_model.specs.Leaves.{is_leaf}
 use Rattle.region_sets.specs.declared.pins.Pin.{Pin}
 use Rattle.region_sets.specs.declared.pins.SetRefusal.{SetRefusal}
 use Rattle.region_sets.specs.Sets.{Sets, In, IsCall, IsLive, region}

@@ -3,7 +3,7 @@
 ghost use Rattle.std.specs.Prelude.{◌≡◌, ◌+◌, ◌*◌, ◌<◌, ◌≤◌, ℕ, [], length, map, slice_index_or, All, IfOk, OnOk, Some};
 ghost use Rattle.kripke_model.specs.Ctl.{Ctl};
 ghost use Rattle.kripke_model.specs.WellFormed.{ctl_of};
-ghost use Rattle.single_states.specs.Formulas.{is_leaf};
+ghost use Rattle.kripke_model.specs.Leaves.{is_leaf, HasModelLeaves};
 ghost use Rattle.region_sets.specs.Sets.{Adds, AreDistinct, IsCall, region};
 ghost use Rattle.region_sets.specs.Ranks.{AreLive};
 ghost use Rattle.fair_rules.specs.Claims.{Proof};
@@ -11,7 +11,7 @@ ghost use Rattle.fair_rules.specs.FreePart.{constraint_nodes, path_nodes, path_n
 ghost use Rattle.proof_form.specs.Form.{map_free};
 ghost use Rattle.proof_form.specs.Meaning.{free_proof};
 ghost use Rattle.claim_sets.specs.EntrySets.{IsGround, IsGroundOf};
-ghost use Rattle.claim_sets.specs.Claimed.{HasModelLeaves, claims_result_slots, claims_slots};
+ghost use Rattle.claim_sets.specs.Claimed.{claims_result_slots, claims_slots};
 ghost use Rattle.claim_sets.specs.ConstraintClaims.{AreFitting, HaveClaims, claims_at, lists_claims_slots};
 ghost use Rattle.claim_sets.specs.FreeClaims.{ArePathClaims, IsFreeGround, IsListing, lists_result_slots};
 

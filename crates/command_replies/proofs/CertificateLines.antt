@@ -4,7 +4,8 @@ use Rattle.bdd_nodes.specs.declared.triple.Triple.{Triple}
 use Rattle.proof_text.specs.Lines.{Line, Words, Node, text_of, node_lines, counted}
 use Rattle.proof_text.proofs.WrittenLines.{node_texts, text-append}
 use Rattle.strong_fair.specs.Form.{Certificate, Row}
-use Rattle.command_replies.specs.Strong.{certificate_lines, row_line, rows_lines, table_lines}
+use Rattle.command_replies.specs.Strong.{certificate_lines, row_line, rows_lines}
+use Rattle.proof_text.specs.BlockReading.{nodes_lines}
 
 -- a text, and lines behind others
 pub behind : (xs ys : List Line) (t t1 t2 : List ℕ) → t1 ≡ t ++ text_of xs → t2 ≡ t1 ++ text_of ys
@@ -15,7 +16,7 @@ behind xs ys t t1 t2 p q =
 
 pub table_is : (nodes : List Triple) (t t1 t2 : List ℕ)
     → t1 ≡ t ++ text_of (counted (codes "nodes") (length nodes) ∷ [])
-    → t2 ≡ t1 ++ text_of (map (Node []) nodes) → t2 ≡ t ++ text_of (table_lines nodes)
+    → t2 ≡ t1 ++ text_of (map (Node []) nodes) → t2 ≡ t ++ text_of (nodes_lines nodes)
 table_is nodes t t1 t2 p q =
     behind (counted (codes "nodes") (length nodes) ∷ []) (node_lines [] nodes) t t1 t2 p
     (q ∙ ap (λ x. t1 ++ x) (sym (node_texts [] nodes)))
@@ -38,10 +39,10 @@ sets_are inside rows t t1 t2 t3 p q r =
     t3 (behind (counted (codes "inside") inside ∷ []) (rows_lines rows) t t1 t2 p q) r
 
 pub certificate_is : (nodes : List Triple) (c : Certificate ℕ) (t t1 t2 : List ℕ)
-    → t1 ≡ t ++ text_of (table_lines nodes)
+    → t1 ≡ t ++ text_of (nodes_lines nodes)
     → t2 ≡ t1 ++ text_of (counted (codes "inside") c.inside ∷ rows_lines c.rows
     ++ Words (codes "end" ∷ []) ∷ [])
     → t2 ≡ t ++ text_of (certificate_lines nodes c)
 certificate_is nodes c t t1 t2 p q =
-    behind (table_lines nodes) (counted (codes "inside") c.inside ∷ rows_lines c.rows
+    behind (nodes_lines nodes) (counted (codes "inside") c.inside ∷ rows_lines c.rows
     ++ Words (codes "end" ∷ []) ∷ []) t t1 t2 p q

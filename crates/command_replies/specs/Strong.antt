@@ -11,9 +11,10 @@ use Rattle.kripke_model.specs.Path.{Lasso}
 use Rattle.kripke_model.specs.System.{System}
 use Rattle.path_laws.specs.StateSet.{StateSet}
 use Rattle.proof_text.specs.Lines as lines
-use Rattle.proof_text.specs.Lines.{Line, Words, counted, node_lines}
+use Rattle.proof_text.specs.Lines.{Line, Words, counted}
 use Rattle.proof_text.specs.Meaning.{node_set}
 use Rattle.proof_text.specs.Written.{own_order}
+use Rattle.proof_text.specs.BlockReading.{nodes_lines}
 use Rattle.smv_texts.specs.Evidence.{IsMet}
 use Rattle.smv_texts.specs.Replies.{Reply, text_of}
 use Rattle.smv_texts.specs.Report.{lasso_lines}
@@ -38,15 +39,11 @@ reason_words (reasons.Pair i) set = codes "pair" ∷ decimal i ∷ decimal set �
 abbrev pub row_line : Row ℕ → Line
 row_line row = Words (reason_words row.reason row.set)
 
--- the nodes are written as in a proof file
-abbrev pub table_lines : List Triple → List Line
-table_lines nodes = counted (codes "nodes") (length nodes) ∷ node_lines [] nodes
-
 abbrev pub rows_lines : List (Row ℕ) → List Line
 rows_lines rows = counted (codes "rows") (length rows) ∷ map row_line rows
 
 abbrev pub certificate_lines : List Triple → Certificate ℕ → List Line
-certificate_lines nodes c = table_lines nodes
+certificate_lines nodes c = nodes_lines nodes
     ++ (counted (codes "inside") c.inside ∷ rows_lines c.rows ++ Words (codes "end" ∷ []) ∷ [])
 
 -- ---- the texts

@@ -1,9 +1,10 @@
 // The lines of a certificate over the nodes of a list.
-ghost use Rattle.std.specs.Prelude.{◌≡◌, ◌++◌, ◌∷◌, [], OnOk, codes, decimal, length, map};
+ghost use Rattle.std.specs.Prelude.{◌≡◌, ◌++◌, ◌∷◌, [], OnOk, codes, decimal, map};
 ghost use Rattle.proof_text.specs.Lines as lines;
 ghost use Rattle.proof_text.specs.Lines.{text_of};
 ghost use Rattle.command_replies.specs.SeenRows.{certificate_of, seen_row};
-ghost use Rattle.command_replies.specs.Strong.{certificate_lines, row_line, rows_lines, table_lines};
+ghost use Rattle.command_replies.specs.Strong.{certificate_lines, row_line, rows_lines};
+ghost use Rattle.proof_text.specs.BlockReading.{nodes_lines};
 
 use crate::certificate::{NodeCertificate, NodeRow};
 use bdd_nodes::Triple;
@@ -62,7 +63,7 @@ fn push_nodes(text: &mut Text, nodes: &[Triple]) -> Result<(), AllocError>
 // The nodes behind their number.
 #[tactic(auto, using(crate::proofs::CertificateLines::table_is))]
 fn push_table(text: &mut Text, nodes: &[Triple]) -> Result<(), AllocError>
-    ensures { OnOk result (text.new ≡ text.old ++ text_of (table_lines nodes.now)) }
+    ensures { OnOk result (text.new ≡ text.old ++ text_of (nodes_lines nodes.now)) }
 {
     push_counted(text, b"nodes", nodes.len())?;
     push_nodes(text, nodes)

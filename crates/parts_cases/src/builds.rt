@@ -1,6 +1,6 @@
 //! What comes of building the parts of a model.
 
-ghost use Rattle.std.specs.Prelude.{◌≡◌, ◌<◌, ◌^◌};
+ghost use Rattle.std.specs.Prelude.{◌<◌, ◌^◌};
 ghost use Rattle.bdd_nodes.specs.Steps.{IsBlankOf};
 
 use bdd_nodes::Steps;

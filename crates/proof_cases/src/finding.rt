@@ -7,7 +7,7 @@ ghost use Rattle.region_sets.specs.Ranks.{AreLive};
 ghost use Rattle.fair_rules.specs.SetLists.{everything};
 ghost use Rattle.fair_fixpoint.specs.Runs.{run_slots};
 ghost use Rattle.fair_fixpoint.specs.SatSets.{IsDecided, IsWholeRun};
-ghost use Rattle.fair_fixpoint.specs.Walks.{HasModelLeaves};
+ghost use Rattle.kripke_model.specs.Leaves.{HasModelLeaves};
 ghost use Rattle.proof_form.specs.Pinned.{proof_slots};
 ghost use Rattle.proof_form.specs.Shape.{spec_formula};
 ghost use Rattle.rank_extract.specs.Extracts.{IsLiveRun, Shows};

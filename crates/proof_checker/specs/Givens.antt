@@ -11,7 +11,7 @@ use Rattle.fair_rules.specs.FreePart.{constraint_nodes}
 use Rattle.proof_form.specs.Form.{map_proof, sets_of}
 use Rattle.proof_form.specs.Meaning.{obligations}
 use Rattle.proof_form.specs.Shape.{IsInShape}
-use Rattle.claim_sets.specs.Claimed.{HasModelLeaves}
+use Rattle.kripke_model.specs.Leaves.{HasModelLeaves}
 use Rattle.proof_checker.specs.declared.blocks.Given.{Given}
 use Rattle.proof_checker.specs.Imported.{node_states}
 

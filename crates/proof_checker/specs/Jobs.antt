@@ -12,7 +12,7 @@ use Rattle.proof_form.specs.Form.{sets_of}
 use Rattle.proof_form.specs.Meaning.{obligations}
 use Rattle.proof_form.specs.Pinned.{over_states}
 use Rattle.proof_form.specs.Shape.{IsInShape}
-use Rattle.claim_sets.specs.Claimed.{HasModelLeaves}
+use Rattle.kripke_model.specs.Leaves.{HasModelLeaves}
 use Rattle.block_proofs.specs.PinsFor.{pinned}
 use Rattle.proof_checker.specs.declared.counting.Job.{Job}
 use Rattle.proof_checker.specs.Imported.{seen_in}

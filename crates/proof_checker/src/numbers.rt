@@ -9,7 +9,7 @@ ghost use Rattle.proof_form.specs.Form.{sets_of};
 ghost use Rattle.proof_form.specs.Meaning.{obligations};
 ghost use Rattle.proof_form.specs.Pinned.{over_states, proof_slots};
 ghost use Rattle.proof_form.specs.Shape.{IsInShape};
-ghost use Rattle.claim_sets.specs.Claimed.{HasModelLeaves};
+ghost use Rattle.kripke_model.specs.Leaves.{HasModelLeaves};
 ghost use Rattle.proof_lines.specs.LineCounts.{set_line_count};
 ghost use Rattle.block_proofs.specs.PinsFor.{pinned};
 ghost use Rattle.proof_checker.specs.Found.{IsFound};

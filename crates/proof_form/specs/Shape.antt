@@ -8,7 +8,7 @@ use Rattle.kripke_model.specs.Step.{IsState}
 use Rattle.kripke_model.specs.System.{System, constraint_count}
 use Rattle.fair_rules.specs.Nodes.{node_at}
 use Rattle.proof_form.specs.Form as form
-use Rattle.proof_form.specs.Form.{Proof, FreePart, FreeEntry, Entry, Layer, FairPart, EX, AX, AR, EU, AU, ER}
+use Rattle.proof_form.specs.Form.{Proof, FreePart, FreeEntry, Entry, Layer, EX, AX, AR, EU, AU, ER}
 
 -- the formula of specification j, counted from 1
 abbrev pub spec_formula : System → ℕ → Option Ctl

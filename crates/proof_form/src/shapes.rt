@@ -1,7 +1,7 @@
 //! The shape of a proof: what can be seen without its sets.
 
 ghost use Rattle.std.specs.Prelude.{◌≡◌, ◌↔◌, All, AllPairs, IfOk, IsTrue, length};
-ghost use Rattle.kripke_model.specs.Signs.{ProofRule as Kind, rule_of, until_rule};
+ghost use Rattle.kripke_model.specs.Signs.{rule_of, until_rule};
 ghost use Rattle.kripke_model.specs.System.{constraint_count};
 ghost use Rattle.kripke_model.specs.WellFormed.{ctl_of};
 ghost use Rattle.proof_form.specs.Seen.{seen_rule};

@@ -22,7 +22,8 @@ use Rattle.claim_sets.specs.declared.claims.Claim.{Claim}
 use Rattle.claim_sets.specs.declared.entry_sets.Ground.{Ground}
 use Rattle.proof_lines.specs.declared.frames.Frame.{Frame}
 use Rattle.proof_lines.specs.Cases.{AreEnds, AreLists, IsCase, formula_in, own_proof, states_of}
-use Rattle.claim_sets.specs.Claimed.{AreClaims, HasModelLeaves, claims_of}
+use Rattle.claim_sets.specs.Claimed.{AreClaims, claims_of}
+use Rattle.kripke_model.specs.Leaves.{HasModelLeaves}
 use Rattle.claim_sets.specs.ConstraintClaims.{AreFitting, IsGiven, lists_claims_slots, model_sides}
 use Rattle.claim_sets.specs.EntrySets.{IsGround, IsGroundOf, entry_slots, listed_in}
 use Rattle.proof_lines.specs.Frames.{IsFrame, IsFrameOf}

@@ -36,7 +36,7 @@ use Rattle.proof_lines.specs.declared.cases.Case.{Case}
 use Rattle.proof_lines.specs.declared.cases.Ends.{Ends}
 use Rattle.claim_sets.specs.declared.claims.Claim.{Claim}
 use Rattle.proof_lines.specs.Cases.{AreEnds, AreLists, IsCase, formula_in, states_of}
-use Rattle.claim_sets.specs.Claimed.{HasModelLeaves}
+use Rattle.kripke_model.specs.Leaves.{HasModelLeaves}
 use Rattle.claim_sets.specs.ConstraintClaims.{HaveClaims, model_sides}
 use Rattle.claim_sets.specs.FreeClaims.{IsFreeGround}
 use Rattle.proof_lines.specs.Tested.{AreTested}

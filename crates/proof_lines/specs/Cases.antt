@@ -20,7 +20,7 @@ use Rattle.proof_form.specs.Shape.{IsInShape}
 use Rattle.proof_lines.specs.declared.cases.Case.{Case}
 use Rattle.proof_lines.specs.declared.cases.Ends.{Ends}
 use Rattle.claim_sets.specs.declared.claims.Claim.{Claim}
-use Rattle.claim_sets.specs.Claimed.{HasModelLeaves}
+use Rattle.kripke_model.specs.Leaves.{HasModelLeaves}
 use Rattle.claim_sets.specs.ConstraintClaims.{AreFitting, lists_claims_slots, model_sides}
 
 -- the lines of what entries share

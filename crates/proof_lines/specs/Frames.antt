@@ -1,5 +1,5 @@
 -- What the lines of entries are tested with.
-use Rattle.std.specs.Prelude.{◌≡◌, ℕ, ◌+◌, ◌-◌, ◌<◌, ◌≤◌, Bool, true, false, List, length}
+use Rattle.std.specs.Prelude.{◌≡◌, true, false, List}
 use Rattle.kripke_model.specs.Step.{IsState}
 use Rattle.kripke_model.specs.Signs.{ProofRule}
 use Rattle.kripke_model.specs.System.{State}
@@ -12,7 +12,6 @@ use Rattle.fair_rules.specs.SetLists.{nothing}
 use Rattle.claim_sets.specs.declared.claims.Asks.{Asks}
 use Rattle.claim_sets.specs.declared.claims.Asks.TheVariants as asks
 use Rattle.proof_lines.specs.declared.frames.Frame.{Frame}
-use Rattle.claim_sets.specs.Claimed.{ClaimView, view_at}
 use Rattle.claim_sets.specs.ConstraintClaims.{IsGiven, constraint_list}
 
 -- the pins are live, and two of them stand for all states and for none

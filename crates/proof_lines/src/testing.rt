@@ -11,7 +11,7 @@ ghost use Rattle.proof_form.specs.Meaning.{ClaimHolds, IsProofOf, ProvesSpec, fr
 ghost use Rattle.proof_form.specs.Pinned.{over_states, proof_slots, test_pins};
 ghost use Rattle.proof_form.specs.Shape.{IsInShape, spec_formula};
 ghost use Rattle.proof_lines.specs.Cases.{AreEnds, AreLists, IsCase, formula_in, whole_lines};
-ghost use Rattle.claim_sets.specs.Claimed.{HasModelLeaves};
+ghost use Rattle.kripke_model.specs.Leaves.{HasModelLeaves};
 ghost use Rattle.claim_sets.specs.ConstraintClaims.{HaveClaims};
 ghost use Rattle.claim_sets.specs.FreeClaims.{IsFreeGround};
 ghost use Rattle.proof_lines.specs.LineCounts.{set_line_count};

@@ -9,9 +9,9 @@ use Rattle.proof_form.specs.Form.{Entry}
 use Rattle.proof_form.specs.Shape.{ComesBefore}
 use Rattle.proof_text.specs.FileParts.{FitsEnd}
 use Rattle.proof_text.specs.Lines.{line_text, entry_lines, end_lines}
-use Rattle.proof_text.specs.ProofParts.{BeginsWith, FitsEnding, ending_lines}
+use Rattle.proof_text.specs.ProofParts.{FitsEnding, ending_lines}
 use Rattle.proof_text.specs.SetParts.{FitsEntry, Finds, FindsNext}
-use Rattle.text_lines.specs.Cursor.{Place}
+use Rattle.text_lines.specs.Cursor.{Place, BeginsWith}
 use Rattle.text_lines.specs.declared.faults.Fault.{Fault}
 use Rattle.text_lines.proofs.FoundUntil.{AreTold}
 use Rattle.proof_text.proofs.FoundEnd.{some_state}

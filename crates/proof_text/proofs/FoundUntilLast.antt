@@ -2,10 +2,9 @@
 use Rattle.std.proofs.Common.{◌≡◌, inl, inr, ℕ, ◌+◌, ◌<◌, true, List, [], ◌∷◌, ◌++◌, length, refl, sym, ◌∙◌, ap, subst, arith}
 use Rattle.std.specs.Prelude.{Some, Ok, Err}
 use Rattle.proof_text.specs.Lines.{Line, line_text}
-use Rattle.proof_text.specs.ProofParts.{BeginsWith}
 use Rattle.proof_text.specs.SetParts.{Finds, FindsNext}
 use Rattle.proof_text.specs.Spells.{IsGoodLine}
-use Rattle.text_lines.specs.Cursor.{Place, Shows}
+use Rattle.text_lines.specs.Cursor.{Place, Shows, BeginsWith}
 use Rattle.text_lines.specs.Formats.{FitEach, FitUntil, lines_of_many, lines_until}
 use Rattle.text_lines.specs.Found.{IsFound}
 use Rattle.text_lines.specs.WholeLines.{lines_in}

@@ -16,8 +16,8 @@ use Rattle.kripke_model.specs.Flat.{IsFlat, AreDistinct}
 use Rattle.kripke_model.specs.Names.{is_letter, is_tail, has_shape}
 use Rattle.kripke_model.specs.Shown.{process_name, value_text}
 use Rattle.kripke_model.specs.Step.{IsState}
-use Rattle.kripke_model.specs.System.{System, State, Variable, value_in}
-use Rattle.proof_text.specs.Lines.{value_words, variable_name}
+use Rattle.kripke_model.specs.System.{System, State, Variable, value_in, variable_name}
+use Rattle.proof_text.specs.Lines.{value_words}
 use Rattle.proof_text.specs.SmallNumbers.{IsSmallValue, HasSmallNumbers}
 use Rattle.text_lines.proofs.Lists.{same_first, same_rest}
 use Rattle.proof_text.proofs.KnownBlocks.{StatesAreKnown}

@@ -8,9 +8,8 @@ use Rattle.std.proofs.lemmas.List.Elements.{All-head, All-tail}
 use Rattle.bit_encode.specs.Code.{IsOrder}
 use Rattle.bit_encode.proofs.OrderMarks.{IsMarked, mark_more, mark_twice, mark_end, mark_all}
 use Rattle.kripke_model.specs.Flat.{IsFlat}
-use Rattle.kripke_model.specs.System.{System, Variable}
+use Rattle.kripke_model.specs.System.{System, Variable, variable_name}
 use Rattle.proof_text.specs.FileParts.{FitsOrder}
-use Rattle.proof_text.specs.Lines.{variable_name}
 use Rattle.text_lines.proofs.Lists.{same_first, same_rest}
 
 abbrev nameless : Variable

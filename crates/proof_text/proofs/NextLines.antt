@@ -5,8 +5,7 @@ use Rattle.std.specs.Prelude.{IsTrue, IsFalse, Some}
 use Rattle.std.proofs.lemmas.Bool.{false≢true}
 use Rattle.std.proofs.lemmas.Bool.Decides.{Decides-eqb}
 use Rattle.std.proofs.lemmas.Slice.Eq.{starts_is}
-use Rattle.proof_text.specs.ProofParts.{BeginsWith}
-use Rattle.text_lines.specs.Cursor.{Place, Shows}
+use Rattle.text_lines.specs.Cursor.{Place, Shows, BeginsWith}
 use Rattle.text_lines.proofs.Lists.{same_first}
 
 pub begins_iff : (front text : List ℕ) (place : Place) → Shows place (Some text) → (b : Bool) → b ≡ starts_with nat_eq text front → (IsTrue b → BeginsWith front place) × (IsFalse b → BeginsWith front place → ⊥)

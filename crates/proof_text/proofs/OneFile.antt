@@ -3,9 +3,9 @@ use Rattle.std.proofs.Common.{◌≡◌, ℕ, ◌≤◌, List, [], ◌++◌, map
 use Rattle.std.specs.Prelude.{All}
 use Rattle.std.proofs.lemmas.List.Elements.{All-weaker}
 use Rattle.kripke_model.specs.Flat.{IsFlat}
-use Rattle.kripke_model.specs.System.{System, constraint_count}
+use Rattle.kripke_model.specs.System.{System, constraint_count, variable_name}
 use Rattle.proof_text.specs.File.{Block, File}
-use Rattle.proof_text.specs.Lines.{line_text, words_of, text_of, variable_name, block_lines, file_lines}
+use Rattle.proof_text.specs.Lines.{line_text, words_of, text_of, block_lines, file_lines}
 use Rattle.proof_text.specs.SmallNumbers.{HasSmallNumbers}
 use Rattle.proof_text.specs.Refuses.{HasLines, Begins, StopsBy, IsNodeLine, IsOrderLine, Refuses, AreOneFile}
 use Rattle.proof_text.specs.Spells.{IsBlock, Spells}

@@ -9,11 +9,11 @@ use Rattle.bdd_nodes.specs.declared.triple.Triple.{Triple}
 use Rattle.kripke_model.specs.declared.expressions.Value.{Value}
 use Rattle.kripke_model.specs.declared.expressions.Value.TheVariants.{Number, Symbol}
 use Rattle.kripke_model.specs.Shown.{process_name, value_text}
-use Rattle.kripke_model.specs.System.{System, State, Variable}
+use Rattle.kripke_model.specs.System.{System, State, Variable, variable_name}
 use Rattle.kripke_model.specs.Term.{has_path_operator}
 use Rattle.proof_form.specs.Form.{Layer, FairPart, Rule, EX, AX, AR, EU, AU, ER, Entry, FreeEntry, FreePart, Proof}
 use Rattle.proof_text.specs.File.{Block, File}
-use Rattle.proof_text.specs.Lines.{Line, Words, Node, counted, set_line, layer_line, reach_lines, fair_lines, sign_word, rule_lines, entry_lines, free_entry_lines, nonfair_lines, free_lines, claim_word, value_words, end_lines, node_lines, proof_lines, block_lines, version_word, variable_name, header_lines, file_lines}
+use Rattle.proof_text.specs.Lines.{Line, Words, Node, counted, set_line, layer_line, reach_lines, fair_lines, sign_word, rule_lines, entry_lines, free_entry_lines, nonfair_lines, free_lines, claim_word, value_words, end_lines, node_lines, proof_lines, block_lines, version_word, header_lines, file_lines}
 use Rattle.proof_text.proofs.PlainWords.{is_plain, are_plain, plain_decimal, plain_signed, words_append, IsPlainLine}
 
 abbrev pub ArePlain : List Line → Type 0

@@ -10,9 +10,9 @@ use Rattle.proof_form.specs.Form.{Layer, FairPart, FreeEntry, Proof}
 use Rattle.proof_form.specs.Shape.{StandsBefore}
 use Rattle.proof_text.specs.FileParts.{FitsProof}
 use Rattle.proof_text.specs.Lines.{nonfair_lines, fair_lines, free_entry_lines, proof_lines}
-use Rattle.proof_text.specs.ProofParts.{BeginsWith, FitsMain, main_lines, FitsFreeEnding, free_ending_lines, FitsBehind, behind_lines}
+use Rattle.proof_text.specs.ProofParts.{FitsMain, main_lines, FitsFreeEnding, free_ending_lines, FitsBehind, behind_lines}
 use Rattle.proof_text.specs.SetParts.{FitsLayers, FitsFair, FitsFreeEntry, Finds, FindsNext}
-use Rattle.text_lines.specs.Cursor.{Place}
+use Rattle.text_lines.specs.Cursor.{Place, BeginsWith}
 use Rattle.text_lines.specs.declared.faults.Fault.{Fault}
 use Rattle.proof_text.proofs.FoundFree.{free_told, free_form, free_join, free_line, some_free_ending, to_free}
 use Rattle.proof_text.proofs.FoundFixed.{Always}

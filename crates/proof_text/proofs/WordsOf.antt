@@ -7,11 +7,11 @@ use Rattle.std.proofs.lemmas.Bool.{and_from, leb-true}
 use Rattle.std.proofs.lemmas.List.Elements.{All-nil, All-cons}
 use Rattle.bdd_nodes.specs.declared.triple.Triple.{Triple}
 use Rattle.kripke_model.specs.Flat.{IsFlat}
-use Rattle.kripke_model.specs.System.{System, State}
+use Rattle.kripke_model.specs.System.{System, State, variable_name}
 use Rattle.kripke_model.specs.Step.{IsState}
 use Rattle.proof_text.specs.File.{File}
 use Rattle.proof_text.specs.FileParts.{FitsOrder, order_line}
-use Rattle.proof_text.specs.Lines.{Line, Words, Node, line_text, words_of, variable_name, value_words}
+use Rattle.proof_text.specs.Lines.{Line, Words, Node, line_text, words_of, value_words}
 use Rattle.proof_text.proofs.PlainLines.{file_plain}
 use Rattle.proof_text.proofs.PlainNames.{plain_names}
 use Rattle.proof_text.proofs.PlainWords.{is_plain, are_plain, parts_of_and, plain_decimal, IsPlainLine}

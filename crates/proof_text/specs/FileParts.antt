@@ -5,11 +5,11 @@ use Rattle.bit_encode.specs.Code.{IsOrder}
 use Rattle.kripke_model.specs.Ctl.{Ctl}
 use Rattle.kripke_model.specs.Leaves.{HasLeafConstraints}
 use Rattle.kripke_model.specs.Step.{IsState}
-use Rattle.kripke_model.specs.System.{System, State, constraint_count}
+use Rattle.kripke_model.specs.System.{System, State, constraint_count, variable_name}
 use Rattle.proof_form.specs.Form.{FreePart, Proof}
 use Rattle.proof_form.specs.Shape.{spec_formula}
 use Rattle.proof_text.specs.File.{Block}
-use Rattle.proof_text.specs.Lines.{Line, Words, Node, variable_name, version_word, claim_word, block_lines}
+use Rattle.proof_text.specs.Lines.{Line, Words, Node, version_word, claim_word, block_lines}
 use Rattle.proof_text.specs.SetParts.{FitsLayers, FitsFair, FitsEntry, FitsFreeEntry}
 use Rattle.proof_text.specs.Spells.{IsBlock, greatest_number, triple_numbers}
 use Rattle.proof_text.specs.declared.heads.Head.{Head}

@@ -1,9 +1,9 @@
 -- The lines of a proof file.
 use Rattle.std.specs.Prelude.{ℕ, ◌+◌, Bool, true, false, if◌then◌else◌, List, [], ◌∷◌, ◌++◌, length, map, Option, Some, None, codes, decimal, flat_map}
-use Rattle.std.specs.List.{join_with_byte, list_any, slice_index_or}
+use Rattle.std.specs.List.{join_with_byte, list_any}
 use Rattle.bdd_nodes.specs.declared.triple.Triple.{Triple}
 use Rattle.kripke_model.specs.Shown.{value_text}
-use Rattle.kripke_model.specs.System.{System, State}
+use Rattle.kripke_model.specs.System.{System, State, variable_name}
 use Rattle.kripke_model.specs.Term.{has_path_operator}
 use Rattle.proof_form.specs.Form.{Layer, FairPart, Rule, EX, AX, AR, EU, AU, ER, Entry, FreeEntry, FreePart, Proof}
 use Rattle.proof_text.specs.File.{Block, File}
@@ -31,9 +31,6 @@ text_of lines = join_lines (map line_text lines)
 abbrev pub version_word : System → List ℕ
 version_word m
     = if list_any (λ c. has_path_operator c.expr) m.constraints then codes "2" else codes "1"
-
-abbrev pub variable_name : System → ℕ → List ℕ
-variable_name m x = (slice_index_or m.vars x (record { name = []; values = []; line = 0 })).name
 
 abbrev pub header_lines : System → List ℕ → List Line
 header_lines m order

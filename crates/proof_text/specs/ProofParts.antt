@@ -7,13 +7,9 @@ use Rattle.proof_form.specs.Form.{Entry, FreeEntry, FreePart, Proof}
 use Rattle.proof_text.specs.FileParts.{FitsEnd}
 use Rattle.proof_text.specs.Lines.{Line, nonfair_lines, fair_lines, entry_lines, free_entry_lines, end_lines}
 use Rattle.proof_text.specs.SetParts.{FitsLayers, FitsFair, FitsEntry, FitsFreeEntry, Finds}
-use Rattle.text_lines.specs.Cursor.{Place, Shows}
+use Rattle.text_lines.specs.Cursor.{Place, BeginsWith}
 use Rattle.text_lines.specs.Formats.{FitEach, FitUntil, lines_of_many, lines_until}
 use Rattle.text_lines.specs.declared.faults.Fault.{Fault}
-
--- the next line begins with these bytes
-abbrev pub BeginsWith : List ℕ → Place → Type 0
-BeginsWith front place = (rest : List ℕ) × Shows place (Some (front ++ rest))
 
 -- ---- entries and the end of a block
 

@@ -1,7 +1,7 @@
 // What is seen of the next line before it is read.
 
 ghost use Rattle.std.specs.Prelude.{IsFalse, IsTrue};
-ghost use Rattle.proof_text.specs.ProofParts.{BeginsWith};
+ghost use Rattle.text_lines.specs.Cursor.{BeginsWith};
 
 use text_lines::cursor::Cursor;
 

@@ -3,7 +3,8 @@
 ghost use Rattle.std.specs.Prelude.{◌≡◌, ◌+◌, ◌≤◌, ◌∷◌, [], ℕ, List, length, map};
 ghost use Rattle.std.specs.Prelude.{IfOk, MatchOption};
 ghost use Rattle.proof_text.specs.FileParts.{FitsOrder, order_line};
-ghost use Rattle.proof_text.specs.Lines.{line_text, variable_name};
+ghost use Rattle.proof_text.specs.Lines.{line_text};
+ghost use Rattle.kripke_model.specs.System.{variable_name};
 ghost use Rattle.proof_text.specs.SetParts.{Finds, in_list};
 
 use crate::line_words::takes_word;

@@ -71,6 +71,12 @@ abbrev pub pin_slots : Result Pin SetRefusal → List ℕ
 pin_slots (Ok pin) = pin.slot ∷ []
 pin_slots (Err refusal) = []
 
+-- the slots of the pin in an answer that may have one
+abbrev pub option_slots : Result (Option Pin) SetRefusal → List ℕ
+option_slots (Ok (Some pin)) = pin.slot ∷ []
+option_slots (Ok None) = []
+option_slots (Err refusal) = []
+
 -- the count is greater than before, or stands at its last value
 abbrev pub Rose : ℕ → ℕ → Type 0
 Rose before after = (before < after) ⊎ (after ≡ 18446744073709551615)

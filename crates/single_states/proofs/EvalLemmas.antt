@@ -12,7 +12,8 @@ use Rattle.kripke_model.specs.System.{System, State, value_in}
 use Rattle.kripke_model.specs.Term.{Term, Arms, none, more, esac, arm}
 use Rattle.single_states.specs.Braces.{IsFilled, AreFilledArms}
 use Rattle.kripke_model.specs.Evaluation.{Checked, ◌>>=◌, same, among, distinct, truth, truth_value, single, as_number, as_boolean, number, boolean, in_range, divided, on_operands, on_numbers, on_booleans, binary, runs, eval, eval_elements, eval_arms}
-use Rattle.single_states.specs.Summary.{summary, summarized, one, joined, only, only_number, only_boolean, in_bounds, arithmetic, logic, numbers, booleans, binary_value, IsSingleValued, found, either, first_is, decided}
+use Rattle.single_states.specs.Summary.{summary, summarized, one, joined, only, only_number, only_boolean, arithmetic, numbers, booleans, binary_value, IsSingleValued, found, either, first_is, decided}
+use Rattle.kripke_model.specs.Operators.{in_bounds, logic}
 use Rattle.kripke_model.proofs.ValueLemmas.{same-true}
 use Rattle.single_states.proofs.SummaryLemmas.{single-distinct, summary-distinct, differs, any-distinct}
 use Rattle.std.proofs.lemmas.List.Folds.{list_any-append}

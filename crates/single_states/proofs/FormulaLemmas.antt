@@ -9,13 +9,12 @@ use Rattle.kripke_model.specs.declared.refusals.StaticRefusal.{StaticRefusal}
 use Rattle.kripke_model.specs.Term.{Term, has_path_operator}
 use Rattle.kripke_model.specs.Ctl.{Ctl, formula_of}
 use Rattle.kripke_model.specs.Evaluable.{IsEvaluable}
-use Rattle.kripke_model.specs.Leaves.{HasLeafConstraints}
+use Rattle.kripke_model.specs.Leaves.{HasLeafConstraints, is_leaf}
 use Rattle.kripke_model.specs.Static.{KeepsRules, is_formula}
 use Rattle.kripke_model.specs.System.{System, Condition}
 use Rattle.kripke_model.specs.WellFormed.{ctl_of}
 use Rattle.kripke_model.proofs.FairLemmas.{evaluable_leaf}
 use Rattle.kripke_model.proofs.RuledLemmas.{silent_first, silent_second, never_in}
-use Rattle.single_states.specs.Formulas.{is_leaf}
 
 differ : false ≡ true → ⊥
 differ e = subst (λ (b : Bool). cond b ⊥ (Unit {0})) e tt

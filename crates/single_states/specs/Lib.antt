@@ -1,4 +1,3 @@
 pub mod Braces
 pub mod Summary
 pub mod Outcomes
-pub mod Formulas

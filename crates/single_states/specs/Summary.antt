@@ -8,6 +8,7 @@ use Rattle.kripke_model.specs.declared.expressions.BinOp.{BinOp}
 use Rattle.kripke_model.specs.declared.expressions.FaultKind.{FaultKind}
 use Rattle.single_states.specs.declared.evaluation.Summary.{Summary}
 use Rattle.kripke_model.specs.Evaluation.{Checked, ◌>>=◌, same, among, truth_value, as_number, as_boolean}
+use Rattle.kripke_model.specs.Operators.{in_bounds, logic}
 
 abbrev pub summary : List Value → Summary
 summary [] = record { first = Number (pos 0); many = false }
@@ -25,10 +26,6 @@ joined x y = record { first = x.first; many = x.many || y.many || not (same x.fi
 abbrev pub only : Summary → Checked Value
 only x = if x.many then Err FaultKind.ManyValues else Ok x.first
 
-abbrev pub in_bounds : ℤ → Checked Value
-in_bounds i = if int_le (negsuc 2147483647) i
-    && int_le i (pos 2147483647) then Ok (Number i) else Err FaultKind.Overflow
-
 abbrev pub arithmetic : BinOp → ℤ → ℤ → Checked Value
 arithmetic BinOp.Mul i j = in_bounds (i *ℤ j)
 arithmetic BinOp.Div i j
@@ -42,12 +39,6 @@ arithmetic BinOp.Gt i j = Ok (truth_value (int_lt j i))
 arithmetic BinOp.Le i j = Ok (truth_value (int_le i j))
 arithmetic BinOp.Ge i j = Ok (truth_value (int_le j i))
 arithmetic op i j = Err FaultKind.NotNumber
-
-abbrev pub logic : BinOp → Bool → Bool → Bool
-logic BinOp.And a b = a && b
-logic BinOp.Or a b = a || b
-logic BinOp.Implies a b = not a || b
-logic op a b = if a then b else not b
 
 abbrev pub only_number : Summary → Checked ℤ
 only_number x = only x >>= as_number

@@ -3,7 +3,8 @@
 ghost use Rattle.std.specs.Prelude.{◌≡◌, ◌↔◌, IsTrue, Contains};
 ghost use Rattle.kripke_model.specs.Step.{IsState};
 ghost use Rattle.kripke_model.specs.Evaluation.{runs, truth_value};
-ghost use Rattle.single_states.specs.Summary.{one, joined, only, only_number, only_boolean, in_bounds, arithmetic, logic, binary_value, IsSingleValued, negated, united, combined, decided, either, first_is, boolean_of, single_of};
+ghost use Rattle.single_states.specs.Summary.{one, joined, only, only_number, only_boolean, arithmetic, binary_value, IsSingleValued, negated, united, combined, decided, either, first_is, boolean_of, single_of};
+ghost use Rattle.kripke_model.specs.Operators.{in_bounds, logic};
 
 use kripke_model::expressions::{BinOp, FaultKind, Value};
 use kripke_model::models::{FlatVar, Ruled};

@@ -5,7 +5,7 @@ ghost use Rattle.kripke_model.specs.declared.expressions.Value.{Value};
 ghost use Rattle.kripke_model.specs.declared.models.Part.{Part};
 ghost use Rattle.kripke_model.specs.Evaluable.{IsEvaluable};
 ghost use Rattle.kripke_model.specs.Evaluation.{Holds, runs};
-ghost use Rattle.kripke_model.specs.Leaves.{HasLeafConstraints};
+ghost use Rattle.kripke_model.specs.Leaves.{HasLeafConstraints, is_leaf};
 ghost use Rattle.kripke_model.specs.Reading.{term_of};
 ghost use Rattle.kripke_model.specs.Step.{IsValueOf, IsCurrent, IsInvariant, Assigned, IsDriven, HasNextAssign, Initial, Step};
 ghost use Rattle.kripke_model.specs.Path.{IsPath};
@@ -13,7 +13,6 @@ ghost use Rattle.kripke_model.specs.Truth.{IsFair};
 ghost use Rattle.kripke_model.specs.System.{value_in};
 ghost use Rattle.kripke_model.specs.WellFormed.{ctl_of};
 ghost use Rattle.single_states.specs.Braces.{IsFilled};
-ghost use Rattle.single_states.specs.Formulas.{is_leaf};
 
 use crate::evaluation::{is_state, runs, single_of};
 use crate::valuation::{has, summarize};

@@ -11,10 +11,10 @@ use Rattle.std.proofs.lemmas.List.{map-append, take_more}
 use Rattle.std.proofs.lemmas.List.Elements.{filter-append}
 use Rattle.kripke_model.specs.declared.expressions.Value.{Value}
 use Rattle.kripke_model.specs.declared.expressions.Value.TheVariants.{Number}
-use Rattle.kripke_model.specs.Evaluation.{same, among, distinct}
+use Rattle.kripke_model.specs.Evaluation.{same, among, distinct, truth_value}
 use Rattle.kripke_model.proofs.ValueLemmas.{same-true, same_self}
 use Rattle.smv_instances.specs.Program.{Name, Constant}
-use Rattle.smv_instances.specs.Instances.{place_of, value_of, truth_value, atom}
+use Rattle.smv_instances.specs.Instances.{place_of, value_of, atom}
 use Rattle.smv_instances.specs.Declarations.{one_if}
 use Rattle.smv_instances.specs.Constants.{is_number, is_same, holds}
 use Rattle.smv_instances.proofs.NameLemmas.{any_map}

@@ -1,7 +1,7 @@
 -- The instances inside one, declaration by declaration.
 use Rattle.std.proofs.Common.{◌≡◌, refl, sym, ◌∙◌, ap, subst, ℕ, zero, suc, ◌+◌, ◌-◌, ◌<◌, ◌≤◌, arith, List, [], ◌∷◌, ◌++◌, length, flat_map, take, get_or, append_assoc, append-nil, length-append, Some, None, ◌⊎◌, inl, inr, ⊎_elim}
 use Rattle.std.specs.Prelude.{slice_get, filter}
-use Rattle.std.specs.List.{filter_map, cons_option}
+use Rattle.std.specs.List.{filter_map, cons_option, AllZip}
 use Rattle.std.proofs.lemmas.List.{take_more}
 use Rattle.std.proofs.lemmas.List.Elements.{filter_map-append}
 use Rattle.std.proofs.lemmas.Grind.{flat_map-append}
@@ -17,7 +17,6 @@ use Rattle.smv_instances.specs.Entries.{Entity, Entry, entries}
 use Rattle.smv_instances.specs.Instances.{Scope, module_of, depth, is_process, child, children, instances_from}
 use Rattle.smv_instances.specs.Declarations.{body, declaration, entries_of}
 use Rattle.smv_instances.specs.Counting.{IsCounts}
-use Rattle.smv_instances.specs.Tables.{Pairs}
 use Rattle.smv_instances.specs.Walk.{AreRows, IsRow, HasWalked, Visited, updated, inside}
 use Rattle.smv_instances.proofs.RowLemmas.{slice_get_left, slice_get_seam}
 use Rattle.smv_instances.proofs.WalkLemmas.{below_or, pairs_weaken, instances_inside, visited_more, updated_get, updated_at, updated_past, take-updated, length-updated, kept_less}
@@ -88,7 +87,7 @@ module _ (ms : Modules) (p : Program) where
 
   -- the body of s is silent, those inside it were walked over, and its children are noted
   pub visited_body : (old mid after new : Walk) (before added : List Scope) (s : Scope) (number : ℕ) (f : Row → Row) → ((k : ℕ) (row : Row) (t : Scope) → IsRow ms (before ++ (s ∷ added)) k row t → IsRow ms (before ++ (s ∷ added)) k (f row) t)
-      → ((row : Row) → Pairs (λ n c. slice_get (before ++ (s ∷ added)) n ≡ Some c) (f row).children.items (children p s))
+      → ((row : Row) → AllZip (λ n c. slice_get (before ++ (s ∷ added)) n ≡ Some c) (f row).children.items (children p s))
       → number ≡ length before → mid.rows.items ≡ old.rows.items → Silent (body p before s)
       → Visited ms p mid after (before ++ (s ∷ [])) added (length (before ++ (s ∷ [])))
       → new.rows.items ≡ updated after.rows.items number f → new.processes.items ≡ after.processes.items → new.counts ≡ after.counts
@@ -99,7 +98,7 @@ module _ (ms : Modules) (p : Program) where
       record {
         reaches = record {
           rows = subst (λ rs. AreRows ms rs (before ++ (s ∷ added))) (sym rows) (rows_updated after.rows.items (before ++ (s ∷ added)) number f keeps reached.rows);
-          processes = subst (λ ns. Pairs (λ n c. slice_get (before ++ (s ∷ added)) n ≡ Some c) ns (filter is_process (before ++ (s ∷ added)))) (sym processes) reached.processes;
+          processes = subst (λ ns. AllZip (λ n c. slice_get (before ++ (s ∷ added)) n ≡ Some c) ns (filter is_process (before ++ (s ∷ added)))) (sym processes) reached.processes;
           counts = subst (λ k. IsCounts k (entries_of (before ++ (s ∷ added)))) (sym counts) reached.counts;
         };
         linked = λ k row t from at_row at_t. link k row t from (ap (λ rs. slice_get rs k) (sym rows) ∙ at_row) at_t (below_or k (length before + 1));
@@ -112,13 +111,13 @@ module _ (ms : Modules) (p : Program) where
         silent = silent_then {a = body p before s} silent went.silent;
       }
     where
-      link : (k : ℕ) (row : Row) (t : Scope) → length before ≤ k → slice_get (updated after.rows.items number f) k ≡ Some row → slice_get (before ++ (s ∷ added)) k ≡ Some t → (k < length before + 1) ⊎ (length before + 1 ≤ k) → Pairs (λ n c. slice_get (before ++ (s ∷ added)) n ≡ Some c) row.children.items (children p t)
+      link : (k : ℕ) (row : Row) (t : Scope) → length before ≤ k → slice_get (updated after.rows.items number f) k ≡ Some row → slice_get (before ++ (s ∷ added)) k ≡ Some t → (k < length before + 1) ⊎ (length before + 1 ≤ k) → AllZip (λ n c. slice_get (before ++ (s ∷ added)) n ≡ Some c) row.children.items (children p t)
       link k row t from at_row at_t (inl lt) =
           let here : k ≡ length before = omega arith in
           let changed = updated_at after.rows.items number f row (ap (slice_get (updated after.rows.items number f)) (numbered ∙ sym here) ∙ at_row) in
           let same_scope : s ≡ t = same_Some _ _ (sym (slice_get_seam before added s) ∙ ap (slice_get (before ++ (s ∷ added))) (sym here) ∙ at_t) in
-          subst (λ u. Pairs (λ n c. slice_get (before ++ (s ∷ added)) n ≡ Some c) row.children.items (children p u)) same_scope
-          (subst (λ (r : Row). Pairs (λ n c. slice_get (before ++ (s ∷ added)) n ≡ Some c) r.children.items (children p s)) (sym changed.2) (noted changed.0))
+          subst (λ u. AllZip (λ n c. slice_get (before ++ (s ∷ added)) n ≡ Some c) row.children.items (children p u)) same_scope
+          (subst (λ (r : Row). AllZip (λ n c. slice_get (before ++ (s ∷ added)) n ≡ Some c) r.children.items (children p s)) (sym changed.2) (noted changed.0))
       link k row t from at_row at_t (inr ge) =
           let past : number < k = omega (arith, numbered) in
           let assoc : (before ++ (s ∷ [])) ++ added ≡ before ++ (s ∷ added) = append_assoc before (s ∷ []) added in
@@ -127,16 +126,16 @@ module _ (ms : Modules) (p : Program) where
 
   -- one more declared instance was walked over
   pub visited_child : (old mid new : Walk) (done : List Scope) (n : ℕ) (cs : List Scope) (c : Scope) (ks : List ℕ) (number : ℕ)
-      → Visited ms p old mid done (flat_map (instances_from p n) cs) (length done) → Pairs (λ k t. slice_get (done ++ flat_map (instances_from p n) cs) k ≡ Some t) ks cs
+      → Visited ms p old mid done (flat_map (instances_from p n) cs) (length done) → AllZip (λ k t. slice_get (done ++ flat_map (instances_from p n) cs) k ≡ Some t) ks cs
       → number ≡ length (done ++ flat_map (instances_from p n) cs) → Visited ms p mid new (done ++ flat_map (instances_from p n) cs) (instances_from p n c) (length (done ++ flat_map (instances_from p n) cs))
-      → Visited ms p old new done (flat_map (instances_from p n) (cs ++ (c ∷ []))) (length done) × Pairs (λ k t. slice_get (done ++ flat_map (instances_from p n) (cs ++ (c ∷ []))) k ≡ Some t) (ks ++ (number ∷ [])) (cs ++ (c ∷ []))
+      → Visited ms p old new done (flat_map (instances_from p n) (cs ++ (c ∷ []))) (length done) × AllZip (λ k t. slice_get (done ++ flat_map (instances_from p n) (cs ++ (c ∷ []))) k ≡ Some t) (ks ++ (number ∷ [])) (cs ++ (c ∷ []))
   visited_child old mid new done n cs c ks number first pairs numbered second =
       let before = flat_map (instances_from p n) cs in
       let all : flat_map (instances_from p n) (cs ++ (c ∷ [])) ≡ before ++ instances_from p n c = flat_push p n cs c in
       let assoc : done ++ (before ++ instances_from p n c) ≡ (done ++ before) ++ instances_from p n c = sym (append_assoc done before (instances_from p n c)) in
       let head : instances_from p n c ≡ c ∷ inside p n c = instances_inside ms p n c in (
         subst (λ xs. Visited ms p old new done xs (length done)) (sym all) (visited_more ms p old mid new done before (instances_from p n c) first second),
-        subst (λ xs. Pairs (λ k t. slice_get (done ++ xs) k ≡ Some t) (ks ++ (number ∷ [])) (cs ++ (c ∷ []))) (sym all)
+        subst (λ xs. AllZip (λ k t. slice_get (done ++ xs) k ≡ Some t) (ks ++ (number ∷ [])) (cs ++ (c ∷ []))) (sym all)
             (pairs_push (λ k t. slice_get (done ++ (before ++ instances_from p n c)) k ≡ Some t) ks cs number c
             (pairs_weaken (λ k t. slice_get (done ++ before) k ≡ Some t) (λ k t. slice_get (done ++ (before ++ instances_from p n c)) k ≡ Some t) (λ k t e. ap (λ xs. slice_get xs k) assoc ∙ slice_get_left (done ++ before) (instances_from p n c) k t e) ks cs pairs)
             (ap (λ xs. slice_get xs number) assoc ∙ ap (λ xs. slice_get ((done ++ before) ++ xs) number) head ∙ ap (slice_get ((done ++ before) ++ (c ∷ inside p n c))) numbered ∙ slice_get_seam (done ++ before) (inside p n c) c)),

@@ -1,7 +1,7 @@
 -- The instances that are kept, and those of the program.
 use Rattle.std.proofs.Common.{◌≡◌, refl, sym, ◌∙◌, ap, subst, ℕ, zero, suc, ◌+◌, ◌<◌, arith, List, [], ◌∷◌, ◌++◌, Bool, true, false, not, cond, ◌||◌, length, map, flat_map, take, get_or, Option, Some, None}
 use Rattle.std.specs.Prelude.{slice_get, option_map, IfSome, IfNone}
-use Rattle.std.specs.List.{list_any}
+use Rattle.std.specs.List.{list_any, AllZip}
 use Rattle.std.specs.Str.{bytes_eq}
 use Rattle.std.proofs.lemmas.List.{length-map}
 use Rattle.std.proofs.lemmas.List.Folds.{list_any-append}
@@ -21,7 +21,7 @@ use Rattle.smv_instances.specs.Entries.{Entity, Entry, entries, entity_in, modul
 use Rattle.smv_instances.specs.Instances.{Scope, module_of, child, children, declares_process, has_selector, instances, main_name, main_scope, place_of, symbols}
 use Rattle.smv_instances.specs.Declarations.{declaration, declarations, entries_of, instances_in, named_constant, refused_declarations}
 use Rattle.smv_instances.specs.Numbered.{IsActual, actuals_of, plain_entry, scope_at}
-use Rattle.smv_instances.specs.Tables.{Pairs, IsTable, IsFresh}
+use Rattle.smv_instances.specs.Tables.{IsTable, IsFresh}
 use Rattle.smv_instances.specs.Walk.{IsRow, IsStep}
 use Rattle.smv_instances.specs.Built.{AreInstances, IsEntryOf}
 use Rattle.smv_instances.proofs.NameLemmas.{any_map}
@@ -53,7 +53,7 @@ read_row p all i row s are read at = slice_get_read all.rows.items _ i row refl 
 pub is_row : (p : Program) (all : Instances) (i : ℕ) (row : Row) (s : Scope) → AreInstances p all → row ≡ get_or all.rows.items i row → scope_at p i ≡ Some s → IsRow all.modules (instances p) i row s
 is_row p all i row s are read at = are.are.each i row s (read_row p all i row s are read at) at
 
-pub children_of_row : (p : Program) (all : Instances) (i : ℕ) (row : Row) (s : Scope) → AreInstances p all → row ≡ get_or all.rows.items i row → scope_at p i ≡ Some s → Pairs (λ n c. slice_get (instances p) n ≡ Some c) row.children.items (children p s)
+pub children_of_row : (p : Program) (all : Instances) (i : ℕ) (row : Row) (s : Scope) → AreInstances p all → row ≡ get_or all.rows.items i row → scope_at p i ≡ Some s → AllZip (λ n c. slice_get (instances p) n ≡ Some c) row.children.items (children p s)
 children_of_row p all i row s are read at = are.linked i row s (omega arith) (read_row p all i row s are read at) at
 
 -- ---- names

@@ -9,7 +9,7 @@ use Rattle.smv_instances.specs.declared.rows.Row.{Row}
 use Rattle.smv_instances.specs.Program.{Name, Expr, Module}
 use Rattle.smv_instances.specs.Plain.{plain_expr}
 use Rattle.smv_instances.specs.Instances.{Scope, depth, is_process, process_of}
-use Rattle.smv_instances.specs.Tables.{Pairs}
+use Rattle.std.specs.List.{AllZip}
 use Rattle.smv_instances.specs.Walk.{Stands, IsStep, IsRow, AreRows}
 use Rattle.smv_instances.proofs.TableLemmas.{pairs_push, length_pairs}
 use Rattle.smv_instances.proofs.RowLemmas.{slice_get_left, slice_get_seam}
@@ -57,19 +57,19 @@ rows_push ms rows done row c are is = record {
 -- ---- the process of the instance
 
 pub record Entered (done : List Scope) (c : Scope) (processes : List ℕ) (k : ℕ) : Type 0 where
-  pub pairs : Pairs (λ n t. slice_get (done ++ (c ∷ [])) n ≡ Some t) processes (filter is_process (done ++ (c ∷ [])))
+  pub pairs : AllZip (λ n t. slice_get (done ++ (c ∷ [])) n ≡ Some t) processes (filter is_process (done ++ (c ∷ [])))
   pub place : slice_get (filter is_process (done ++ (c ∷ []))) k ≡ Some (process_of c)
 
 module _ (done : List Scope) (s : Scope) (name : Name) (actuals : List Expr) (m : Module) where
   abbrev Numbered : List Scope → ℕ → Scope → Type 0
   Numbered numbering n t = slice_get numbering n ≡ Some t
 
-  entered_process : (old new : List ℕ) (k : ℕ) → Pairs (Numbered done) old (filter is_process done) → k ≡ length old → new ≡ old ++ (length done ∷ []) → Entered done (Scope.Inside s name true actuals m) new k
+  entered_process : (old new : List ℕ) (k : ℕ) → AllZip (Numbered done) old (filter is_process done) → k ≡ length old → new ≡ old ++ (length done ∷ []) → Entered done (Scope.Inside s name true actuals m) new k
   entered_process old new k pairs at is =
       let c = Scope.Inside s name true actuals m in
       record {
-        pairs = subst (λ ns. Pairs (Numbered (done ++ (c ∷ []))) ns (filter is_process (done ++ (c ∷ [])))) (sym is)
-            (subst (λ xs. Pairs (Numbered (done ++ (c ∷ []))) (old ++ (length done ∷ [])) xs) (sym (filter-append is_process done (c ∷ [])))
+        pairs = subst (λ ns. AllZip (Numbered (done ++ (c ∷ []))) ns (filter is_process (done ++ (c ∷ [])))) (sym is)
+            (subst (λ xs. AllZip (Numbered (done ++ (c ∷ []))) (old ++ (length done ∷ [])) xs) (sym (filter-append is_process done (c ∷ [])))
             (pairs_push (Numbered (done ++ (c ∷ []))) old (filter is_process done) (length done) c
             (pairs_weaken (Numbered done) (Numbered (done ++ (c ∷ []))) (λ n t e. slice_get_left done (c ∷ []) n t e) old (filter is_process done) pairs)
             (slice_get_seam done [] c)));
@@ -78,18 +78,18 @@ module _ (done : List Scope) (s : Scope) (name : Name) (actuals : List Expr) (m 
             ∙ slice_get_seam (filter is_process done) [] c;
       }
 
-  entered_plain : (old new : List ℕ) (k : ℕ) → Pairs (Numbered done) old (filter is_process done) → slice_get (filter is_process done) k ≡ Some (process_of s) → new ≡ old → Entered done (Scope.Inside s name false actuals m) new k
+  entered_plain : (old new : List ℕ) (k : ℕ) → AllZip (Numbered done) old (filter is_process done) → slice_get (filter is_process done) k ≡ Some (process_of s) → new ≡ old → Entered done (Scope.Inside s name false actuals m) new k
   entered_plain old new k pairs at is =
       let c = Scope.Inside s name false actuals m in
       let same : filter is_process (done ++ (c ∷ [])) ≡ filter is_process done = filter-append is_process done (c ∷ []) ∙ append-nil (filter is_process done) in
       record {
-        pairs = subst (λ ns. Pairs (Numbered (done ++ (c ∷ []))) ns (filter is_process (done ++ (c ∷ [])))) (sym is)
-            (subst (λ xs. Pairs (Numbered (done ++ (c ∷ []))) old xs) (sym same)
+        pairs = subst (λ ns. AllZip (Numbered (done ++ (c ∷ []))) ns (filter is_process (done ++ (c ∷ [])))) (sym is)
+            (subst (λ xs. AllZip (Numbered (done ++ (c ∷ []))) old xs) (sym same)
             (pairs_weaken (Numbered done) (Numbered (done ++ (c ∷ []))) (λ n t e. slice_get_left done (c ∷ []) n t e) old (filter is_process done) pairs));
         place = ap (λ xs. slice_get xs k) same ∙ at;
       }
 
-  pub entered : (b : Bool) (old new : List ℕ) (k : ℕ) → Pairs (Numbered done) old (filter is_process done)
+  pub entered : (b : Bool) (old new : List ℕ) (k : ℕ) → AllZip (Numbered done) old (filter is_process done)
       → (b ≡ true → (k ≡ length old) × (new ≡ old ++ (length done ∷ []))) → (b ≡ false → (slice_get (filter is_process done) k ≡ Some (process_of s)) × (new ≡ old))
       → Entered done (Scope.Inside s name b actuals m) new k
   entered true old new k pairs process plain = entered_process old new k pairs (process refl).0 (process refl).1

@@ -1,7 +1,7 @@
 -- Rows of instances, and the instances that they are of.
 use Rattle.std.proofs.Common.{not, cond, ◌≡◌, refl, sym, ◌∙◌, ap, subst, ℕ, zero, suc, ◌+◌, ◌<◌, arith, List, [], ◌∷◌, ◌++◌, Bool, true, false, length, map, get_or, Option, Some, None}
 use Rattle.std.specs.Prelude.{slice_get, is_some, Contains}
-use Rattle.std.specs.List.{list_any, position_or_len}
+use Rattle.std.specs.List.{list_any, position_or_len, AllZip}
 use Rattle.std.specs.Str.{bytes_eq}
 use Rattle.std.proofs.lemmas.Option.{slice_get_read, slice_get_within, same_Some}
 use Rattle.std.proofs.lemmas.Slice.Eq.{bytes_eq-Decides}
@@ -16,7 +16,7 @@ use Rattle.smv_parser.specs.ProgramView as programs
 use Rattle.smv_instances.specs.Abstract as plain
 use Rattle.smv_instances.specs.Entries.{module_named}
 use Rattle.smv_instances.specs.Instances.{Scope, module_of, modules_to, place_of}
-use Rattle.smv_instances.specs.Tables.{Pairs, IsTable, AreModules}
+use Rattle.smv_instances.specs.Tables.{IsTable, AreModules}
 use Rattle.smv_instances.specs.Walk.{Stands, IsStep, IsRow, AreRows}
 use Rattle.smv_instances.proofs.NameLemmas.{place_map}
 use Rattle.smv_instances.proofs.TableLemmas.{bytes_eq_sym, is_some-module_named, length_pairs}
@@ -55,7 +55,7 @@ table_at ms place m t stands at =
     subst (λ u. IsTable u m) (same_Some _ _ (sym stands.at_place ∙ slice_get_read ms.tables.items _ place t refl (within_tables ms place m stands) at)) stands.is_table
 
 -- the module of a name stands at the name's place
-pub pairs_get : {A B : Type 0} (R : A → B → Type 0) (xs : List A) (ys : List B) (k : ℕ) (y : B) → Pairs R xs ys → slice_get ys k ≡ Some y → (x : A) × (slice_get xs k ≡ Some x) × R x y
+pub pairs_get : {A B : Type 0} (R : A → B → Type 0) (xs : List A) (ys : List B) (k : ℕ) (y : B) → AllZip R xs ys → slice_get ys k ≡ Some y → (x : A) × (slice_get xs k ≡ Some x) × R x y
 pairs_get R [] [] k y h e = absurd (let f : None ≡ Some y = e in cc)
 pairs_get R [] (z ∷ zs) k y h e = absurd h
 pairs_get R (w ∷ ws) [] k y h e = absurd h

@@ -1,7 +1,7 @@
 -- Tables of modules, and names that stand once.
 use Rattle.std.proofs.Common.{◌≡◌, refl, sym, ◌∙◌, ap, ℕ, zero, suc, ◌+◌, ◌<◌, ◌≤◌, arith, List, [], ◌∷◌, ◌++◌, Bool, true, false, cond, ◌||◌, length, map, take, get_or, Option, Some, length-append}
 use Rattle.std.specs.Prelude.{is_some, slice_get}
-use Rattle.std.specs.List.{list_any}
+use Rattle.std.specs.List.{list_any, AllZip}
 use Rattle.std.specs.Str.{bytes_eq}
 use Rattle.std.proofs.lemmas.Slice.Eq.{bytes_eq-Decides}
 use Rattle.std.proofs.lemmas.List.{get_or_append_left, take-append-le}
@@ -12,7 +12,7 @@ use Rattle.smv_instances.specs.Program.{Name, Program}
 use Rattle.smv_instances.specs.Entries.{module_named}
 use Rattle.smv_instances.specs.Entries.{Entry}
 use Rattle.smv_instances.specs.Declarations.{instances_in, is_instance, one_if}
-use Rattle.smv_instances.specs.Tables.{Pairs, IsFresh, IsFront, counts_from}
+use Rattle.smv_instances.specs.Tables.{IsFresh, IsFront, counts_from}
 
 -- ---- equal names
 
@@ -110,13 +110,13 @@ is_some-module_named (m ∷ ms) x =
 
 -- ---- pairs
 
-pub pairs_push : {A B : Type 0} (R : A → B → Type 0) (xs : List A) (ys : List B) (x : A) (y : B) → Pairs R xs ys → R x y → Pairs R (xs ++ (x ∷ [])) (ys ++ (y ∷ []))
+pub pairs_push : {A B : Type 0} (R : A → B → Type 0) (xs : List A) (ys : List B) (x : A) (y : B) → AllZip R xs ys → R x y → AllZip R (xs ++ (x ∷ [])) (ys ++ (y ∷ []))
 pairs_push R [] [] x y h r = (r, tt)
 pairs_push R [] (z ∷ zs) x y h r = absurd h
 pairs_push R (w ∷ ws) [] x y h r = absurd h
 pairs_push R (w ∷ ws) (z ∷ zs) x y h r = (h.0, pairs_push R ws zs x y h.1 r)
 
-pub length_pairs : {A B : Type 0} (R : A → B → Type 0) (xs : List A) (ys : List B) → Pairs R xs ys → length xs ≡ length ys
+pub length_pairs : {A B : Type 0} (R : A → B → Type 0) (xs : List A) (ys : List B) → AllZip R xs ys → length xs ≡ length ys
 length_pairs R [] [] h = refl
 length_pairs R [] (z ∷ zs) h = absurd h
 length_pairs R (w ∷ ws) [] h = absurd h

@@ -7,7 +7,7 @@ use Rattle.smv_instances.specs.declared.rows.Walk.{Walk}
 use Rattle.smv_instances.specs.Program.{Program}
 use Rattle.smv_instances.specs.Instances.{Scope, children, instances_from}
 use Rattle.smv_instances.specs.Declarations.{body}
-use Rattle.smv_instances.specs.Tables.{Pairs}
+use Rattle.std.specs.List.{AllZip}
 use Rattle.smv_instances.specs.Walk.{HasWalked, Visited, updated, inside}
 use Rattle.smv_instances.proofs.FirstSteps.{silent_append}
 use Rattle.smv_instances.proofs.RowLemmas.{slice_get_left}
@@ -43,7 +43,7 @@ front_get [] ys k x lt e = absurd (omega arith)
 front_get (y ∷ xs) ys zero x lt e = e
 front_get (y ∷ xs) ys (suc k) x lt e = front_get xs ys k x (omega arith) e
 
-pub pairs_weaken : {A B : Type 0} (R S : A → B → Type 0) → ((x : A) (y : B) → R x y → S x y) → (xs : List A) (ys : List B) → Pairs R xs ys → Pairs S xs ys
+pub pairs_weaken : {A B : Type 0} (R S : A → B → Type 0) → ((x : A) (y : B) → R x y → S x y) → (xs : List A) (ys : List B) → AllZip R xs ys → AllZip S xs ys
 pairs_weaken R S f [] [] h = tt
 pairs_weaken R S f [] (y ∷ ys) h = absurd h
 pairs_weaken R S f (x ∷ xs) [] h = absurd h

@@ -6,7 +6,8 @@ use Rattle.smv_instances.specs.Program.{Name, Module, Program}
 use Rattle.smv_instances.specs.Entries.{Entry, entries, entity_in}
 use Rattle.smv_instances.specs.Instances as tree
 use Rattle.smv_instances.specs.Declarations.{refused_declarations}
-use Rattle.smv_instances.specs.Tables.{Pairs, AreModules}
+use Rattle.smv_instances.specs.Tables.{AreModules}
+use Rattle.std.specs.List.{AllZip}
 use Rattle.smv_instances.specs.Walk.{AreRows, AreLinked}
 
 -- those of the program p, which is not refused for its declarations
@@ -14,7 +15,7 @@ pub record AreInstances (p : Program) (all : Instances) : Type 0 where
   pub known : AreModules all.modules p
   pub are : AreRows all.modules all.rows.items (tree.instances p)
   pub linked : AreLinked p all.rows.items (tree.instances p) 0
-  pub entered : Pairs (λ n c. slice_get (tree.instances p) n ≡ Some c) all.processes.items
+  pub entered : AllZip (λ n c. slice_get (tree.instances p) n ≡ Some c) all.processes.items
       (filter tree.is_process (tree.instances p))
   pub selected : all.selector ≡ tree.has_selector p
   pub named : all.symbols ≡ tree.symbols p

@@ -6,7 +6,7 @@ use Rattle.std.specs.Str.{bytes_eq}
 use Rattle.kripke_model.specs.declared.expressions.Value.{Value}
 use Rattle.kripke_model.specs.declared.expressions.Value.TheVariants.{Number, Symbol}
 use Rattle.kripke_model.specs.System.{Variable}
-use Rattle.kripke_model.specs.Evaluation.{distinct}
+use Rattle.kripke_model.specs.Evaluation.{distinct, truth_value}
 use Rattle.smv_instances.specs.Program.{Name, Expr, Constant, Plain, Module, Program}
 use Rattle.smv_instances.specs.Entries.{Entity, Entry, entries, module_named}
 
@@ -170,10 +170,6 @@ element_names (Plain.Array low high element) x
 element_names Plain.Boolean x = x ∷ []
 element_names (Plain.Enumeration constants) x = x ∷ []
 element_names (Plain.Range low high) x = x ∷ []
-
-abbrev pub truth_value : Bool → Value
-truth_value true = Number (pos 1)
-truth_value false = Number (pos 0)
 
 abbrev pub value_of : List Name → Constant → Value
 value_of names (Constant.Atom x) = Symbol (place_of names x)

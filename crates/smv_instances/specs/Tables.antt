@@ -1,6 +1,6 @@
 -- The modules of a program as the code keeps them.
 use Rattle.std.specs.Prelude.{◌≡◌, ℕ, ◌+◌, ◌<◌, true, false, List, [], ◌∷◌, map, length, take, slice_index_or}
-use Rattle.std.specs.List.{list_any}
+use Rattle.std.specs.List.{list_any, AllZip}
 use Rattle.std.specs.Str.{bytes_eq}
 use Rattle.smv_instances.specs.declared.modules.Table.{Table}
 use Rattle.smv_instances.specs.declared.modules.Modules.{Modules}
@@ -9,12 +9,6 @@ use Rattle.smv_instances.specs.Plain.{plain_module}
 use Rattle.smv_instances.specs.Entries.{Entry, entries}
 use Rattle.smv_instances.specs.Declarations.{is_instance, one_if}
 use Rattle.smv_instances.specs.Numbered.{plain_entry}
-
--- R ties the members of two lists, in order
-abbrev pub Pairs : {A B : Type 0} → (A → B → Type 0) → List A → List B → Type 0
-Pairs R [] [] = Unit {0}
-Pairs R (x ∷ xs) (y ∷ ys) = R x y × Pairs R xs ys
-Pairs R xs ys = ⊥
 
 -- no name stood before
 abbrev pub IsFresh : List Name → Type 0
@@ -42,7 +36,7 @@ pub record IsTable (t : Table) (m : Module) : Type 0 where
 
 -- the modules of the program, each name once
 pub record AreModules (m : Modules) (p : Program) : Type 0 where
-  pub each : Pairs IsTable m.tables.items p
+  pub each : AllZip IsTable m.tables.items p
   pub named : m.names ≡ map (λ q. q.name) p
 
 -- they are the modules of some program

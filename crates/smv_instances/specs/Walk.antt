@@ -14,7 +14,8 @@ use Rattle.smv_instances.specs.Instances.{Scope, module_of, depth, main_name, is
 use Rattle.smv_instances.specs.Entries.{Entry, module_named}
 use Rattle.smv_instances.specs.Declarations.{entries_of, declaration, body}
 use Rattle.smv_instances.specs.Counting.{IsCounts}
-use Rattle.smv_instances.specs.Tables.{Pairs, IsTable, AreModules}
+use Rattle.smv_instances.specs.Tables.{IsTable, AreModules}
+use Rattle.std.specs.List.{AllZip}
 use Rattle.smv_instances.specs.Answers.{Refused}
 
 -- the table at this place is that of the module
@@ -56,7 +57,7 @@ pub record AreRows (ms : Modules) (rows : List Row) (numbering : List Scope) : T
 -- the walk has come to these instances, and has counted the bodies of some of them
 pub record HasWalked (ms : Modules) (w : Walk) (done counted : List Scope) : Type 0 where
   pub rows : AreRows ms w.rows.items done
-  pub processes : Pairs (λ n c. slice_get done n ≡ Some c) w.processes.items
+  pub processes : AllZip (λ n c. slice_get done n ≡ Some c) w.processes.items
       (filter is_process done)
   pub counts : IsCounts w.counts (entries_of counted)
 
@@ -65,7 +66,7 @@ abbrev pub AreLinked : Program → List Row → List Scope → ℕ → Type 0
 AreLinked p rows numbering from
     = (k : ℕ) (row : Row) (s : Scope) → from ≤ k → slice_get rows k ≡ Some row
     → slice_get numbering k ≡ Some s
-    → Pairs (λ n c. slice_get numbering n ≡ Some c) row.children.items (children p s)
+    → AllZip (λ n c. slice_get numbering n ≡ Some c) row.children.items (children p s)
 
 -- the list with its member at k changed
 abbrev pub updated : {A : Type 0} → List A → ℕ → (A → A) → List A

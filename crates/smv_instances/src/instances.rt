@@ -1,6 +1,6 @@
 //! All instances of a program.
 
-ghost use Rattle.std.specs.Prelude.{◌≡◌, List, Some, None, IfOk, IfSome, IfNone, IsTrue, MatchResult, filter, length, map, slice_get, true, false};
+ghost use Rattle.std.specs.Prelude.{◌≡◌, List, Some, None, IfOk, IfSome, IfNone, IsTrue, MatchResult, filter, length, map, slice_get, false};
 ghost use Rattle.kripke_model.specs.Refusing.{Silent};
 ghost use Rattle.smv_instances.specs.Program.{Program as Plain};
 ghost use Rattle.smv_instances.specs.Plain.{plain_expr, plain_module, plain_program};
@@ -9,7 +9,8 @@ ghost use Rattle.smv_instances.specs.Instances.{Scope, children as children_of, 
 ghost use Rattle.smv_instances.specs.Declarations.{declarations, refused_declarations};
 ghost use Rattle.smv_instances.specs.Numbered.{IsActual, IsFound, IsProcess, actuals_of, plain_entry, scope_at};
 ghost use Rattle.smv_instances.specs.Answers.{Answers, Refused};
-ghost use Rattle.smv_instances.specs.Tables.{IsTable, Pairs};
+ghost use Rattle.smv_instances.specs.Tables.{IsTable};
+ghost use Rattle.std.specs.List.{AllZip};
 ghost use Rattle.smv_instances.specs.Walk.{AreLinked, AreRows, IsInside, IsStep, HasWalked, Starts};
 ghost use Rattle.smv_instances.specs.Built.{AreInstances, HasEntry, HasInstance, IsEntryOf};
 
@@ -140,7 +141,7 @@ impl<'p> Instances<'p> {
     pub fn children(&self, i: usize) -> &[usize]
         requires { HasInstance self.now i }
         ensures { (p : Plain) (s : Scope) → AreInstances p self.now → scope_at p i ≡ Some s
-            → Pairs (λ n c. scope_at p n ≡ Some c) result.now (children_of p s) }
+            → AllZip (λ n c. scope_at p n ≡ Some c) result.now (children_of p s) }
     {
         &self.rows[i].children
     }
@@ -172,7 +173,7 @@ impl<'p> Instances<'p> {
     /// The numbers of `main` and the process instances, in order.
     pub fn processes(&self) -> &[usize]
         ensures { (p : Plain) → AreInstances p self.now
-            → Pairs (λ n c. scope_at p n ≡ Some c) result.now (filter is_process (instances p)) }
+            → AllZip (λ n c. scope_at p n ≡ Some c) result.now (filter is_process (instances p)) }
     {
         &self.processes
     }

@@ -8,7 +8,8 @@ ghost use Rattle.smv_instances.specs.Instances.{Scope, child, children, instance
 ghost use Rattle.smv_instances.specs.Declarations.{body};
 ghost use Rattle.smv_instances.specs.Answers.{Refused};
 ghost use Rattle.smv_instances.specs.Numbered.{plain_entry};
-ghost use Rattle.smv_instances.specs.Tables.{AreModules, IsKnown, Pairs};
+ghost use Rattle.smv_instances.specs.Tables.{AreModules};
+ghost use Rattle.std.specs.List.{AllZip};
 ghost use Rattle.smv_instances.specs.Walk.{Begins, Enters, Goes, Leads, Visited, inside};
 
 use crate::body::check_body;
@@ -93,7 +94,7 @@ fn visit_inside<'p>(
         → Goes modules.now p walk.old done s number left
         → MatchResult result
         (λ cs. Visited modules.now p walk.old walk.new done (inside p left s) (length done)
-        × Pairs (λ n c. slice_get (done ++ inside p left s) n ≡ Some c) cs.items (children p s))
+        × AllZip (λ n c. slice_get (done ++ inside p left s) n ≡ Some c) cs.items (children p s))
         (Refused (First (body p) done (inside p left s))) }
 {
     let mut children = Vec::new(alloc);

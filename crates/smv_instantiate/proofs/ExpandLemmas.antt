@@ -18,7 +18,8 @@ use Rattle.smv_instances.specs.Built.{AreInstances}
 use Rattle.smv_instances.specs.Plain.{plain_expr}
 use Rattle.smv_instances.specs.Program.{Name, Expr, Exprs, Path, Program}
 use Rattle.smv_instances.specs.Program
-use Rattle.smv_instances.specs.Instances.{Scope, instances, process_name, processes, place_of, symbols, truth_value}
+use Rattle.smv_instances.specs.Instances.{Scope, instances, process_name, processes, place_of, symbols}
+use Rattle.kripke_model.specs.Evaluation.{truth_value}
 use Rattle.smv_names.specs.Denotes.{Target, Denotes, bare}
 use Rattle.smv_names.specs.Expands.{Expands, ExpandElements, ExpandArms, Selects}
 use Rattle.smv_instantiate.specs.declared.expansion.End.{End}

@@ -1,7 +1,7 @@
 -- A written program that is not refused has a flat model of the right form.
 use Rattle.std.proofs.Common.{◌≡◌, refl, sym, ◌∙◌, ap, subst, ℕ, ◌<◌, ◌≤◌, arith, List, [], ◌∷◌, ◌++◌, length, take, drop, Bool, true, false}
 use Rattle.std.specs.Prelude.{map, flat_map, All, pos}
-use Rattle.std.specs.List.{slice_index_or}
+use Rattle.std.specs.List.{slice_index_or, AllZip}
 use Rattle.std.proofs.lemmas.Bool.{false≢true}
 use Rattle.kripke_model.specs.declared.expressions.Value.TheVariants.{Number}
 use Rattle.kripke_model.specs.Refusing.{Silent}
@@ -16,7 +16,7 @@ use Rattle.smv_instances.specs.Entries.{entries}
 use Rattle.smv_instances.specs.Instances.{Scope, module_of, instances, all_entries, processes, process_name, has_selector, selector_variables, variables, variable_names, symbols, atoms_of, rising, place_of}
 use Rattle.smv_instances.specs.Declarations.{refused_declarations, PlacedEntry, one_if}
 use Rattle.smv_instantiate.specs.Written.{IsWrittenExpr, IsWrittenAssignment, IsWrittenSection, IsWritten}
-use Rattle.smv_instantiate.specs.Flattens.{Item, Placed, section_items, all_items, is_assignment, is_of, assignments, items_of, Matches, IsAssignment, IsCondition, Flattens}
+use Rattle.smv_instantiate.specs.Flattens.{Item, Placed, section_items, all_items, is_assignment, is_of, assignments, items_of, IsAssignment, IsCondition, Flattens}
 use Rattle.smv_instantiate.specs.Refuses.{Refuses, expression, item, count_of}
 use Rattle.smv_instantiate.proofs.Members.{Each, In, each_map, all_from, all_of_each, each_append, all_in, in_map_back, in_flat_back, in_filter_back, distinct_pairs}
 use Rattle.smv_instantiate.proofs.Silence.{silent_first, silent_second, EachAfter, silent_each, after_in, after_all}
@@ -83,7 +83,7 @@ module _ (p : Program) (silent : Silent (Refuses p)) (written : IsWritten p) whe
         by (s, Item.Assigns a) b i h = f s a b i h
         by (s, Item.States c) b i h = absurd h
 
-    stated : (Q : Term → Type 0) (k : Kind) (cs : List Condition) → ((x : Placed) (t : Term) → In x (all_items p) → Expands p x.0 (expression x.1) t → Q t) → Matches (IsCondition p) (items_of k p) cs → Each (λ c. Q c.expr) cs
+    stated : (Q : Term → Type 0) (k : Kind) (cs : List Condition) → ((x : Placed) (t : Term) → In x (all_items p) → Expands p x.0 (expression x.1) t → Q t) → AllZip (IsCondition p) (items_of k p) cs → Each (λ c. Q c.expr) cs
     stated Q k cs f h = matched (IsCondition p) (λ c. Q c.expr) (items_of k p) cs h (λ x c i j. by x c (in_filter_back (λ (y : Placed). is_of k y.1) (all_items p) i).0 j)
       where
         by : (x : Placed) (c : Condition) → In x (all_items p) → IsCondition p x c → Q c.expr

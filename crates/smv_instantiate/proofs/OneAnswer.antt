@@ -5,7 +5,8 @@ use Rattle.kripke_model.specs.System.{System, Assignment, Condition}
 use Rattle.smv_instances.specs.Program.{Expr, Kind, Program}
 use Rattle.smv_instances.specs.Instances.{Scope, module_of, instances}
 use Rattle.smv_instances.specs.Entries.{Entity, Entry, entries}
-use Rattle.smv_instantiate.specs.Flattens.{Item, Placed, Matches, IsAssignment, IsCondition, Flattens, assignments, items_of}
+use Rattle.smv_instantiate.specs.Flattens.{Item, Placed, IsAssignment, IsCondition, Flattens, assignments, items_of}
+use Rattle.std.specs.List.{AllZip}
 use Rattle.smv_instances.specs.Declarations.{nothing, entries_of, declaration_rows, refused_declarations}
 use Rattle.smv_instantiate.specs.Refuses.{Refuses, size_rows, count_rows, item_rows}
 use Rattle.smv_names.specs.Abbreviations.{Mention, mentions, index_mentions, path_rows, definition_rows}
@@ -79,7 +80,7 @@ refuses_one p = one_of_two (one_of_declarations p)
 
 -- ---- flat models
 
-pub matches_one : {A B : Type 0} {R : A → B → Type 0} → ((x : A) (y z : B) → R x y → R x z → y ≡ z) → (xs : List A) (ys zs : List B) → Matches R xs ys → Matches R xs zs → ys ≡ zs
+pub matches_one : {A B : Type 0} {R : A → B → Type 0} → ((x : A) (y z : B) → R x y → R x z → y ≡ z) → (xs : List A) (ys zs : List B) → AllZip R xs ys → AllZip R xs zs → ys ≡ zs
 matches_one one [] [] [] h k = refl
 matches_one one [] [] (z ∷ zs) h k = absurd k
 matches_one one [] (y ∷ ys) zs h k = absurd h
@@ -105,7 +106,7 @@ assignment_one p (s, Item.Assigns a) y z h k = same_assignment (h.0 ∙ sym k.0)
         ∙ ap (λ w. record z { line = w }) e5
 assignment_one p (s, Item.States c) y z h k = absurd h
 
-conditions_one : (p : Program) (xs : List Placed) (ys zs : List Condition) → Matches (IsCondition p) xs ys → Matches (IsCondition p) xs zs → ys ≡ zs
+conditions_one : (p : Program) (xs : List Placed) (ys zs : List Condition) → AllZip (IsCondition p) xs ys → AllZip (IsCondition p) xs zs → ys ≡ zs
 conditions_one p xs ys zs h k = matches_one (condition_one p) xs ys zs h k
 
 pub flattens_one : (p : Program) (m n : System) → Flattens p m → Flattens p n → m ≡ n

@@ -6,19 +6,20 @@ use Rattle.kripke_model.specs.System.{Assignment, Condition}
 use Rattle.smv_instances.specs.Instances.{Scope}
 use Rattle.smv_instances.specs.Program.{Assigned, Kind, Stated, Program}
 use Rattle.smv_instantiate.specs.declared.parts.FlatParts.{FlatParts}
-use Rattle.smv_instantiate.specs.Flattens.{Item, Placed, Matches, IsAssignment, IsCondition, is_assignment, is_of, same_kind}
+use Rattle.smv_instantiate.specs.Flattens.{Item, Placed, IsAssignment, IsCondition, is_assignment, is_of, same_kind}
+use Rattle.std.specs.List.{AllZip}
 use Rattle.smv_instantiate.specs.Parts.{AreParts}
 use Rattle.smv_instantiate.proofs.SizeLemmas.{matched_append}
 
 module _ {A B : Type 0} (R : A → B → Type 0) (f : A → Bool) (items : List A) (x : A) where
-  pub matched_more : (ys zs : List B) (y : B) → f x ≡ true → Matches R (filter f items) ys → R x y → zs ≡ ys ++ (y ∷ []) → Matches R (filter f (items ++ (x ∷ []))) zs
-  matched_more ys zs y is m r e = subst (λ us. Matches R (filter f (items ++ (x ∷ []))) us) (sym e)
-      (subst (λ us. Matches R us (ys ++ (y ∷ []))) (sym (filter-append f items (x ∷ []) ∙ ap (λ b. filter f items ++ cond b (x ∷ []) []) is))
+  pub matched_more : (ys zs : List B) (y : B) → f x ≡ true → AllZip R (filter f items) ys → R x y → zs ≡ ys ++ (y ∷ []) → AllZip R (filter f (items ++ (x ∷ []))) zs
+  matched_more ys zs y is m r e = subst (λ us. AllZip R (filter f (items ++ (x ∷ []))) us) (sym e)
+      (subst (λ us. AllZip R us (ys ++ (y ∷ []))) (sym (filter-append f items (x ∷ []) ∙ ap (λ b. filter f items ++ cond b (x ∷ []) []) is))
       (matched_append R (filter f items) (x ∷ []) ys (y ∷ []) m (r, tt)))
 
-  pub matched_still : (ys zs : List B) → f x ≡ false → Matches R (filter f items) ys → zs ≡ ys → Matches R (filter f (items ++ (x ∷ []))) zs
-  matched_still ys zs is m e = subst (λ us. Matches R (filter f (items ++ (x ∷ []))) us) (sym e)
-      (subst (λ us. Matches R us ys) (sym (filter-append f items (x ∷ []) ∙ ap (λ b. filter f items ++ cond b (x ∷ []) []) is ∙ append-nil (filter f items))) m)
+  pub matched_still : (ys zs : List B) → f x ≡ false → AllZip R (filter f items) ys → zs ≡ ys → AllZip R (filter f (items ++ (x ∷ []))) zs
+  matched_still ys zs is m e = subst (λ us. AllZip R (filter f (items ++ (x ∷ []))) us) (sym e)
+      (subst (λ us. AllZip R us ys) (sym (filter-append f items (x ∷ []) ∙ ap (λ b. filter f items ++ cond b (x ∷ []) []) is ∙ append-nil (filter f items))) m)
 
 module _ (p : Program) (items : List Placed) (s : Scope) (old new : FlatParts) (are : AreParts p items old) where
   pub assignment_added : (a : Assigned) (b : Assignment) → IsAssignment p (s, Item.Assigns a) b → new.assigns.items ≡ old.assigns.items ++ (b ∷ [])
@@ -33,17 +34,17 @@ module _ (p : Program) (items : List Placed) (s : Scope) (old new : FlatParts) (
     specs = still Kind.Spec old.specs.items new.specs.items are.specs e6;
   }
     where
-      still : (k : Kind) (ys zs : List Condition) → Matches (IsCondition p) (filter (λ i. is_of k i.1) items) ys → zs ≡ ys → Matches (IsCondition p) (filter (λ i. is_of k i.1) (items ++ ((s, Item.Assigns a) ∷ []))) zs
+      still : (k : Kind) (ys zs : List Condition) → AllZip (IsCondition p) (filter (λ i. is_of k i.1) items) ys → zs ≡ ys → AllZip (IsCondition p) (filter (λ i. is_of k i.1) (items ++ ((s, Item.Assigns a) ∷ []))) zs
       still k ys zs m e = matched_still (IsCondition p) (λ (i : Placed). is_of k i.1) items (s, Item.Assigns a) ys zs refl m e
 
   module _ (c : Stated) (d : Condition) (is : IsCondition p (s, Item.States c) d) where
-    apart : (k l : Kind) → c.kind ≡ l → same_kind k l ≡ false → (ys zs : List Condition) → Matches (IsCondition p) (filter (λ i. is_of k i.1) items) ys → zs ≡ ys → Matches (IsCondition p) (filter (λ i. is_of k i.1) (items ++ ((s, Item.States c) ∷ []))) zs
+    apart : (k l : Kind) → c.kind ≡ l → same_kind k l ≡ false → (ys zs : List Condition) → AllZip (IsCondition p) (filter (λ i. is_of k i.1) items) ys → zs ≡ ys → AllZip (IsCondition p) (filter (λ i. is_of k i.1) (items ++ ((s, Item.States c) ∷ []))) zs
     apart k l kind other ys zs m e = matched_still (IsCondition p) (λ (i : Placed). is_of k i.1) items (s, Item.States c) ys zs (ap (same_kind k) kind ∙ other) m e
 
-    together : (k : Kind) → c.kind ≡ k → same_kind k k ≡ true → (ys zs : List Condition) → Matches (IsCondition p) (filter (λ i. is_of k i.1) items) ys → zs ≡ ys ++ (d ∷ []) → Matches (IsCondition p) (filter (λ i. is_of k i.1) (items ++ ((s, Item.States c) ∷ []))) zs
+    together : (k : Kind) → c.kind ≡ k → same_kind k k ≡ true → (ys zs : List Condition) → AllZip (IsCondition p) (filter (λ i. is_of k i.1) items) ys → zs ≡ ys ++ (d ∷ []) → AllZip (IsCondition p) (filter (λ i. is_of k i.1) (items ++ ((s, Item.States c) ∷ []))) zs
     together k kind same ys zs m e = matched_more (IsCondition p) (λ (i : Placed). is_of k i.1) items (s, Item.States c) ys zs d (ap (same_kind k) kind ∙ same) m is e
 
-    assigns_kept : new.assigns.items ≡ old.assigns.items → Matches (IsAssignment p) (filter (λ i. is_assignment i.1) (items ++ ((s, Item.States c) ∷ []))) new.assigns.items
+    assigns_kept : new.assigns.items ≡ old.assigns.items → AllZip (IsAssignment p) (filter (λ i. is_assignment i.1) (items ++ ((s, Item.States c) ∷ []))) new.assigns.items
     assigns_kept e = matched_still (IsAssignment p) (λ (i : Placed). is_assignment i.1) items (s, Item.States c) old.assigns.items new.assigns.items refl are.assigns e
 
     pub init_added : c.kind ≡ Kind.Init → new.assigns.items ≡ old.assigns.items → new.inits.items ≡ old.inits.items ++ (d ∷ []) → new.invars.items ≡ old.invars.items

@@ -11,7 +11,7 @@ use Rattle.smv_instances.specs.Program.{Name, Program}
 use Rattle.smv_instances.specs.Entries.{Entry, entries}
 use Rattle.smv_instances.specs.Instances.{Scope, module_of, instances, is_process, process_name, process_of, processes, place_of, declares_process, rising}
 use Rattle.smv_instances.specs.Declarations.{refused_declarations}
-use Rattle.smv_instances.specs.Tables.{Pairs}
+use Rattle.std.specs.List.{AllZip}
 use Rattle.smv_instantiate.specs.Written.{IsWritten}
 use Rattle.smv_instantiate.proofs.Members.{In, Distinct, not_some, some_same, map-append}
 use Rattle.smv_instantiate.proofs.TypeSteps.{rising-push}
@@ -129,7 +129,7 @@ no_line xs s none found =
 
 -- ---- the names of the processes
 
-pub pairs_right : {A B : Type 0} (R : A → B → Type 0) (xs : List A) (ys : List B) (k : ℕ) (x : A) → Pairs R xs ys → slice_get xs k ≡ Some x → (y : B) × (slice_get ys k ≡ Some y) × R x y
+pub pairs_right : {A B : Type 0} (R : A → B → Type 0) (xs : List A) (ys : List B) (k : ℕ) (x : A) → AllZip R xs ys → slice_get xs k ≡ Some x → (y : B) × (slice_get ys k ≡ Some y) × R x y
 pairs_right R [] ys k x h at = absurd (not_some at)
 pairs_right R (z ∷ zs) [] k x h at = absurd h
 pairs_right R (z ∷ zs) (y ∷ ys) zero x h at = (y, refl, subst (λ w. R w y) (some_same at) h.0)

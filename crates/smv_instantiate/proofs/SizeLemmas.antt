@@ -13,7 +13,8 @@ use Rattle.smv_instances.specs.Program.{Expr, Kind, Assigned, Program}
 use Rattle.smv_instances.specs.Instances.{Scope}
 use Rattle.smv_instances.specs.Declarations.{one_if}
 use Rattle.smv_names.specs.Expands.{Expands}
-use Rattle.smv_instantiate.specs.Flattens.{Item, Placed, all_items, is_assignment, is_of, Matches, IsAssignment, IsCondition, Flattens}
+use Rattle.smv_instantiate.specs.Flattens.{Item, Placed, all_items, is_assignment, is_of, IsAssignment, IsCondition, Flattens}
+use Rattle.std.specs.List.{AllZip}
 use Rattle.smv_instantiate.specs.Refuses.{expression, item_line, count_of, AreTerms, size_rows, item}
 use Rattle.smv_instantiate.proofs.Members.{Each, In}
 use Rattle.smv_instantiate.proofs.Silence.{silent_first, silent_second, EachAfter, after_all}
@@ -22,19 +23,19 @@ use Rattle.smv_instantiate.proofs.CountLemmas.{total, sum_is_total, total-append
 -- ---- matched lists
 
 -- what is tied to a member has the property
-pub matched : {A B : Type 0} (R : A → B → Type 0) (Q : B → Type 0) (xs : List A) (ys : List B) → Matches R xs ys → ((x : A) (y : B) → In x xs → R x y → Q y) → Each Q ys
+pub matched : {A B : Type 0} (R : A → B → Type 0) (Q : B → Type 0) (xs : List A) (ys : List B) → AllZip R xs ys → ((x : A) (y : B) → In x xs → R x y → Q y) → Each Q ys
 matched R Q [] [] m f = tt
 matched R Q [] (y ∷ ys) m f = absurd m
 matched R Q (x ∷ xs) [] m f = absurd m
 matched R Q (x ∷ xs) (y ∷ ys) m f = (f x y In.first m.0, matched R Q xs ys m.1 (λ z w i r. f z w (In.later i) r))
 
-pub matched_length : {A B : Type 0} (R : A → B → Type 0) (xs : List A) (ys : List B) → Matches R xs ys → length ys ≡ length xs
+pub matched_length : {A B : Type 0} (R : A → B → Type 0) (xs : List A) (ys : List B) → AllZip R xs ys → length ys ≡ length xs
 matched_length R [] [] m = refl
 matched_length R [] (y ∷ ys) m = absurd m
 matched_length R (x ∷ xs) [] m = absurd m
 matched_length R (x ∷ xs) (y ∷ ys) m = ap suc (matched_length R xs ys m.1)
 
-pub matched_append : {A B : Type 0} (R : A → B → Type 0) (xs us : List A) (ys vs : List B) → Matches R xs ys → Matches R us vs → Matches R (xs ++ us) (ys ++ vs)
+pub matched_append : {A B : Type 0} (R : A → B → Type 0) (xs us : List A) (ys vs : List B) → AllZip R xs ys → AllZip R us vs → AllZip R (xs ++ us) (ys ++ vs)
 matched_append R [] us [] vs m n = n
 matched_append R [] us (y ∷ ys) vs m n = absurd m
 matched_append R (x ∷ xs) us [] vs m n = absurd m
@@ -59,12 +60,12 @@ add_term p i items t rest count x h e = record { terms = t ∷ h.terms; are = (x
 -- the terms of the items, from what the flat model has of each kind
 abbrev TermsOf : Program → List Placed → Type 0
 TermsOf p items = (bs : List Assignment) (is vs ts fs ss : List Condition)
-    → Matches (IsAssignment p) (filter (λ i. is_assignment i.1) items) bs
-    → Matches (IsCondition p) (filter (λ i. is_of Kind.Init i.1) items) is
-    → Matches (IsCondition p) (filter (λ i. is_of Kind.Invar i.1) items) vs
-    → Matches (IsCondition p) (filter (λ i. is_of Kind.Trans i.1) items) ts
-    → Matches (IsCondition p) (filter (λ i. is_of Kind.Fairness i.1) items) fs
-    → Matches (IsCondition p) (filter (λ i. is_of Kind.Spec i.1) items) ss
+    → AllZip (IsAssignment p) (filter (λ i. is_assignment i.1) items) bs
+    → AllZip (IsCondition p) (filter (λ i. is_of Kind.Init i.1) items) is
+    → AllZip (IsCondition p) (filter (λ i. is_of Kind.Invar i.1) items) vs
+    → AllZip (IsCondition p) (filter (λ i. is_of Kind.Trans i.1) items) ts
+    → AllZip (IsCondition p) (filter (λ i. is_of Kind.Fairness i.1) items) fs
+    → AllZip (IsCondition p) (filter (λ i. is_of Kind.Spec i.1) items) ss
     → HasTerms p items (total right_nodes bs + (total condition_nodes is + (total condition_nodes vs + (total condition_nodes ts + (total condition_nodes fs + (total condition_nodes ss))))))
 
 terms_of_none : (p : Program) → TermsOf p []

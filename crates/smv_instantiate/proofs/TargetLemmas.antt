@@ -11,7 +11,8 @@ use Rattle.kripke_model.specs.Flat.{IsSound, AreSound, AreSoundArms}
 use Rattle.smv_instances.specs.Program.{Name, Expr, Exprs, Path, Plain, Module, Formal, Program}
 use Rattle.smv_instances.specs.Program
 use Rattle.smv_instances.specs.Entries.{Entity, Entry, entries, module_named}
-use Rattle.smv_instances.specs.Instances.{Scope, module_of, child, children, instances_from, instances, main_name, spelled, indexed, between, element_names, entry_variables, variables_from, variable_names, selector_variables, main_scope, greatest_depth, processes, process_name, is_process, place_of, symbols, is_symbol, truth_value}
+use Rattle.smv_instances.specs.Instances.{Scope, module_of, child, children, instances_from, instances, main_name, spelled, indexed, between, element_names, entry_variables, variables_from, variable_names, selector_variables, main_scope, greatest_depth, processes, process_name, is_process, place_of, symbols, is_symbol}
+use Rattle.kripke_model.specs.Evaluation.{truth_value}
 use Rattle.smv_names.specs.Denotes.{Bracket, Target, Meaning, bare, passed, actual_of, meaning_of, meaning, Finds, Denotes}
 use Rattle.smv_names.specs.Expands.{is_array, element_name, Expands, ExpandElements, ExpandArms, Selects, IsIndex, AreIndexes}
 use Rattle.smv_instantiate.specs.Written.{IsWrittenExpr, AreWritten, AreWrittenArms, IsWrittenModule, IsWritten}

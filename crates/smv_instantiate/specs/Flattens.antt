@@ -1,5 +1,6 @@
 -- The flat model of a program.
 use Rattle.std.specs.Prelude.{◌≡◌, Bool, true, false, List, [], ◌∷◌, map, flat_map, filter}
+use Rattle.std.specs.List.{AllZip}
 use Rattle.kripke_model.specs.System.{System, Assignment, Condition}
 use Rattle.smv_instances.specs.Program.{Assigned, Kind, Stated, Section, Program}
 use Rattle.smv_instances.specs.Instances.{Scope, module_of, instances, processes, process_name, place_of, symbols, variables, has_selector}
@@ -51,12 +52,6 @@ items_of k p = filter (λ i. is_of k i.1) (all_items p)
 
 -- ---- the flat model
 
--- R ties the members of two lists, in order
-abbrev pub Matches : {A B : Type 0} → (A → B → Type 0) → List A → List B → Type 0
-Matches R [] [] = Unit {0}
-Matches R (x ∷ xs) (y ∷ ys) = R x y × Matches R xs ys
-Matches R xs ys = ⊥
-
 abbrev pub IsAssignment : Program → Placed → Assignment → Type 0
 IsAssignment p (s, Item.Assigns a) b =
     (b.part ≡ a.part) × Selects p s a.left b.var
@@ -73,9 +68,9 @@ pub record Flattens (p : Program) (m : System) : Type 0 where
   pub vars : m.vars ≡ variables p
   pub selector : m.selector ≡ has_selector p
   pub processes : m.processes ≡ processes p
-  pub assigns : Matches (IsAssignment p) (assignments p) m.assigns
-  pub inits : Matches (IsCondition p) (items_of Kind.Init p) m.inits
-  pub invars : Matches (IsCondition p) (items_of Kind.Invar p) m.invars
-  pub trans : Matches (IsCondition p) (items_of Kind.Trans p) m.trans
-  pub constraints : Matches (IsCondition p) (items_of Kind.Fairness p) m.constraints
-  pub specs : Matches (IsCondition p) (items_of Kind.Spec p) m.specs
+  pub assigns : AllZip (IsAssignment p) (assignments p) m.assigns
+  pub inits : AllZip (IsCondition p) (items_of Kind.Init p) m.inits
+  pub invars : AllZip (IsCondition p) (items_of Kind.Invar p) m.invars
+  pub trans : AllZip (IsCondition p) (items_of Kind.Trans p) m.trans
+  pub constraints : AllZip (IsCondition p) (items_of Kind.Fairness p) m.constraints
+  pub specs : AllZip (IsCondition p) (items_of Kind.Spec p) m.specs

@@ -8,7 +8,8 @@ use Rattle.kripke_model.specs.declared.refusals.FlatRefusal.{FlatRefusal}
 use Rattle.smv_instances.specs.Program.{Expr, Program, Kind, Stated}
 use Rattle.smv_instances.specs.Instances.{Scope, all_entries}
 use Rattle.smv_names.specs.Expands.{Expands, Selects}
-use Rattle.smv_instantiate.specs.Flattens.{Item, Placed, all_items, is_of, Matches}
+use Rattle.smv_instantiate.specs.Flattens.{Item, Placed, all_items, is_of}
+use Rattle.std.specs.List.{AllZip}
 use Rattle.smv_instances.specs.Declarations.{Refusal, one_if, nothing, above, refused_declarations}
 use Rattle.smv_names.specs.Abbreviations.{mentions, index_mentions, path_rows, definition}
 
@@ -27,7 +28,7 @@ count_of k items = sum_by (λ i. one_if (is_of k i.1)) items
 
 -- the terms of the items
 abbrev pub AreTerms : Program → List Placed → List Term → Type 0
-AreTerms p items ts = Matches (λ i t. Expands p i.0 (expression i.1) t) items ts
+AreTerms p items ts = AllZip (λ i t. Expands p i.0 (expression i.1) t) items ts
 
 abbrev pub size_rows : Program → List Placed → Placed → Refusal
 size_rows p upto (s, i) =

@@ -1,13 +1,14 @@
 //! Expressions with their paths replaced by what they denote. A name of a program may stand for another expression;
 //! the recursion goes along those expressions only where it makes a node of the term, and so no deeper than the term is.
 
-ghost use Rattle.std.specs.Prelude.{◌≡◌, ℕ, ◌≤◌, IfOk, Some, None, length, reverse};
+ghost use Rattle.std.specs.Prelude.{◌≡◌, ℕ, ◌≤◌, IfOk, Some, None, reverse};
 ghost use Rattle.kripke_model.specs.Reading.{arms_in, term_of, terms_in};
 ghost use Rattle.kripke_model.specs.Size.{nesting};
 ghost use Rattle.kripke_model.specs.Term.{Arms as FlatArms, Term, Terms};
 ghost use Rattle.smv_instances.specs.Program.{Expr as Body, Path as Written, Program as Plain};
 ghost use Rattle.smv_instances.specs.Plain.{plain_expr, plain_type};
-ghost use Rattle.smv_instances.specs.Instances.{Scope, all_entries, truth_value as value_of_truth};
+ghost use Rattle.smv_instances.specs.Instances.{Scope};
+ghost use Rattle.kripke_model.specs.Evaluation.{truth_value as value_of_truth};
 ghost use Rattle.smv_instances.specs.Numbered.{scope_at};
 ghost use Rattle.smv_names.specs.Expands.{Expands, element_name, is_array as is_array_type};
 ghost use Rattle.smv_names.specs.Paths.{ArePaths};

@@ -1,13 +1,12 @@
 //! The processes, and the variable that names the one that makes the step.
 
 ghost use Rattle.std.specs.Prelude.{◌≡◌, ◌≤◌, ◌^◌, [], pos, IfOk, IsTrue, List, Some, filter, length, map, slice_get, take};
-ghost use Rattle.std.specs.List.{cons_option};
+ghost use Rattle.std.specs.List.{cons_option, AllZip};
 ghost use Rattle.kripke_model.specs.declared.expressions.Value.TheVariants.{Number};
 ghost use Rattle.smv_instances.specs.declared.modules.Modules.{Modules as Tables};
 ghost use Rattle.smv_instances.specs.Program.{Program as Plain};
 ghost use Rattle.smv_instances.specs.Instances.{Scope, declares_process, instances, is_process, process_entries, process_name as name_of, processes as processes_in, rising, selector_name, selector_variables};
 ghost use Rattle.smv_instances.specs.Numbered.{plain_entity, plain_entry};
-ghost use Rattle.smv_instances.specs.Tables.{Pairs};
 ghost use Rattle.smv_instances.specs.Walk.{AreRows, IsInside};
 
 use crate::fronts::spelled_name;
@@ -40,9 +39,9 @@ pub fn processes_of(
     numbers: &[usize],
 ) -> Result<Vec<Name>, AllocError>
     requires { (ms : Tables) × (done : List Scope) × AreRows ms rows.now done
-        × Pairs (λ n c. slice_get done n ≡ Some c) numbers.now (filter is_process done) }
+        × AllZip (λ n c. slice_get done n ≡ Some c) numbers.now (filter is_process done) }
     ensures { (ms : Tables) (done : List Scope) → AreRows ms rows.now done
-        → Pairs (λ n c. slice_get done n ≡ Some c) numbers.now (filter is_process done)
+        → AllZip (λ n c. slice_get done n ≡ Some c) numbers.now (filter is_process done)
         → IfOk result (λ names. names.items ≡ map name_of (filter is_process done)) }
 {
     let mut names = Vec::new(alloc);

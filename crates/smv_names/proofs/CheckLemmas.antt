@@ -14,7 +14,7 @@ use Rattle.kripke_model.specs.declared.refusals.FlatRefusal.{FlatRefusal}
 use Rattle.smv_instances.specs.Program.{Expr, Path, Program}
 use Rattle.smv_instances.specs.Instances.{Scope}
 use Rattle.smv_instances.specs.Answers.{Refused}
-use Rattle.smv_instances.specs.Tables.{Pairs}
+use Rattle.std.specs.List.{AllZip}
 use Rattle.smv_instances.specs.Declarations.{one_if}
 use Rattle.smv_instances.proofs.ListSteps.{take_whole}
 use Rattle.smv_names.specs.declared.targets.Bracket.{Bracket as HeldBracket}
@@ -113,21 +113,21 @@ some_bad p (c ∷ bs) (suc k) b at never = inr (some_bad p bs k b at never)
 pub bracket_at : (p : Program) (held : List HeldBracket) (bs : List Bracket) (k : ℕ) (h : HeldBracket) → AreBrackets p held bs → k < length held → h ≡ get_or held k h → (b : Bracket) × (slice_get (reverse bs) k ≡ Some b) × IsBracket p h b
 bracket_at p held bs k h are below at = go held (reverse bs) k are below at
   where
-    go : (xs : List HeldBracket) (ys : List Bracket) (k : ℕ) → Pairs (IsBracket p) xs ys → k < length xs → h ≡ get_or xs k h → (b : Bracket) × (slice_get ys k ≡ Some b) × IsBracket p h b
+    go : (xs : List HeldBracket) (ys : List Bracket) (k : ℕ) → AllZip (IsBracket p) xs ys → k < length xs → h ≡ get_or xs k h → (b : Bracket) × (slice_get ys k ≡ Some b) × IsBracket p h b
     go [] ys k pairs less is = absurd (omega arith)
     go (x ∷ xs) [] k pairs less is = absurd pairs
     go (x ∷ xs) (y ∷ ys) zero pairs less is = (y, refl, subst (λ z. IsBracket p z y) (sym is) pairs.0)
     go (x ∷ xs) (y ∷ ys) (suc k) pairs less is = go xs ys k pairs.1 (omega arith) is
 
-pub value_more : (p : Program) (bs : List Bracket) (k : ℕ) (b : Bracket) (ns : List ℕ) (n : ℕ) → slice_get bs k ≡ Some b → IsIndex p b n → Pairs (IsIndex p) (take k bs) ns → Pairs (IsIndex p) (take (k + 1) bs) (ns ++ (n ∷ []))
-value_more p bs k b ns n at holds pairs = subst (λ z. Pairs (IsIndex p) z (ns ++ (n ∷ []))) (sym (take_at bs k b at)) (pairs_append (IsIndex p) (take k bs) (b ∷ []) ns (n ∷ []) pairs (holds, tt))
+pub value_more : (p : Program) (bs : List Bracket) (k : ℕ) (b : Bracket) (ns : List ℕ) (n : ℕ) → slice_get bs k ≡ Some b → IsIndex p b n → AllZip (IsIndex p) (take k bs) ns → AllZip (IsIndex p) (take (k + 1) bs) (ns ++ (n ∷ []))
+value_more p bs k b ns n at holds pairs = subst (λ z. AllZip (IsIndex p) z (ns ++ (n ∷ []))) (sym (take_at bs k b at)) (pairs_append (IsIndex p) (take k bs) (b ∷ []) ns (n ∷ []) pairs (holds, tt))
   where
     take_at : (xs : List Bracket) (k : ℕ) (x : Bracket) → slice_get xs k ≡ Some x → take (k + 1) xs ≡ take k xs ++ (x ∷ [])
     take_at xs k x is = take_more xs k x (slice_get_within xs k x is) ∙ ap (λ z. take k xs ++ (z ∷ [])) (get_or_from_slice_get xs k x x is)
 
-pub values_all_there : (p : Program) (held : List HeldBracket) (bs : List Bracket) (k : ℕ) (ns : List ℕ) → AreBrackets p held bs → length held ≤ k → Pairs (IsIndex p) (take k (reverse bs)) ns → AreIndexes p bs (reverse ns)
+pub values_all_there : (p : Program) (held : List HeldBracket) (bs : List Bracket) (k : ℕ) (ns : List ℕ) → AreBrackets p held bs → length held ≤ k → AllZip (IsIndex p) (take k (reverse bs)) ns → AreIndexes p bs (reverse ns)
 values_all_there p held bs k ns are full pairs =
-    values_indexes p bs ns (subst (λ z. Pairs (IsIndex p) z ns) (take_whole (reverse bs) k (omega (arith, pairs_lengths (IsBracket p) held (reverse bs) are))) pairs)
+    values_indexes p bs ns (subst (λ z. AllZip (IsIndex p) z ns) (take_whole (reverse bs) k (omega (arith, pairs_lengths (IsBracket p) held (reverse bs) are))) pairs)
 
 pub bad_there : (p : Program) (bs : List Bracket) (k : ℕ) (b : Bracket) → slice_get (reverse bs) k ≡ Some b → IsIndexValue p b None → SomeBad p bs
 bad_there p bs k b at never = bad_reverse p bs (some_bad p (reverse bs) k b at never)
@@ -138,8 +138,8 @@ pub last_brackets : (p : Program) (held : List HeldBracket) (bs : List Bracket) 
 last_brackets p held bs count are =
     let sizes : length held ≡ length bs = pairs_lengths (IsBracket p) held (reverse bs) are ∙ length-reverse bs in
     let n = length held - count in
-    subst (λ z. Pairs (IsBracket p) z (reverse (take count bs))) (sym (take_whole (drop n held) (length held - n) (omega (arith, length-drop n held))))
-    (subst (λ z. Pairs (IsBracket p) (drop n held) z) (ap (λ k. drop (k - count) (reverse bs)) sizes ∙ drop_reverse bs count) (pairs_drop (IsBracket p) n held (reverse bs) are))
+    subst (λ z. AllZip (IsBracket p) z (reverse (take count bs))) (sym (take_whole (drop n held) (length held - n) (omega (arith, length-drop n held))))
+    (subst (λ z. AllZip (IsBracket p) (drop n held) z) (ap (λ k. drop (k - count) (reverse bs)) sizes ∙ drop_reverse bs count) (pairs_drop (IsBracket p) n held (reverse bs) are))
 
 pub indexes_all : (p : Program) (bs : List Bracket) (ns : List ℕ) → AreIndexes p bs ns → AllIndexes p bs
 indexes_all p [] ns h = tt

@@ -3,28 +3,28 @@ use Rattle.std.proofs.Common.{◌≡◌, refl, sym, ◌∙◌, ap, subst, ℕ, z
 use Rattle.std.proofs.lemmas.List.{reverse-append, reverse-reverse, length-reverse, take-append-drop}
 use Rattle.std.proofs.Common.{length-drop}
 use Rattle.smv_instances.specs.Program.{Program}
-use Rattle.smv_instances.specs.Tables.{Pairs}
+use Rattle.std.specs.List.{AllZip}
 use Rattle.smv_names.specs.Denotes.{Bracket}
 use Rattle.smv_names.specs.Expands.{IsIndex, AreIndexes}
 use Rattle.smv_names.specs.Known.{AllIndexes, SomeBad}
 
 -- ---- pairs
 
-pub pairs_append : {A B : Type 0} (R : A → B → Type 0) (xs us : List A) (ys vs : List B) → Pairs R xs ys → Pairs R us vs → Pairs R (xs ++ us) (ys ++ vs)
+pub pairs_append : {A B : Type 0} (R : A → B → Type 0) (xs us : List A) (ys vs : List B) → AllZip R xs ys → AllZip R us vs → AllZip R (xs ++ us) (ys ++ vs)
 pairs_append R [] us [] vs h k = k
 pairs_append R [] us (y ∷ ys) vs h k = absurd h
 pairs_append R (x ∷ xs) us [] vs h k = absurd h
 pairs_append R (x ∷ xs) us (y ∷ ys) vs h k = (h.0, pairs_append R xs us ys vs h.1 k)
 
-pub pairs_reverse : {A B : Type 0} (R : A → B → Type 0) (xs : List A) (ys : List B) → Pairs R xs ys → Pairs R (reverse xs) (reverse ys)
+pub pairs_reverse : {A B : Type 0} (R : A → B → Type 0) (xs : List A) (ys : List B) → AllZip R xs ys → AllZip R (reverse xs) (reverse ys)
 pairs_reverse R [] [] h = h
 pairs_reverse R [] (y ∷ ys) h = absurd h
 pairs_reverse R (x ∷ xs) [] h = absurd h
 pairs_reverse R (x ∷ xs) (y ∷ ys) h =
-    subst (λ z. Pairs R z (reverse (y ∷ ys))) (sym (reverse-append (x ∷ []) xs)) (subst (λ z. Pairs R (reverse xs ++ (x ∷ [])) z) (sym (reverse-append (y ∷ []) ys))
+    subst (λ z. AllZip R z (reverse (y ∷ ys))) (sym (reverse-append (x ∷ []) xs)) (subst (λ z. AllZip R (reverse xs ++ (x ∷ [])) z) (sym (reverse-append (y ∷ []) ys))
     (pairs_append R (reverse xs) (x ∷ []) (reverse ys) (y ∷ []) (pairs_reverse R xs ys h.1) (h.0, tt)))
 
-pub pairs_drop : {A B : Type 0} (R : A → B → Type 0) (n : ℕ) (xs : List A) (ys : List B) → Pairs R xs ys → Pairs R (drop n xs) (drop n ys)
+pub pairs_drop : {A B : Type 0} (R : A → B → Type 0) (n : ℕ) (xs : List A) (ys : List B) → AllZip R xs ys → AllZip R (drop n xs) (drop n ys)
 pairs_drop R zero [] [] h = h
 pairs_drop R zero [] (y ∷ ys) h = absurd h
 pairs_drop R zero (x ∷ xs) [] h = absurd h
@@ -34,7 +34,7 @@ pairs_drop R (suc n) [] (y ∷ ys) h = absurd h
 pairs_drop R (suc n) (x ∷ xs) [] h = absurd h
 pairs_drop R (suc n) (x ∷ xs) (y ∷ ys) h = pairs_drop R n xs ys h.1
 
-pub pairs_lengths : {A B : Type 0} (R : A → B → Type 0) (xs : List A) (ys : List B) → Pairs R xs ys → length xs ≡ length ys
+pub pairs_lengths : {A B : Type 0} (R : A → B → Type 0) (xs : List A) (ys : List B) → AllZip R xs ys → length xs ≡ length ys
 pairs_lengths R [] [] h = refl
 pairs_lengths R [] (y ∷ ys) h = absurd h
 pairs_lengths R (x ∷ xs) [] h = absurd h
@@ -56,7 +56,7 @@ drop_reverse xs k =
 
 -- ---- values of indexes
 
-pub indexes_of_pairs : (p : Program) (bs : List Bracket) (ns : List ℕ) → Pairs (IsIndex p) bs ns → AreIndexes p bs ns
+pub indexes_of_pairs : (p : Program) (bs : List Bracket) (ns : List ℕ) → AllZip (IsIndex p) bs ns → AreIndexes p bs ns
 indexes_of_pairs p [] [] h = AreIndexes.last_index
 indexes_of_pairs p [] (n ∷ ns) h = absurd h
 indexes_of_pairs p (b ∷ bs) [] h = absurd h
@@ -66,7 +66,7 @@ all_append : (p : Program) (bs cs : List Bracket) → AllIndexes p bs → AllInd
 all_append p [] cs h k = k
 all_append p (b ∷ bs) cs h k = (h.0, all_append p bs cs h.1 k)
 
-pub all_of_pairs : (p : Program) (bs : List Bracket) (ns : List ℕ) → Pairs (IsIndex p) bs ns → AllIndexes p bs
+pub all_of_pairs : (p : Program) (bs : List Bracket) (ns : List ℕ) → AllZip (IsIndex p) bs ns → AllIndexes p bs
 all_of_pairs p [] [] h = tt
 all_of_pairs p [] (n ∷ ns) h = absurd h
 all_of_pairs p (b ∷ bs) [] h = absurd h
@@ -92,8 +92,8 @@ bad_not_indexes p (b ∷ bs) ns (inl h) (AreIndexes.index {n = n} i is) = h n i
 bad_not_indexes p (b ∷ bs) ns (inr h) (AreIndexes.index {ns = ms} i is) = bad_not_indexes p bs ms h is
 
 -- the values of the first k indexes of those in reverse
-pub values_all : (p : Program) (bs : List Bracket) (ns : List ℕ) → Pairs (IsIndex p) (reverse bs) ns → AllIndexes p bs
+pub values_all : (p : Program) (bs : List Bracket) (ns : List ℕ) → AllZip (IsIndex p) (reverse bs) ns → AllIndexes p bs
 values_all p bs ns h = subst (λ z. AllIndexes p z) (reverse-reverse bs) (all_of_pairs p (reverse (reverse bs)) (reverse ns) (pairs_reverse (IsIndex p) (reverse bs) ns h))
 
-pub values_indexes : (p : Program) (bs : List Bracket) (ns : List ℕ) → Pairs (IsIndex p) (reverse bs) ns → AreIndexes p bs (reverse ns)
+pub values_indexes : (p : Program) (bs : List Bracket) (ns : List ℕ) → AllZip (IsIndex p) (reverse bs) ns → AreIndexes p bs (reverse ns)
 values_indexes p bs ns h = subst (λ z. AreIndexes p z (reverse ns)) (reverse-reverse bs) (indexes_of_pairs p (reverse (reverse bs)) (reverse ns) (pairs_reverse (IsIndex p) (reverse bs) ns h))

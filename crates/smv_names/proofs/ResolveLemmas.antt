@@ -7,7 +7,7 @@ use Rattle.smv_instances.specs.Program.{Name, Expr, Path, Plain, Program}
 use Rattle.smv_instances.specs.Plain.{plain_expr, plain_type}
 use Rattle.smv_instances.specs.Instances.{Scope, is_symbol, place_of, symbols}
 use Rattle.smv_instances.specs.Numbered.{scope_at}
-use Rattle.smv_instances.specs.Tables.{Pairs}
+use Rattle.std.specs.List.{AllZip}
 use Rattle.smv_instances.proofs.TableLemmas.{pairs_push}
 use Rattle.smv_names.specs.declared.targets.Bracket.{Bracket as HeldBracket}
 use Rattle.smv_names.specs.declared.targets.Target.{Target as Held}
@@ -132,7 +132,7 @@ is_array_held (held.Constant place) = false
 
 brackets_push : (p : Program) (held : List HeldBracket) (indexes : List Bracket) (b : HeldBracket) (c : Bracket) → AreBrackets p held indexes → IsBracket p b c → AreBrackets p (held ++ (b ∷ [])) (c ∷ indexes)
 brackets_push p held indexes b c are is =
-    subst (λ cs. Pairs (IsBracket p) (held ++ (b ∷ [])) cs) (sym (reverse_onto indexes c [])) (pairs_push (IsBracket p) held (reverse indexes) b c are is)
+    subst (λ cs. AllZip (IsBracket p) (held ++ (b ∷ [])) cs) (sym (reverse_onto indexes c [])) (pairs_push (IsBracket p) held (reverse indexes) b c are is)
 
 pub element_found : (p : Program) (states : States) (s : Scope) (q : Path) (e : Expr) (front new : Held) (b : HeldBracket) → IsElement front b new → scope_at p b.scope ≡ Some s → plain_expr b.index.now ≡ e → Resolves p s q (Some front)
     → Walking p states s (Path.Index q e) (outcome.Found new)

@@ -6,10 +6,10 @@ use Rattle.kripke_model.specs.declared.expressions.BinOp.{BinOp}
 use Rattle.kripke_model.specs.declared.expressions.PathOp.{PathOp}
 use Rattle.kripke_model.specs.Term.{Term, Terms, Arms}
 use Rattle.kripke_model.specs.System.{System}
-use Rattle.kripke_model.specs.Evaluation.{eval}
+use Rattle.kripke_model.specs.Evaluation.{eval, truth_value}
 use Rattle.smv_instances.specs.Program.{Name, Expr, Exprs, Path, Plain, Program}
 use Rattle.smv_instances.specs.Program
-use Rattle.smv_instances.specs.Instances.{Scope, process_name, processes, spelled, indexed, place_of, symbols, truth_value, variable_names}
+use Rattle.smv_instances.specs.Instances.{Scope, process_name, processes, spelled, indexed, place_of, symbols, variable_names}
 use Rattle.smv_names.specs.Denotes.{Bracket, Target, Denotes}
 
 abbrev pub is_array : Plain → Bool

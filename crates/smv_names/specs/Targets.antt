@@ -7,7 +7,7 @@ use Rattle.smv_instances.specs.Program.{Name, Expr, Path, Program}
 use Rattle.smv_instances.specs.Plain.{plain_expr, plain_type}
 use Rattle.smv_instances.specs.Instances.{Scope, place_of, symbols}
 use Rattle.smv_instances.specs.Numbered.{scope_at}
-use Rattle.smv_instances.specs.Tables.{Pairs}
+use Rattle.std.specs.List.{AllZip}
 use Rattle.smv_names.specs.Denotes.{Bracket, Target, Denotes, Finds}
 use Rattle.smv_names.specs.Abbreviations.{Abbreviation, text_of}
 use Rattle.smv_names.specs.Nodes.{abbreviation_at}
@@ -22,7 +22,7 @@ pub record IsBracket (p : Program) (held : Held) (b : Bracket) : Type 0 where
 
 -- the code has the first index first
 abbrev pub AreBrackets : Program → List Held → List Bracket → Type 0
-AreBrackets p held indexes = Pairs (IsBracket p) held (reverse indexes)
+AreBrackets p held indexes = AllZip (IsBracket p) held (reverse indexes)
 
 -- the abbreviation with this number stands for the expression e, which is read in s
 pub record IsText (p : Program) (node : ℕ) (s : Scope) (e : Expr) : Type 0 where

@@ -9,7 +9,7 @@ use Rattle.kripke_model.specs.System.{System, Condition}
 use Rattle.kripke_model.specs.Term.{Term}
 use Rattle.kripke_model.specs.WellFormed.{ctl_of}
 use Rattle.kripke_model.specs.declared.expressions.Formula.{Formula}
-use Rattle.fair_fixpoint.specs.Walks.{HasModelLeaves}
+use Rattle.kripke_model.specs.Leaves.{HasModelLeaves}
 use Rattle.proof_form.specs.Shape.{spec_formula}
 use Rattle.smv_session.specs.Relation.{IsTried}
 use Rattle.smv_session.specs.declared.trials.Tried.{Tried}

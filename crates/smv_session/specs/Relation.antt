@@ -10,7 +10,7 @@ use Rattle.kripke_model.specs.WellFormed.{ctl_of}
 use Rattle.kripke_model.specs.Signs.{node_count}
 use Rattle.fair_rules.specs.FreePart.{constraint_nodes}
 use Rattle.fair_fixpoint.specs.SatSets.{pin_bound}
-use Rattle.fair_fixpoint.specs.Walks.{HasModelLeaves}
+use Rattle.kripke_model.specs.Leaves.{HasModelLeaves}
 use Rattle.proof_form.specs.Shape.{spec_formula}
 use Rattle.region_sets.specs.Sets.{Sets}
 use Rattle.path_laws.specs.StateCount.{state_count}

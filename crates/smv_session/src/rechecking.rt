@@ -1,5 +1,5 @@
 // The blocks of a proof file are tested, one after another over one relation.
-ghost use Rattle.std.specs.Prelude.{◌≡◌, ◌≤◌, ◌<◌, ◌++◌, ◌∷◌, [], ◌^◌, ℕ, IfOk, List, OnOk};
+ghost use Rattle.std.specs.Prelude.{◌≤◌, ◌<◌, ◌++◌, ◌∷◌, [], ◌^◌, ℕ, IfOk, List, OnOk};
 ghost use Rattle.bit_encode.specs.Code.{state_bits};
 ghost use Rattle.kripke_model.specs.Faults.{IsFaultless};
 ghost use Rattle.kripke_model.specs.System.{System};

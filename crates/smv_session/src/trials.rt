@@ -2,7 +2,7 @@
 // asked for.
 ghost use Rattle.std.specs.Prelude.{◌≡◌, [], ℕ, false, IfOk, OnOk, Some, true};
 ghost use Rattle.kripke_model.specs.WellFormed.{ctl_of};
-ghost use Rattle.fair_fixpoint.specs.Walks.{HasModelLeaves};
+ghost use Rattle.kripke_model.specs.Leaves.{HasModelLeaves};
 ghost use Rattle.proof_form.specs.Shape.{spec_formula};
 ghost use Rattle.proof_text.specs.Written.{own_order};
 ghost use Rattle.region_sets.specs.Sets.{IsCall};

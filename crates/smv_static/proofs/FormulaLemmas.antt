@@ -5,7 +5,8 @@ use Rattle.kripke_model.specs.declared.expressions.BinOp.{BinOp}
 use Rattle.kripke_model.specs.Term.{Term, has_path_operator}
 use Rattle.kripke_model.specs.Ctl.{Ctl, formula_of}
 use Rattle.kripke_model.specs.Static.{is_formula, is_connective}
-use Rattle.smv_static.specs.Leaves.{is_leaf, negation, connected, joined, joined_leaf}
+use Rattle.smv_static.specs.Leaves.{negation, connected, joined, joined_leaf}
+use Rattle.kripke_model.specs.Leaves.{is_leaf}
 
 differ : false ≡ true → ⊥
 differ e = subst (λ (b : Bool). cond b ⊥ (Unit {0})) e tt

@@ -4,10 +4,6 @@ use Rattle.kripke_model.specs.declared.expressions.BinOp.{BinOp}
 use Rattle.kripke_model.specs.Term.{Term}
 use Rattle.kripke_model.specs.Ctl.{Ctl}
 
-abbrev pub is_leaf : Ctl → Bool
-is_leaf (Ctl.Leaf e) = true
-is_leaf f = false
-
 abbrev pub negation : Ctl → Ctl
 negation (Ctl.Leaf e) = Ctl.Leaf (Term.Not e)
 negation f = Ctl.Not f

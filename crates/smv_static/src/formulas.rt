@@ -5,7 +5,8 @@ ghost use Rattle.kripke_model.specs.Ctl.{Ctl, formula_of as formula_of_term};
 ghost use Rattle.kripke_model.specs.Reading.{term_of};
 ghost use Rattle.kripke_model.specs.Static.{is_connective, is_formula};
 ghost use Rattle.kripke_model.specs.WellFormed.{ctl_of};
-ghost use Rattle.smv_static.specs.Leaves.{is_leaf, negation, connected, joined, joined_leaf};
+ghost use Rattle.smv_static.specs.Leaves.{negation, connected, joined, joined_leaf};
+ghost use Rattle.kripke_model.specs.Leaves.{is_leaf};
 
 use crate::operators::connects;
 use kripke_model::expressions::{BinOp, Expr, Formula};

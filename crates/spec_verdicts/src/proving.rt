@@ -9,7 +9,7 @@ ghost use Rattle.region_sets.specs.Sets.{IsCall};
 ghost use Rattle.path_laws.specs.StateCount.{state_count};
 ghost use Rattle.fair_fixpoint.specs.Runs.{run_slots};
 ghost use Rattle.fair_fixpoint.specs.SatSets.{IsDecided as IsParted, IsWholeRun, pin_bound};
-ghost use Rattle.fair_fixpoint.specs.Walks.{HasModelLeaves};
+ghost use Rattle.kripke_model.specs.Leaves.{HasModelLeaves};
 ghost use Rattle.proof_form.specs.Meaning.{ProvesSpec};
 ghost use Rattle.proof_form.specs.Pinned.{over_states, proof_result_slots, spec_nodes};
 ghost use Rattle.proof_form.specs.Shape.{spec_formula};

@@ -6,14 +6,13 @@ use Rattle.kripke_model.specs.System.{System}
 use Rattle.path_laws.specs.StateSet.{StateSet}
 use Rattle.region_sets.specs.declared.pins.Pin.{Pin}
 use Rattle.region_sets.specs.declared.pins.SetRefusal.{SetRefusal}
-use Rattle.region_sets.specs.Sets.{Sets, Adds, In, IsLive, Stands, has_state, region}
+use Rattle.region_sets.specs.Sets.{Sets, Adds, In, IsLive, Stands, has_state, region, option_slots}
 use Rattle.region_sets.specs.Ranks.{AreLive, regions, slots}
 use Rattle.region_sets.proofs.Slots.{is_one_of-first}
 use Rattle.region_sets.proofs.Changes.{adds_after, stays}
 use Rattle.region_sets.proofs.Calls.{In-at, regions-same, stays_over_release}
 use Rattle.fair_fixpoint.specs.Fairness.{AreConstraints}
 use Rattle.strong_fair.specs.declared.certificate.Reason.{Reason}
-use Rattle.strong_fair.specs.Pinned.{option_slots}
 use Rattle.strong_fair.specs.Shows.{Left, InRow, RowShows, Behind}
 use Rattle.strong_fair.specs.Strong.{Pair}
 use Rattle.strong_fair.specs.Tests.{IsLeft}

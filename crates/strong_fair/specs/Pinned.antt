@@ -1,8 +1,7 @@
 -- Certificates whose sets are pins: what they stand for, and which slots they hold.
-use Rattle.std.specs.Prelude.{ℕ, List, [], ◌∷◌, map, Option, Some, None, Result, Ok, Err}
+use Rattle.std.specs.Prelude.{ℕ, List, map}
 use Rattle.path_laws.specs.StateSet.{StateSet}
 use Rattle.region_sets.specs.declared.pins.Pin.{Pin}
-use Rattle.region_sets.specs.declared.pins.SetRefusal.{SetRefusal}
 use Rattle.region_sets.specs.Sets.{Sets, region}
 use Rattle.region_sets.specs.Ranks.{slots}
 use Rattle.strong_fair.specs.declared.certificate.Row as declared
@@ -22,9 +21,3 @@ over_rows now rows = map (map_row (region now)) (map seen_row rows)
 
 abbrev pub row_slots : List declared.Row → List ℕ
 row_slots rows = slots (row_sets (map seen_row rows))
-
--- the slots of the pin in an answer that may have one
-abbrev pub option_slots : Result (Option Pin) SetRefusal → List ℕ
-option_slots (Ok (Some pin)) = pin.slot ∷ []
-option_slots (Ok None) = []
-option_slots (Err refusal) = []

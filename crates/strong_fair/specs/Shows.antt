@@ -1,6 +1,6 @@
 -- What a certificate has to show, row by row over the states that are left.
-use Rattle.std.specs.Prelude.{ℕ, zero, suc, ◌-◌, ◌≤◌, List, [], ◌∷◌, Option, None, IsSomeAnd, slice_get}
-use Rattle.kripke_model.specs.System.{System, State, constraint_count}
+use Rattle.std.specs.Prelude.{ℕ, zero, suc, ◌-◌, List, [], ◌∷◌, Option, None, IsSomeAnd, slice_get}
+use Rattle.kripke_model.specs.System.{System, State, IsConstraint}
 use Rattle.kripke_model.specs.Step.{IsState, Step}
 use Rattle.path_laws.specs.StateSet.{StateSet, ◌∈◌}
 use Rattle.fair_fixpoint.specs.Fairness.{IsTrueAt}
@@ -14,10 +14,6 @@ use Rattle.strong_fair.specs.Form.{Row, Certificate}
 -- the states that are left
 abbrev pub Left : Type 1
 Left = State → Type 0
-
--- numbers of constraints, from 1; where none is declared there is one
-abbrev pub IsConstraint : System → ℕ → Type 0
-IsConstraint m k = (1 ≤ k) × (k ≤ constraint_count m)
 
 -- pair i, counted from 1
 abbrev pub pair_at : List Pair → ℕ → Option Pair

@@ -1,5 +1,5 @@
 -- Places in a text that is read line by line.
-use Rattle.std.specs.Prelude.{◌≡◌, ℕ, ◌+◌, ◌<◌, List, [], ◌∷◌, length, Option, Some, None}
+use Rattle.std.specs.Prelude.{◌≡◌, ℕ, ◌+◌, ◌<◌, List, [], ◌∷◌, ◌++◌, length, Option, Some, None}
 use Rattle.text_lines.specs.WholeLines.{lines_in, rest_in}
 
 -- the bytes that are left, and the number of the line that begins there
@@ -28,3 +28,7 @@ Takes old (Some text) new = IsTaken old text new
 abbrev pub Shows : Place → Option (List ℕ) → Type 0
 Shows place None = lines_in place.left ≡ []
 Shows place (Some text) = (others : List (List ℕ)) × (lines_in place.left ≡ text ∷ others)
+
+-- the next line begins with these bytes
+abbrev pub BeginsWith : List ℕ → Place → Type 0
+BeginsWith front place = (rest : List ℕ) × Shows place (Some (front ++ rest))

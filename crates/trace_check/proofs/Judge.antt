@@ -8,7 +8,7 @@ use Rattle.kripke_model.specs.Ctl.{Ctl, formula_of}
 use Rattle.kripke_model.specs.Falsifies.{is_traceable}
 use Rattle.kripke_model.specs.Path.{Lasso, at, member_count, IsPath}
 use Rattle.kripke_model.specs.Step.{IsState, Initial}
-use Rattle.kripke_model.specs.System.{System, Condition, constraint_count}
+use Rattle.kripke_model.specs.System.{System, Condition, constraint_count, IsConstraint}
 use Rattle.kripke_model.specs.Truth.{IsFair, FreeSat, Initials}
 use Rattle.kripke_model.proofs.Lassos.{all_states}
 use Rattle.kripke_model.proofs.WalkLemmas.{fair_walk}
@@ -16,7 +16,7 @@ use Rattle.fair_rules.proofs.Falsified.{falsified_false}
 use Rattle.proof_form.specs.Shape.{spec_formula}
 use Rattle.trace_files.specs.Trace.{Trace, members}
 use Rattle.trace_files.specs.Spells.{IsTrace}
-use Rattle.trace_check.specs.Judged.{IsConstraint, IsWitness, StepsAt, IsFirstBreak, MeetsOnCycle, IsFirstUnmet, IsJudged, JudgedAs, WitnessOf, IsFalse}
+use Rattle.trace_check.specs.Judged.{IsWitness, StepsAt, IsFirstBreak, MeetsOnCycle, IsFirstUnmet, IsJudged, JudgedAs, WitnessOf, IsFalse}
 use Rattle.trace_check.specs.declared.judged.Judged.{Judged}
 use Rattle.trace_check.specs.declared.judged.Judged.TheVariants as found
 use Rattle.trace_check.proofs.Members.{count_members, member_at, some_map, spec_there}

@@ -2,10 +2,10 @@
 use Rattle.std.proofs.Common.{ℕ, ◌<◌, [], subst, arith}
 use Rattle.kripke_model.specs.Path.{Lasso, member_count, IsPath}
 use Rattle.kripke_model.specs.Step.{IsState}
-use Rattle.kripke_model.specs.System.{System}
+use Rattle.kripke_model.specs.System.{System, IsConstraint}
 use Rattle.kripke_model.specs.Truth.{IsFair}
 use Rattle.trace_files.specs.Spells.{IsLasso}
-use Rattle.trace_check.specs.Judged.{IsConstraint, MeetsOnCycle, StepsAt}
+use Rattle.trace_check.specs.Judged.{MeetsOnCycle, StepsAt}
 use Rattle.trace_check.proofs.Judge.{all_met}
 use Rattle.trace_check.proofs.Members.{count_members, member_at}
 

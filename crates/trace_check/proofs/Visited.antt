@@ -4,14 +4,14 @@ use Rattle.std.specs.Prelude.{All, Any}
 use Rattle.std.proofs.lemmas.List.{length-map, get_or-map}
 use Rattle.kripke_model.specs.Path.{Lasso}
 use Rattle.kripke_model.specs.Step.{IsState}
-use Rattle.kripke_model.specs.System.{System, constraint_count}
+use Rattle.kripke_model.specs.System.{System, constraint_count, IsConstraint}
 use Rattle.path_laws.specs.StateSet.{StateSet, ◌∈◌}
 use Rattle.region_sets.specs.declared.pins.Pin.{Pin}
 use Rattle.region_sets.specs.Sets.{Sets, In, has_state}
 use Rattle.region_sets.specs.Ranks.{regions}
 use Rattle.fair_rules.specs.SetLists.{nothing, set_at}
 use Rattle.fair_fixpoint.specs.Fairness.{AreConstraints, IsTrueAt}
-use Rattle.trace_check.specs.Judged.{IsConstraint, IsFirstUnmet, MeetsOnCycle}
+use Rattle.trace_check.specs.Judged.{IsFirstUnmet, MeetsOnCycle}
 
 module _ (m : System) (now : Sets) (visits : List Pin) (sets : AreConstraints m (regions now visits)) where
   pub size : length visits ≡ constraint_count m

@@ -1,10 +1,10 @@
 -- What is found of a trace: the first thing that is wrong with it, or nothing.
-use Rattle.std.specs.Prelude.{ℕ, ◌+◌, ◌-◌, ◌<◌, ◌≤◌, Any, IsTrue, IsSomeAnd}
+use Rattle.std.specs.Prelude.{ℕ, ◌+◌, ◌-◌, ◌<◌, Any, IsTrue, IsSomeAnd}
 use Rattle.kripke_model.specs.Ctl.{Ctl}
 use Rattle.kripke_model.specs.Falsifies.{is_traceable, FalsifiesFrom}
 use Rattle.kripke_model.specs.Path.{Lasso, at, member_count, IsPath}
 use Rattle.kripke_model.specs.Step.{Step, Initial}
-use Rattle.kripke_model.specs.System.{System, constraint_count}
+use Rattle.kripke_model.specs.System.{System, IsConstraint}
 use Rattle.kripke_model.specs.Truth.{IsFair, Initials}
 use Rattle.fair_fixpoint.specs.Fairness.{IsTrueAt}
 use Rattle.proof_form.specs.Shape.{spec_formula}
@@ -31,10 +31,6 @@ pub record IsFirstBreak (m : System) (p : Lasso) (n : ℕ) : Type 0 where
   pub within : n < member_count p
   pub breaks : StepsAt m p n → ⊥
   pub before : (k : ℕ) → k < n → StepsAt m p k
-
--- numbers of constraints, from 1; where none is declared there is one, true everywhere
-abbrev pub IsConstraint : System → ℕ → Type 0
-IsConstraint m k = (1 ≤ k) × (k ≤ constraint_count m)
 
 -- constraint k is true over all paths at some state of the cycle
 abbrev pub MeetsOnCycle : System → Lasso → ℕ → Type 0

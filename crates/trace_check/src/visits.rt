@@ -4,7 +4,8 @@ ghost use Rattle.std.specs.Prelude.{◌≡◌, ◌+◌, ◌<◌, ◌↔◌, ℕ,
 ghost use Rattle.kripke_model.specs.Step.{IsState};
 ghost use Rattle.region_sets.specs.Ranks.{AreLive, regions, slots};
 ghost use Rattle.fair_fixpoint.specs.Fairness.{AreConstraints};
-ghost use Rattle.trace_check.specs.Judged.{IsConstraint, IsFirstUnmet, MeetsOnCycle};
+ghost use Rattle.trace_check.specs.Judged.{IsFirstUnmet, MeetsOnCycle};
+ghost use Rattle.kripke_model.specs.System.{IsConstraint};
 
 use fair_fixpoint::constraints::Constraints;
 use fair_fixpoint::fair_lassos::is_visited;

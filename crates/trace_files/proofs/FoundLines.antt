@@ -12,14 +12,14 @@ use Rattle.kripke_model.specs.declared.expressions.Value.TheVariants.{Number}
 use Rattle.kripke_model.specs.Flat.{IsFlat}
 use Rattle.kripke_model.specs.Shown.{value_text}
 use Rattle.kripke_model.specs.Step.{IsState}
-use Rattle.kripke_model.specs.System.{System, State, Variable}
-use Rattle.text_lines.specs.Cursor.{Place, Takes, Shows}
+use Rattle.kripke_model.specs.System.{System, State, Variable, variable_name}
+use Rattle.text_lines.specs.Cursor.{Place, Takes, Shows, BeginsWith}
 use Rattle.text_lines.specs.Formats.{FitMany}
 use Rattle.text_lines.specs.declared.faults.Fault.TheVariants.{Stops, End}
 use Rattle.text_lines.proofs.FoundLine as line
 use Rattle.text_lines.proofs.Lists.{same_first}
-use Rattle.trace_files.specs.Parts.{Finds, BeginsWith, lone, FitsValue}
-use Rattle.trace_files.specs.Trace.{variable_name, value_line}
+use Rattle.trace_files.specs.Parts.{Finds, lone, FitsValue}
+use Rattle.trace_files.specs.Trace.{value_line}
 use Rattle.trace_files.specs.Spells.{IsSpec}
 use Rattle.trace_files.proofs.Known.{text, Good, many_state}
 

@@ -5,7 +5,7 @@ use Rattle.kripke_model.specs.Flat.{IsFlat}
 use Rattle.kripke_model.specs.Step.{IsState}
 use Rattle.kripke_model.specs.System.{System, State}
 use Rattle.kripke_model.specs.declared.expressions.Value.{Value}
-use Rattle.text_lines.specs.Cursor.{Place, Shows}
+use Rattle.text_lines.specs.Cursor.{Place, Shows, BeginsWith}
 use Rattle.text_lines.specs.Formats.{FitEach, FitMany, lines_of_many}
 use Rattle.text_lines.specs.WholeLines.{lines_in}
 use Rattle.text_lines.specs.declared.faults.Fault.{Fault}
@@ -17,7 +17,7 @@ use Rattle.text_lines.proofs.FoundMany.{many_begun, many_more, many_fault}
 use Rattle.text_lines.proofs.FoundRenamed.{renamed_ok, renamed_fault}
 use Rattle.text_lines.proofs.FoundUntil.{AreTold, each_begun, each_more, part_fault, closing_fault, end_fault, whole_found}
 use Rattle.text_lines.proofs.Lists.{same_first}
-use Rattle.trace_files.specs.Parts.{Finds, BeginsWith, FitsValue, one_value, later_state, FitsLoop, one_loop, FitsEnding, ending_lines}
+use Rattle.trace_files.specs.Parts.{Finds, FitsValue, one_value, later_state, FitsLoop, one_loop, FitsEnding, ending_lines}
 use Rattle.trace_files.specs.Trace.{value_lines, state_line, state_lines, loop_line}
 use Rattle.trace_files.proofs.FoundLines.{some_value, some_values}
 use Rattle.trace_files.proofs.Known.{text, AnyHead, head_lines, FitsValues, values_of, to_state, of_state, headed_same, headed_fits, headed_back, headed_fits_back, value_known, state_known}

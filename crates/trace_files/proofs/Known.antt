@@ -8,7 +8,7 @@ use Rattle.kripke_model.specs.declared.expressions.Value.{Value}
 use Rattle.kripke_model.specs.declared.expressions.Value.TheVariants.{Number}
 use Rattle.kripke_model.specs.Shown.{value_text}
 use Rattle.kripke_model.specs.Step.{IsState}
-use Rattle.kripke_model.specs.System.{System, State, Variable, value_in}
+use Rattle.kripke_model.specs.System.{System, State, Variable, value_in, variable_name}
 use Rattle.text_lines.specs.Formats.{AreKnown, FitBoth, FitMany, lines_of_both, lines_of_many}
 use Rattle.text_lines.proofs.InTurn.{both_known}
 use Rattle.text_lines.proofs.Many.{many_known}
@@ -16,7 +16,7 @@ use Rattle.text_lines.proofs.OneLine.{line_known}
 use Rattle.text_lines.proofs.Renamed.{renamed_known}
 use Rattle.trace_files.specs.Parts.{lone, FitsValue, one_value}
 use Rattle.trace_files.specs.Spells.{IsSpec}
-use Rattle.trace_files.specs.Trace.{variable_name, value_line, value_lines, spec_line, state_line, state_lines}
+use Rattle.trace_files.specs.Trace.{value_line, value_lines, spec_line, state_line, state_lines}
 use Rattle.trace_files.proofs.Texts.{PrintsApart}
 
 -- a line is its text, and each is good

@@ -5,11 +5,11 @@ use Rattle.std.proofs.lemmas.List.Elements.{All-nil, All-cons, All-head, All-tai
 use Rattle.std.specs.Fmt.{digits, digits_onto, digit_glyph}
 use Rattle.kripke_model.specs.Flat.{main_name}
 use Rattle.kripke_model.specs.Step.{IsState}
-use Rattle.kripke_model.specs.System.{System, State, Variable, value_in}
+use Rattle.kripke_model.specs.System.{System, State, Variable, value_in, variable_name}
 use Rattle.kripke_model.specs.declared.expressions.Value.{Value}
 use Rattle.kripke_model.specs.Shown.{value_text}
 use Rattle.text_lines.specs.WholeLines.{join_lines, IsOneLine}
-use Rattle.trace_files.specs.Trace.{Trace, members, variable_name, value_line, value_lines, state_line, state_lines, states_lines, loop_line, trace_lines}
+use Rattle.trace_files.specs.Trace.{Trace, members, value_line, value_lines, state_line, state_lines, states_lines, loop_line, trace_lines}
 
 -- each value of a variable is printed in one line, and no two of them alike
 pub record PrintsApart (m : System) : Type 0 where

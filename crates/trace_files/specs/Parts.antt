@@ -1,12 +1,12 @@
 -- The parts of a trace file in the order in which they are read, and what a reader finds of one.
-use Rattle.std.specs.Prelude.{ℕ, ◌+◌, ◌≤◌, List, [], ◌∷◌, ◌++◌, length, codes, Contains, pos, Some, Result, Ok, Err}
+use Rattle.std.specs.Prelude.{ℕ, ◌+◌, ◌≤◌, List, [], ◌∷◌, length, codes, Contains, pos, Result, Ok, Err}
 use Rattle.std.specs.Global.{Vec}
 use Rattle.std.specs.List.{slice_index_or}
 use Rattle.kripke_model.specs.declared.expressions.Value.{Value}
 use Rattle.kripke_model.specs.declared.expressions.Value.TheVariants.{Number}
 use Rattle.kripke_model.specs.Step.{IsState}
 use Rattle.kripke_model.specs.System.{System, State, Variable}
-use Rattle.text_lines.specs.Cursor.{Place, Shows}
+use Rattle.text_lines.specs.Cursor.{Place, BeginsWith}
 use Rattle.text_lines.specs.Formats.{FitEach, FitUntil, lines_of_many, lines_until}
 use Rattle.text_lines.specs.Found.{IsFound}
 use Rattle.text_lines.specs.declared.faults.Fault.{Fault}
@@ -17,10 +17,6 @@ abbrev pub Finds : {X : Type 0} → (X → Type 0) → (X → List (List ℕ)) �
     → Place → Type 0
 Finds Fits lines old result new
     = IsFound (λ (l : List ℕ). l) (λ l. Unit {0}) Fits lines old result new
-
--- the next line begins with these bytes
-abbrev pub BeginsWith : List ℕ → Place → Type 0
-BeginsWith front place = (rest : List ℕ) × Shows place (Some (front ++ rest))
 
 -- ---- the values of a state
 

@@ -1,10 +1,9 @@
 -- A trace file, and its lines.
 use Rattle.std.specs.Prelude.{ℕ, ◌+◌, List, [], ◌∷◌, ◌++◌, length, codes, decimal}
-use Rattle.std.specs.List.{slice_index_or}
 use Rattle.kripke_model.specs.declared.expressions.Value.{Value}
 use Rattle.kripke_model.specs.Path.{Lasso}
 use Rattle.kripke_model.specs.Shown.{value_text}
-use Rattle.kripke_model.specs.System.{System, State}
+use Rattle.kripke_model.specs.System.{System, State, variable_name}
 
 -- a looping path, which is to falsify a specification, counted from 1
 pub record Trace : Type 0 where
@@ -19,9 +18,6 @@ members p = p.stem ++ p.cycle
 
 abbrev pub spec_line : ℕ → List ℕ
 spec_line j = codes "trace " ++ decimal j
-
-abbrev pub variable_name : System → ℕ → List ℕ
-variable_name m x = (slice_index_or m.vars x (record { name = []; values = []; line = 0 })).name
 
 -- a value of variable x
 abbrev pub value_line : System → ℕ → Value → List ℕ

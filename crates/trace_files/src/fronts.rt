@@ -1,7 +1,7 @@
 // What stands behind the front of a line.
 
 ghost use Rattle.std.specs.Prelude.{◌≡◌, ◌++◌, ℕ, List, MatchOption, codes};
-ghost use Rattle.trace_files.specs.Trace.{variable_name};
+ghost use Rattle.kripke_model.specs.System.{variable_name};
 
 use kripke_model::models::Ruled;
 

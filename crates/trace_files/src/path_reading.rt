@@ -1,7 +1,8 @@
 // Reads the states of a path, and the line that closes it.
 
-ghost use Rattle.std.specs.Prelude.{◌≡◌, ◌+◌, ◌≤◌, ◌∷◌, [], IfErr, IfOk, IsTrue, length, Err};
-ghost use Rattle.trace_files.specs.Parts.{AreAllLater, BeginsWith, Finds, FitsEnding, ending_lines, in_ending};
+ghost use Rattle.std.specs.Prelude.{◌≡◌, ◌+◌, ◌≤◌, ◌∷◌, IfErr, IfOk, IsTrue, length, Err};
+ghost use Rattle.trace_files.specs.Parts.{AreAllLater, Finds, FitsEnding, ending_lines, in_ending};
+ghost use Rattle.text_lines.specs.Cursor.{BeginsWith};
 ghost use Rattle.trace_files.specs.Small.{HasSmallValues};
 ghost use Rattle.trace_files.specs.Spells.{IsLasso};
 ghost use Rattle.trace_files.specs.Trace.{lasso_lines, members};

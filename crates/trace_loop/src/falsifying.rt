@@ -9,7 +9,7 @@ ghost use Rattle.kripke_model.specs.Path.{IsPath, at, member_count};
 ghost use Rattle.kripke_model.specs.Reading.{term_of};
 ghost use Rattle.kripke_model.specs.WellFormed.{ctl_of};
 ghost use Rattle.single_states.specs.Braces.{IsFilled};
-ghost use Rattle.single_states.specs.Formulas.{is_leaf};
+ghost use Rattle.kripke_model.specs.Leaves.{is_leaf};
 ghost use Rattle.trace_loop.specs.Places.{SameFrom, IsFirst, HasFilledLeaves};
 
 use kripke_model::expressions::{Expr, Formula, PathOp};

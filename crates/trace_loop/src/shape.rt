@@ -3,7 +3,7 @@
 ghost use Rattle.std.specs.Prelude.{◌≡◌};
 ghost use Rattle.kripke_model.specs.Falsifies.{is_traceable};
 ghost use Rattle.kripke_model.specs.WellFormed.{ctl_of};
-ghost use Rattle.single_states.specs.Formulas.{is_leaf};
+ghost use Rattle.kripke_model.specs.Leaves.{is_leaf};
 
 use kripke_model::expressions::{Formula, PathOp};
 

@@ -1,7 +1,7 @@
 //! Proofs of the delays from go to x in a model in which x is 1 from the step on in which go was 1.
 
 ghost use Rattle.kripke_model.specs.WellFormed.{ctl_of};
-ghost use Rattle.fair_fixpoint.specs.Walks.{HasModelLeaves};
+ghost use Rattle.kripke_model.specs.Leaves.{HasModelLeaves};
 
 use crate::delay_proofs::{Case, is_shown};
 use crate::leaves::leaf_in;

@@ -1,7 +1,7 @@
 //! Tests of the search for delays in small models, from their first specification to their second.
 
 ghost use Rattle.kripke_model.specs.WellFormed.{ctl_of};
-ghost use Rattle.fair_fixpoint.specs.Walks.{HasModelLeaves};
+ghost use Rattle.kripke_model.specs.Leaves.{HasModelLeaves};
 
 use crate::found_delays::{Delay, Found, found_between};
 use crate::leaves::leaf_in;

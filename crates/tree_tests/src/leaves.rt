@@ -1,10 +1,9 @@
 //! The expressions of specifications without path operators, and pairs of them.
 
 ghost use Rattle.std.specs.Prelude.{IfOk, IfSome};
-ghost use Rattle.kripke_model.specs.Leaves.{IsModelLeaf};
+ghost use Rattle.kripke_model.specs.Leaves.{IsModelLeaf, HasModelLeaves};
 ghost use Rattle.kripke_model.specs.Reading.{term_of};
 ghost use Rattle.kripke_model.specs.WellFormed.{ctl_of};
-ghost use Rattle.fair_fixpoint.specs.Walks.{HasModelLeaves};
 
 use kripke_model::expressions::{Expr, Formula};
 use kripke_model::models::Ruled;

@@ -2,9 +2,8 @@
 //! specifications, and that of the next two, if there are any.
 
 ghost use Rattle.std.specs.Prelude.{◌≤◌, All, IfOk, IfSome, length};
-ghost use Rattle.kripke_model.specs.Leaves.{IsModelLeaf};
+ghost use Rattle.kripke_model.specs.Leaves.{IsModelLeaf, HasModelLeaves};
 ghost use Rattle.kripke_model.specs.WellFormed.{ctl_of};
-ghost use Rattle.fair_fixpoint.specs.Walks.{HasModelLeaves};
 
 use crate::found_strong::{Found, found_for};
 use crate::leaves::{leaf_in, pair_of};

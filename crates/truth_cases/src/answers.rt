@@ -3,7 +3,7 @@
 ghost use Rattle.std.specs.Prelude.{◌≡◌, Contains, map};
 ghost use Rattle.kripke_model.specs.Ctl.{formula_of};
 ghost use Rattle.kripke_model.specs.WellFormed.{ctl_of};
-ghost use Rattle.fair_fixpoint.specs.Walks.{HasModelLeaves};
+ghost use Rattle.kripke_model.specs.Leaves.{HasModelLeaves};
 
 use crate::given::tell_path;
 use crate::paths::is_fair_by_sets;

@@ -15,8 +15,9 @@ use Rattle.kripke_model.specs.Evaluation.{Checked, ◌>>=◌, among, single, tru
 use Rattle.value_tables.specs.declared.cells.Cell.{Cell}
 use Rattle.value_tables.specs.declared.pick.Test.{Test}
 use Rattle.value_tables.specs.Cells.{same_reading, any_of, Reads}
-use Rattle.value_tables.specs.Pick.{tested_value, in_bounds, arithmetic, outcome}
-use Rattle.value_tables.specs.Tables.{alone, value_tested, one_tested, membership, connective, logic, paired, all_values, guard_of, IsSingle, IsUnion, IsMember, IsEquality, IsConnective, IsOrder, IsArithmetic}
+use Rattle.value_tables.specs.Pick.{tested_value, arithmetic, outcome}
+use Rattle.kripke_model.specs.Operators.{in_bounds, logic}
+use Rattle.value_tables.specs.Tables.{alone, value_tested, one_tested, membership, connective, paired, all_values, guard_of, IsSingle, IsUnion, IsMember, IsEquality, IsConnective, IsOrder, IsArithmetic}
 use Rattle.value_tables.specs.Orders.{numbers, compares, comparison}
 use Rattle.value_tables.proofs.ReadingLists.{same-true}
 use Rattle.value_tables.proofs.OnceLemmas.{any_values}

@@ -12,13 +12,12 @@ use Rattle.std.proofs.lemmas.Bool.{false≢true}
 use Rattle.kripke_model.specs.Size.{term_nodes, element_nodes, arm_nodes}
 use Rattle.kripke_model.specs.System.{System}
 use Rattle.kripke_model.specs.Reading.{term_of, terms_in, arms_in}
-use Rattle.kripke_model.specs.Evaluation.{Checked, ◌>>=◌, binary, distinct, truth}
+use Rattle.kripke_model.specs.Evaluation.{Checked, ◌>>=◌, binary, distinct, truth, truth_value}
 use Rattle.kripke_model.specs.Evaluable.{IsEvaluable, AreEvaluable, AreEvaluableArms}
 use Rattle.value_tables.specs.declared.cells.Cell.{Cell}
 use Rattle.value_tables.specs.declared.operands.Table.{Table}
 use Rattle.value_tables.specs.CellLists.{CellItems}
 use Rattle.value_tables.specs.Cells.{Reads, AreCells, same_reading, any_of, shows}
-use Rattle.value_tables.specs.Pick.{truth_of}
 use Rattle.std.proofs.lemmas.List.{take-append-drop}
 use Rattle.std.proofs.lemmas.List.Elements.{All-nil}
 use Rattle.bdd_nodes.proofs.Tables.{value_of-true}
@@ -198,8 +197,8 @@ no_cells s cells e = subst (AreCells s) (sym e) record { has = All-nil (λ (c : 
 pub no_arms : (s : Store) (cells : List Cell) (bits : List Bool) (k : Checked Value) (x : Bool) → cells ≡ [] → x ≡ (shows (λ r. value_of s r bits) cells k || (value_of s 1 bits && x))
 no_arms s cells bits k x e = λ i. shows (λ r. value_of s r bits) (sym e i) k || (sym (value_of-true s.nodes.keys bits) i && x)
 
-pub last_arm : (k : Checked Value) (v : Value) → v ≡ truth_of true → (old left now whole : Bool) (d : Checked (List Value)) → d ≡ Ok (truth true) → whole ≡ (old || (left && any_of (same_reading k) d)) → now ≡ (old || (same_reading k (Ok v) && left)) → now ≡ whole
-last_arm k v is old left now whole d e w n = n ∙ (λ i. old || (same_reading k (Ok (is i)) && left)) ∙ ap (λ b. old || b) (swap (same_reading k (Ok (truth_of true))) left) ∙ sym (w ∙ (λ i. old || (left && any_of (same_reading k) (e i))))
+pub last_arm : (k : Checked Value) (v : Value) → v ≡ truth_value true → (old left now whole : Bool) (d : Checked (List Value)) → d ≡ Ok (truth true) → whole ≡ (old || (left && any_of (same_reading k) d)) → now ≡ (old || (same_reading k (Ok v) && left)) → now ≡ whole
+last_arm k v is old left now whole d e w n = n ∙ (λ i. old || (same_reading k (Ok (is i)) && left)) ∙ ap (λ b. old || b) (swap (same_reading k (Ok (truth_value true))) left) ∙ sym (w ∙ (λ i. old || (left && any_of (same_reading k) (e i))))
   where
     swap : (a l : Bool) → (a && l) ≡ (l && (a || false))
     swap true true = refl

@@ -6,12 +6,12 @@ use Rattle.std.proofs.lemmas.List.Folds.{list_any-append}
 use Rattle.kripke_model.specs.declared.expressions.Value.{Value}
 use Rattle.kripke_model.specs.declared.expressions.Value.TheVariants.{Number, Symbol}
 use Rattle.kripke_model.specs.declared.expressions.BinOp.{BinOp}
-use Rattle.kripke_model.specs.Evaluation.{Checked, ◌>>=◌, single, truth, as_boolean}
+use Rattle.kripke_model.specs.Evaluation.{Checked, ◌>>=◌, single, truth, as_boolean, truth_value}
 use Rattle.value_tables.specs.declared.cells.Cell.{Cell}
 use Rattle.value_tables.specs.declared.pick.Pick.{Pick}
 use Rattle.value_tables.specs.declared.pick.Test.{Test}
 use Rattle.value_tables.specs.Cells.{same_reading, any_of, any_cell, Reads, AreOnce, readings_in, region_at}
-use Rattle.value_tables.specs.Pick.{truth_of, tested_value, becomes, outcome}
+use Rattle.value_tables.specs.Pick.{tested_value, becomes, outcome}
 use Rattle.value_tables.specs.Tables.{is_failure, is_fault_of, alone, one_tested, both, truths, pairs_to, paired, all_values, guard_of, negation, arm_shows, goes_on}
 use Rattle.value_tables.proofs.ReadingLists.{reads-any}
 use Rattle.value_tables.proofs.OnceLemmas.{any_values, region_shows}
@@ -93,13 +93,13 @@ negated_shows v cells c h k = all (any_cell v (becomes Pick.Negated k) cells) �
 -- ---- an arm
 
 module _ (v : ℕ → Bool) (guard : List Cell) (b : Checked Bool) (none : v 0 ≡ false) (once : AreOnce (readings_in guard)) (h : Reads v guard (truths b)) where
-  is_truth : (t : Bool) → v (region_at guard (Ok (truth_of t))) ≡ any_of (same_reading (Ok (truth_of t))) (truths b)
-  is_truth t = region_shows v none guard once (Ok (truth_of t)) ∙ h.each (Ok (truth_of t))
+  is_truth : (t : Bool) → v (region_at guard (Ok (truth_value t))) ≡ any_of (same_reading (Ok (truth_value t))) (truths b)
+  is_truth t = region_shows v none guard once (Ok (truth_value t)) ∙ h.each (Ok (truth_value t))
 
-  pub arm_rest : (w : Bool) → (v (region_at guard (Ok (truth_of false))) && w) ≡ (w && goes_on b)
+  pub arm_rest : (w : Bool) → (v (region_at guard (Ok (truth_value false))) && w) ≡ (w && goes_on b)
   arm_rest w = ap (λ t. t && w) (is_truth false) ∙ by b w
     where
-      by : (b : Checked Bool) (w : Bool) → (any_of (same_reading (Ok (truth_of false))) (truths b) && w) ≡ (w && goes_on b)
+      by : (b : Checked Bool) (w : Bool) → (any_of (same_reading (Ok (truth_value false))) (truths b) && w) ≡ (w && goes_on b)
       by (Ok true) true = refl
       by (Ok true) false = refl
       by (Ok false) true = refl
@@ -107,13 +107,13 @@ module _ (v : ℕ → Bool) (guard : List Cell) (b : Checked Bool) (none : v 0 �
       by (Err kind) true = refl
       by (Err kind) false = refl
 
-  pub arm_step : (k : Checked Value) (d : Checked (List Value)) (s w all taken : Bool) → all ≡ any_of (same_reading k) d → taken ≡ (v (region_at guard (Ok (truth_of true))) && w)
+  pub arm_step : (k : Checked Value) (d : Checked (List Value)) (s w all taken : Bool) → all ≡ any_of (same_reading k) d → taken ≡ (v (region_at guard (Ok (truth_value true))) && w)
       → ((s || (any_cell v (becomes Pick.Faults k) guard && w)) || (all && taken)) ≡ (s || (w && arm_shows b d k))
   arm_step k d s w all taken e f =
       (λ i. (s || ((reads-any v guard (truths b) h (becomes Pick.Faults k)) i && w)) || (e i && (f ∙ ap (λ t. t && w) (is_truth true)) i))
       ∙ by b s w (any_of (same_reading k) d) refl
     where
-      by : (b : Checked Bool) (s w a : Bool) → a ≡ any_of (same_reading k) d → ((s || (any_of (becomes Pick.Faults k) (truths b) && w)) || (any_of (same_reading k) d && (any_of (same_reading (Ok (truth_of true))) (truths b) && w))) ≡ (s || (w && arm_shows b d k))
+      by : (b : Checked Bool) (s w a : Bool) → a ≡ any_of (same_reading k) d → ((s || (any_of (becomes Pick.Faults k) (truths b) && w)) || (any_of (same_reading k) d && (any_of (same_reading (Ok (truth_value true))) (truths b) && w))) ≡ (s || (w && arm_shows b d k))
       by (Ok true) true w a e = refl
       by (Ok true) false true a e = and_all (any_of (same_reading k) d)
         where
@@ -150,7 +150,7 @@ module _ (v : ℕ → Bool) (guard : List Cell) (b : Checked Bool) (none : v 0 �
 
   -- the same, from the values that the steps leave
   pub arm_each : (k : Checked Value) (d : Checked (List Value)) (s3 s2 s1 before s w now all taken : Bool) → s3 ≡ (s2 || (all && taken)) → s2 ≡ s1 → s1 ≡ (before || (any_cell v (becomes Pick.Faults k) guard && now)) → before ≡ s → now ≡ w → all ≡ any_of (same_reading k) d
-      → taken ≡ (v (region_at guard (Ok (truth_of true))) && w) → s3 ≡ (s || (w && arm_shows b d k))
+      → taken ≡ (v (region_at guard (Ok (truth_value true))) && w) → s3 ≡ (s || (w && arm_shows b d k))
   arm_each k d s3 s2 s1 before s w now all taken e3 e2 e1 e0 ew ea et =
       e3 ∙ (λ i. (e2 ∙ e1) i || (all && taken)) ∙ (λ i. (e0 i || (any_cell v (becomes Pick.Faults k) guard && ew i)) || (all && taken)) ∙ arm_step k d s w all taken ea et
 

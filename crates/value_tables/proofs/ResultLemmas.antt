@@ -9,13 +9,14 @@ use Rattle.bdd_nodes.proofs.Tables.{value_of-true}
 use Rattle.kripke_model.specs.declared.expressions.Value.{Value}
 use Rattle.kripke_model.specs.declared.expressions.BinOp.{BinOp}
 use Rattle.kripke_model.specs.declared.expressions.FaultKind.{FaultKind}
-use Rattle.kripke_model.specs.Evaluation.{Checked, ◌>>=◌, single, truth}
+use Rattle.kripke_model.specs.Evaluation.{Checked, ◌>>=◌, single, truth, truth_value}
 use Rattle.value_tables.specs.declared.cells.Cell.{Cell}
 use Rattle.value_tables.specs.declared.pick.Pick.{Pick}
 use Rattle.value_tables.specs.declared.pick.Test.{Test}
 use Rattle.value_tables.specs.Cells.{same_reading, readings, any_of, any_cell, Reads, AreOnce, readings_in, region_at}
-use Rattle.value_tables.specs.Pick.{truth_of, tested_value, becomes}
-use Rattle.value_tables.specs.Tables.{is_fault, is_failure, is_fault_of, alone, IsProper, IsSingle, count_on, at_region, logic, one_tested, both, judged, membership, truths, connective, IsTable}
+use Rattle.value_tables.specs.Pick.{tested_value, becomes}
+use Rattle.value_tables.specs.Tables.{is_fault, is_failure, is_fault_of, alone, IsProper, IsSingle, count_on, at_region, one_tested, both, judged, membership, truths, connective, IsTable}
+use Rattle.kripke_model.specs.Operators.{logic}
 use Rattle.value_tables.proofs.ReadingLists.{reads-any}
 use Rattle.value_tables.proofs.OnceLemmas.{any_values, counted_on, region_shows}
 
@@ -116,8 +117,8 @@ faults_region v left right c d a b =
 -- ---- 0 and 1
 
 decided_shows : (e : Checked (List Value)) (hit : Bool) (k : Checked Value)
-    → ((is_fault_of e k || (same_reading k (Ok (truth_of false)) && not (hit || is_failure e))) || (same_reading k (Ok (truth_of true)) && (hit && not (is_failure e)))) ≡ any_of (same_reading k) (e >>= λ vs. Ok (truth hit))
-decided_shows (Err kind) hit k = by (same_reading k (Err kind)) (same_reading k (Ok (truth_of false))) (same_reading k (Ok (truth_of true))) hit
+    → ((is_fault_of e k || (same_reading k (Ok (truth_value false)) && not (hit || is_failure e))) || (same_reading k (Ok (truth_value true)) && (hit && not (is_failure e)))) ≡ any_of (same_reading k) (e >>= λ vs. Ok (truth hit))
+decided_shows (Err kind) hit k = by (same_reading k (Err kind)) (same_reading k (Ok (truth_value false))) (same_reading k (Ok (truth_value true))) hit
   where
     by : (f a b hit : Bool) → ((f || (a && not (hit || true))) || (b && (hit && false))) ≡ (f || false)
     by true a b hit = refl
@@ -128,14 +129,14 @@ decided_shows (Err kind) hit k = by (same_reading k (Err kind)) (same_reading k 
     by false false true true = refl
     by false false true false = refl
     by false false false hit = refl
-decided_shows (Ok vs) true k = by (same_reading k (Ok (truth_of false))) (same_reading k (Ok (truth_of true)))
+decided_shows (Ok vs) true k = by (same_reading k (Ok (truth_value false))) (same_reading k (Ok (truth_value true)))
   where
     by : (a b : Bool) → ((false || (a && false)) || (b && true)) ≡ (b || false)
     by true true = refl
     by true false = refl
     by false true = refl
     by false false = refl
-decided_shows (Ok vs) false k = by (same_reading k (Ok (truth_of false))) (same_reading k (Ok (truth_of true)))
+decided_shows (Ok vs) false k = by (same_reading k (Ok (truth_value false))) (same_reading k (Ok (truth_value true)))
   where
     by : (a b : Bool) → ((false || (a && true)) || (b && false)) ≡ (a || false)
     by true true = refl
@@ -145,9 +146,9 @@ decided_shows (Ok vs) false k = by (same_reading k (Ok (truth_of false))) (same_
 
 -- the same, from the values that the steps leave
 pub judged_shows : (c d : Checked (List Value)) (k : Checked Value) (fault fail now hit : Bool) → fault ≡ is_fault_of (both c d) k → fail ≡ is_failure (both c d) → now ≡ hit
-    → ((fault || (same_reading k (Ok (truth_of false)) && not (now || fail))) || (same_reading k (Ok (truth_of true)) && (now && not fail))) ≡ any_of (same_reading k) (judged c d hit)
+    → ((fault || (same_reading k (Ok (truth_value false)) && not (now || fail))) || (same_reading k (Ok (truth_value true)) && (now && not fail))) ≡ any_of (same_reading k) (judged c d hit)
 judged_shows c d k fault fail now hit f g h =
-    (λ i. (f i || (same_reading k (Ok (truth_of false)) && not (h i || g i))) || (same_reading k (Ok (truth_of true)) && (h i && not (g i)))) ∙ decided_shows (both c d) hit k
+    (λ i. (f i || (same_reading k (Ok (truth_value false)) && not (h i || g i))) || (same_reading k (Ok (truth_value true)) && (h i && not (g i)))) ∙ decided_shows (both c d) hit k
 
 module _ (v : ℕ → Bool) (left right : List Cell) (none : v 0 ≡ false) where
   pub membership_judged : (a : Checked Value) (d : Checked (List Value)) → AreOnce (readings_in right) → Reads v left (alone a) → Reads v right d → judged (alone a) d (any_cell v (at_region v right) left) ≡ membership a d
@@ -156,12 +157,12 @@ module _ (v : ℕ → Bool) (left right : List Cell) (none : v 0 ≡ false) wher
   membership_judged (Ok u) (Err kind) once x y = refl
   membership_judged (Err kind) d once x y = refl
 
-  side : (cells : List Cell) → AreOnce (readings_in cells) → (p : Bool) → Reads v cells (Ok (truth p)) → v (region_at cells (Ok (truth_of true))) ≡ p
-  side cells once true h = region_shows v none cells once (Ok (truth_of true)) ∙ h.each (Ok (truth_of true)) ∙ refl
-  side cells once false h = region_shows v none cells once (Ok (truth_of true)) ∙ h.each (Ok (truth_of true)) ∙ refl
+  side : (cells : List Cell) → AreOnce (readings_in cells) → (p : Bool) → Reads v cells (Ok (truth p)) → v (region_at cells (Ok (truth_value true))) ≡ p
+  side cells once true h = region_shows v none cells once (Ok (truth_value true)) ∙ h.each (Ok (truth_value true)) ∙ refl
+  side cells once false h = region_shows v none cells once (Ok (truth_value true)) ∙ h.each (Ok (truth_value true)) ∙ refl
 
   pub connective_judged : (op : BinOp) (a b : Checked Bool) → AreOnce (readings_in left) → AreOnce (readings_in right) → Reads v left (truths a) → Reads v right (truths b)
-      → judged (truths a) (truths b) (logic op (v (region_at left (Ok (truth_of true)))) (v (region_at right (Ok (truth_of true))))) ≡ connective op a b
+      → judged (truths a) (truths b) (logic op (v (region_at left (Ok (truth_value true)))) (v (region_at right (Ok (truth_value true))))) ≡ connective op a b
   connective_judged op (Ok p) (Ok q) once_left once_right x y = λ i. Ok (truth (logic op (side left once_left p x i) (side right once_right q y i)))
   connective_judged op (Ok p) (Err kind) once_left once_right x y = refl
   connective_judged op (Err kind) b once_left once_right x y = refl

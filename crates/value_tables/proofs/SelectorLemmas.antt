@@ -10,12 +10,11 @@ use Rattle.bdd_nodes.proofs.Tables.{value_of-false}
 use Rattle.kripke_model.specs.declared.expressions.Value.{Value}
 use Rattle.kripke_model.specs.declared.expressions.Value.TheVariants.{Number}
 use Rattle.kripke_model.specs.System.{Variable, System, value_in}
-use Rattle.kripke_model.specs.Evaluation.{Checked, same, truth}
+use Rattle.kripke_model.specs.Evaluation.{Checked, same, truth, truth_value}
 use Rattle.kripke_model.specs.Flat.{HasSelector}
 use Rattle.bit_encode.specs.Code.{Coding, types_of, values_of}
 use Rattle.bdd_ops.specs.Kept.{IsRegion}
 use Rattle.value_tables.specs.Cells.{same_reading, any_of}
-use Rattle.value_tables.specs.Pick.{truth_of}
 use Rattle.value_tables.specs.States.{code_shown, state_shown}
 use Rattle.variable_codes.specs.Codes.{is_spelled}
 use Rattle.value_tables.proofs.ReadingLists.{same_self}
@@ -71,14 +70,14 @@ module _ (c : Coding) (m : System) (types : c.types ≡ types_of m) (h : HasSele
 
 -- ---- the table of 1 and 0
 
-pub two_truths : (k : Checked Value) (q : Bool) → ((false || (same_reading k (Ok (truth_of true)) && q)) || (same_reading k (Ok (truth_of false)) && not q)) ≡ any_of (same_reading k) (Ok (truth q))
-two_truths k true = yes (same_reading k (Ok (truth_of true))) (same_reading k (Ok (truth_of false)))
+pub two_truths : (k : Checked Value) (q : Bool) → ((false || (same_reading k (Ok (truth_value true)) && q)) || (same_reading k (Ok (truth_value false)) && not q)) ≡ any_of (same_reading k) (Ok (truth q))
+two_truths k true = yes (same_reading k (Ok (truth_value true))) (same_reading k (Ok (truth_value false)))
   where
     yes : (a b : Bool) → ((false || (a && true)) || (b && false)) ≡ (a || false)
     yes true b = refl
     yes false true = refl
     yes false false = refl
-two_truths k false = no (same_reading k (Ok (truth_of true))) (same_reading k (Ok (truth_of false)))
+two_truths k false = no (same_reading k (Ok (truth_value true))) (same_reading k (Ok (truth_value false)))
   where
     no : (a b : Bool) → ((false || (a && false)) || (b && true)) ≡ (b || false)
     no true true = refl

@@ -2,12 +2,12 @@
 use Rattle.std.proofs.Common.{◌≡◌, ℕ, Bool, true, false, not, ◌&&◌, ◌||◌, ltb, List, Result, Ok, Err, IfOk, OnOk, ap, ◌∙◌}
 use Rattle.kripke_model.specs.declared.expressions.Value.{Value}
 use Rattle.kripke_model.specs.declared.expressions.FaultKind.{FaultKind}
-use Rattle.kripke_model.specs.Evaluation.{Checked}
+use Rattle.kripke_model.specs.Evaluation.{Checked, truth_value}
 use Rattle.value_tables.specs.declared.cells.Cell.{Cell}
 use Rattle.value_tables.specs.declared.pick.Pick.{Pick}
 use Rattle.value_tables.specs.declared.pick.Test.{Test}
 use Rattle.value_tables.specs.Cells.{same_reading, any_of, any_cell, Reads, AreOnce, readings_in}
-use Rattle.value_tables.specs.Pick.{becomes, truth_of}
+use Rattle.value_tables.specs.Pick.{becomes}
 use Rattle.value_tables.specs.Tables.{is_fault, is_failure, is_fault_of, IsProper, IsSingle, count_on, one_tested, both}
 use Rattle.value_tables.proofs.ResultLemmas.{tested_shows, faults_show, faults_region}
 
@@ -28,10 +28,10 @@ faults_each v left right c d a b k s2 s1 s0 xr xl t sound first e2 e1 e0 el et e
 pub failure_each : (v : ℕ → Bool) (left right : List Cell) (c d : Checked (List Value)) → Reads v left c → Reads v right d → (r first second : Bool) → r ≡ (first || second) → first ≡ any_cell v is_fault left → second ≡ any_cell v is_fault right → r ≡ is_failure (both c d)
 failure_each v left right c d a b r first second e f g = e ∙ (λ i. f i || g i) ∙ faults_region v left right c d a b
 
-pub decided_each : (k : Checked Value) (v0 v1 : Value) → v0 ≡ truth_of false → v1 ≡ truth_of true → (s2 s1 s0 s n y hit fail : Bool) → s2 ≡ (s1 || (same_reading k (Ok v1) && y)) → s1 ≡ (s0 || (same_reading k (Ok v0) && n)) → s0 ≡ s → n ≡ not (hit || fail) → y ≡ (hit && not fail)
-    → s2 ≡ ((s || (same_reading k (Ok (truth_of false)) && not (hit || fail))) || (same_reading k (Ok (truth_of true)) && (hit && not fail)))
+pub decided_each : (k : Checked Value) (v0 v1 : Value) → v0 ≡ truth_value false → v1 ≡ truth_value true → (s2 s1 s0 s n y hit fail : Bool) → s2 ≡ (s1 || (same_reading k (Ok v1) && y)) → s1 ≡ (s0 || (same_reading k (Ok v0) && n)) → s0 ≡ s → n ≡ not (hit || fail) → y ≡ (hit && not fail)
+    → s2 ≡ ((s || (same_reading k (Ok (truth_value false)) && not (hit || fail))) || (same_reading k (Ok (truth_value true)) && (hit && not fail)))
 decided_each k v0 v1 is0 is1 s2 s1 s0 s n y hit fail e2 e1 e0 en ey =
-    e2 ∙ (λ i. e1 i || (same_reading k (Ok (is1 i)) && ey i)) ∙ (λ i. (e0 i || (same_reading k (Ok (is0 i)) && en i)) || (same_reading k (Ok (truth_of true)) && (hit && not fail)))
+    e2 ∙ (λ i. e1 i || (same_reading k (Ok (is1 i)) && ey i)) ∙ (λ i. (e0 i || (same_reading k (Ok (is0 i)) && en i)) || (same_reading k (Ok (truth_value true)) && (hit && not fail)))
 
 pub if_ok : {T E : Type 0} {P Q : T → Type 0} (r : Result T E) → IfOk r P → ((t : T) → P t → Q t) → IfOk r Q
 if_ok (Ok t) h f = f t h

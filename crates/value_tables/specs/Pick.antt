@@ -1,20 +1,16 @@
 -- What becomes of a reading.
-use Rattle.std.specs.Prelude.{Bool, true, false, not, ◌&&◌, if◌then◌else◌, ℤ, pos, negsuc, int_div, int_rem, int_le, ◌+ℤ◌, ◌-ℤ◌, ◌*ℤ◌, Ok, Err, Option, Some, None}
+use Rattle.std.specs.Prelude.{Bool, false, not, if◌then◌else◌, ℤ, pos, int_div, int_rem, ◌+ℤ◌, ◌-ℤ◌, ◌*ℤ◌, Ok, Err, Option, Some, None}
 use Rattle.std.specs.Ordering.{int_eq}
 use Rattle.std.specs.Option.{option_map_or}
 use Rattle.kripke_model.specs.declared.expressions.Value.{Value}
 use Rattle.kripke_model.specs.declared.expressions.Value.TheVariants.{Number}
 use Rattle.kripke_model.specs.declared.expressions.BinOp.{BinOp}
 use Rattle.kripke_model.specs.declared.expressions.FaultKind.{FaultKind}
-use Rattle.kripke_model.specs.Evaluation.{Checked, ◌>>=◌, as_number, as_boolean}
+use Rattle.kripke_model.specs.Evaluation.{Checked, ◌>>=◌, as_number, as_boolean, truth_value}
+use Rattle.kripke_model.specs.Operators.{in_bounds}
 use Rattle.value_tables.specs.declared.pick.Test.{Test}
 use Rattle.value_tables.specs.declared.pick.Pick.{Pick}
 use Rattle.value_tables.specs.Cells.{same_reading}
-
--- 1 for true, 0 for false
-abbrev pub truth_of : Bool → Value
-truth_of true = Number (pos 1)
-truth_of false = Number (pos 0)
 
 -- the value, where it passes the test
 abbrev pub tested_value : Test → Value → Checked Value
@@ -23,12 +19,7 @@ tested_value Test.Number v = as_number v >>= λ i. Ok v
 tested_value Test.Boolean v = as_boolean v >>= λ b. Ok v
 
 abbrev pub negated_value : Value → Checked Value
-negated_value v = as_boolean v >>= λ b. Ok (truth_of (not b))
-
--- numbers go from -2^31 to 2^31 - 1
-abbrev pub in_bounds : ℤ → Checked Value
-in_bounds i = if int_le (negsuc 2147483647) i
-    && int_le i (pos 2147483647) then Ok (Number i) else Err FaultKind.Overflow
+negated_value v = as_boolean v >>= λ b. Ok (truth_value (not b))
 
 abbrev pub arithmetic : BinOp → ℤ → ℤ → Checked Value
 arithmetic BinOp.Mul i j = in_bounds (i *ℤ j)

@@ -1,8 +1,9 @@
 -- What a table says of an expression.
-use Rattle.std.specs.Prelude.{◌≡◌, ℕ, ◌≤◌, Bool, true, false, not, ◌&&◌, ◌||◌, if◌then◌else◌, List, [], ◌∷◌, ◌++◌, length, count_by, Ok, Err}
+use Rattle.std.specs.Prelude.{◌≡◌, ℕ, ◌≤◌, Bool, true, false, not, List, [], ◌∷◌, ◌++◌, length, count_by, Ok, Err}
 use Rattle.kripke_model.specs.declared.expressions.Value.{Value}
 use Rattle.kripke_model.specs.declared.expressions.BinOp.{BinOp}
 use Rattle.kripke_model.specs.Evaluation.{Checked, ◌>>=◌, among, single, truth, boolean}
+use Rattle.kripke_model.specs.Operators.{logic}
 use Rattle.bdd_nodes.specs.declared.store.Store.{Store}
 use Rattle.bdd_nodes.specs.Store.{value_of}
 use Rattle.value_tables.specs.declared.cells.Cell.{Cell}
@@ -56,12 +57,6 @@ at_region v cells k = v (region_at cells k)
 abbrev pub pairs_to : (ℕ → Bool) → BinOp → Checked Value → List Cell → Checked Value → Bool
 pairs_to v op k right (Ok x) = any_cell v (becomes (Pick.With op x) k) right
 pairs_to v op k right (Err kind) = false
-
-abbrev pub logic : BinOp → Bool → Bool → Bool
-logic BinOp.And a b = a && b
-logic BinOp.Or a b = a || b
-logic BinOp.Implies a b = not a || b
-logic op a b = if a then b else not b
 
 -- what a guard does: the reading comes from its fault, or, where it is 1, from the right side
 abbrev pub arm_shows : Checked Bool → Checked (List Value) → Checked Value → Bool

@@ -1,17 +1,17 @@
 //! The operators on tables.
 
-ghost use Rattle.std.specs.Prelude.{◌≡◌, ◌≤◌, ◌+◌, ◌*◌, ◌^◌, ◌&&◌, ◌||◌, not, if◌then◌else◌, ℕ, ℤ, Bool, true, false, List, [], ◌∷◌, ◌++◌, Ok, IfOk, IfErr, All, length};
+ghost use Rattle.std.specs.Prelude.{◌≡◌, ◌≤◌, ◌+◌, ◌*◌, ◌&&◌, ◌||◌, not, ℤ, Bool, true, false, List, Ok, IfOk, IfErr, All, length};
 ghost use Rattle.bdd_nodes.specs.Store.{Has, value_of};
 ghost use Rattle.bdd_nodes.specs.Refusal.{IsRefusalOf};
 ghost use Rattle.bdd_ops.specs.Engine.{store_of};
 ghost use Rattle.kripke_model.specs.declared.expressions.Value.{Value as Values};
-ghost use Rattle.kripke_model.specs.Evaluation.{Checked};
+ghost use Rattle.kripke_model.specs.Evaluation.{Checked, truth_value};
 ghost use Rattle.value_tables.specs.declared.cells.Cell.{Cell as Cells};
 ghost use Rattle.bdd_ops.specs.Kept.{IsRegion};
 ghost use Rattle.value_tables.specs.Work.{Keeps, Spends};
 ghost use Rattle.value_tables.specs.Cells.{same_reading, shows, Reads, AreCells};
-ghost use Rattle.value_tables.specs.Pick.{truth_of};
-ghost use Rattle.value_tables.specs.Tables.{logic, alone, IsTable, judged, membership, truths, connective};
+ghost use Rattle.value_tables.specs.Tables.{alone, IsTable, judged, membership, truths, connective};
+ghost use Rattle.kripke_model.specs.Operators.{logic};
 ghost use Rattle.value_tables.specs.Orders.{numbers, comparison, in_order};
 
 use crate::cell_lists::CellList;
@@ -96,11 +96,13 @@ fn decided<L: Ledger>(
     ensures single { IfOk result (λ t. t.single ≡ true) }
     ensures shows { IfOk result (λ t. (bits : List Bool) (k : Checked Values)
         → shows (λ r. value_of (store_of engine.new) r bits) t.cells.items k
-        ≡ ((shows (λ r. value_of (store_of engine.old) r bits) faults.cells.items k ||
-        (same_reading k (Ok (truth_of false)) && not (value_of (store_of engine.old) hit bits ||
-        value_of (store_of engine.old) faults.region bits))) || (same_reading k (Ok (truth_of true))
-        && (value_of (store_of engine.old) hit bits && not (value_of (store_of engine.old)
-        faults.region bits))))) }
+        ≡ ((shows (λ r. value_of (store_of engine.old) r bits) faults.cells.items k
+        || (same_reading k (Ok (truth_value false))
+        && not (value_of (store_of engine.old) hit bits
+        || value_of (store_of engine.old) faults.region bits)))
+        || (same_reading k (Ok (truth_value true))
+        && (value_of (store_of engine.old) hit bits
+        && not (value_of (store_of engine.old) faults.region bits))))) }
     ensures few { IfOk result (λ t. length t.cells.items ≤ length faults.cells.items + 2) }
     ensures held { IfErr result (IsRefusalOf (store_of engine.new)) }
     ensures keeps { Keeps engine.old engine.new steps.old steps.new }

@@ -1,8 +1,9 @@
 //! What becomes of the readings of an operand.
 
 ghost use Rattle.std.specs.Prelude.{◌≡◌};
-ghost use Rattle.kripke_model.specs.Evaluation.{as_boolean};
-ghost use Rattle.value_tables.specs.Pick.{truth_of, tested_value, negated_value, in_bounds, arithmetic, outcome, picked};
+ghost use Rattle.kripke_model.specs.Evaluation.{as_boolean, truth_value};
+ghost use Rattle.value_tables.specs.Pick.{tested_value, negated_value, arithmetic, outcome, picked};
+ghost use Rattle.kripke_model.specs.Operators.{in_bounds};
 
 use kripke_model::expressions::{BinOp, FaultKind, Value};
 
@@ -96,7 +97,7 @@ fn boolean(value: Value) -> Result<bool, FaultKind>
 }
 
 pub(crate) fn truth(holds: bool) -> Value
-    ensures { result ≡ truth_of holds }
+    ensures { result ≡ truth_value holds }
 {
     if holds {
         Value::Number(1)

@@ -1,7 +1,7 @@
 //! The regions of an expression's values and faults.
 
 ghost use Rattle.std.specs.Prelude.{◌≡◌, ◌≤◌, ◌+◌, ◌*◌, ◌^◌, ◌++◌, IfOk, IfErr, OnOk, length};
-ghost use Rattle.bdd_nodes.specs.Store.{levels_of, triples, Has, Grows};
+ghost use Rattle.bdd_nodes.specs.Store.{levels_of, triples, Grows};
 ghost use Rattle.bdd_nodes.specs.Refusal.{IsRefusalOf};
 ghost use Rattle.bdd_ops.specs.Engine.{store_of, capacity_of, lists_of, refused_of};
 ghost use Rattle.variable_codes.specs.LaidOut.{LaidOut};

@@ -5,7 +5,7 @@ use Rattle.kripke_model.specs.Ctl.{Ctl, formula_of}
 use Rattle.kripke_model.specs.declared.expressions.Formula.{Formula}
 use Rattle.kripke_model.specs.System.{System, Condition}
 use Rattle.kripke_model.specs.WellFormed.{ctl_of}
-use Rattle.fair_fixpoint.specs.Walks.{HasModelLeaves}
+use Rattle.kripke_model.specs.Leaves.{HasModelLeaves}
 use Rattle.proof_form.specs.Shape.{spec_formula}
 
 spec_in : (fs : List Formula) (cs : List Condition) (k : ℕ) (d : Formula) → map ctl_of fs ≡ map (λ c. formula_of c.expr) cs → k < length fs

@@ -1,5 +1,5 @@
 use Rattle.std.proofs.Common.{map, refl}
-use Rattle.proof_text.specs.Lines.{variable_name}
+use Rattle.kripke_model.specs.System.{variable_name}
 use Rattle.proof_text.proofs.WordsOf.{order_words, order_text}
 use Rattle.proof_text.proofs.order_reading.order_in.Goals as goal
 

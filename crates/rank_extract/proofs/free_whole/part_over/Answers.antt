@@ -8,7 +8,7 @@ use Rattle.path_laws.specs.StateCount.{state_count}
 use Rattle.fair_rules.specs.FreePart.{path_nodes_of}
 use Rattle.fair_fixpoint.specs.Formulas.{node_pins}
 use Rattle.fair_fixpoint.specs.Runs.{layer_views}
-use Rattle.fair_fixpoint.specs.Walks.{HasModelLeaves}
+use Rattle.kripke_model.specs.Leaves.{HasModelLeaves}
 use Rattle.proof_form.specs.Form.{map_free}
 use Rattle.rank_extract.specs.FreeMade.{part_result_slots}
 use Rattle.rank_extract.specs.FreeTop.{base_size, pruned_base}

@@ -2,7 +2,7 @@ use Rattle.std.proofs.Common.{ℕ, ◌<◌, get_or}
 use Rattle.std.specs.Prelude.{IsTrue}
 use Rattle.kripke_model.specs.declared.expressions.Formula.{Formula}
 use Rattle.kripke_model.specs.WellFormed.{ctl_of}
-use Rattle.single_states.specs.Formulas.{is_leaf}
+use Rattle.kripke_model.specs.Leaves.{is_leaf}
 use Rattle.single_states.proofs.steps.are_leaves.Given as goal
 
 -- the formulas so far are leaves

@@ -1,6 +1,6 @@
 use Rattle.std.proofs.Common.{◌≡◌, refl, sym, ◌∙◌, ap, subst, ◌+◌, ◌<◌, arith, [], ◌∷◌, ◌++◌, Bool, true, false, not, cond, length, map, take, get_or, inr}
 use Rattle.std.specs.Prelude.{is_some}
-use Rattle.std.specs.List.{list_any}
+use Rattle.std.specs.List.{list_any, AllZip}
 use Rattle.std.specs.Str.{bytes_eq}
 use Rattle.kripke_model.specs.Refusing.{Silent}
 use Rattle.kripke_model.proofs.FirstLemmas.{silent_refuse}
@@ -11,7 +11,7 @@ use Rattle.smv_instances.specs.Abstract as plain
 use Rattle.smv_instances.specs.Plain.{plain_module, plain_program}
 use Rattle.smv_instances.specs.Entries.{module_named}
 use Rattle.smv_instances.specs.Declarations.{second_module}
-use Rattle.smv_instances.specs.Tables.{Pairs, IsTable}
+use Rattle.smv_instances.specs.Tables.{IsTable}
 use Rattle.std.proofs.lemmas.List.{map-append}
 use Rattle.smv_instances.proofs.ListSteps.{map_map, take_map, split_map, take_whole}
 use Rattle.smv_instances.proofs.FirstSteps.{silent_push, first_push}
@@ -74,7 +74,7 @@ returns-clause-modules c =
     let i = c.loop-source.source-index in
     let whole : map plain_module (take i xs) ≡ plain_program c.args.program.now = ap (map plain_module) (take_whole xs i (omega (arith, ap length c.deref-source-items.ensures.value))) ∙ sym (map_map plain.module_of programs.module_of xs) in
     record {
-      each = subst (Pairs IsTable c.loop-source.tables.items) whole c.loop-source.invariant.tables;
+      each = subst (AllZip IsTable c.loop-source.tables.items) whole c.loop-source.invariant.tables;
       named = c.loop-source.invariant.names ∙ ap (map (λ (m : Module). m.name)) whole;
     }
 

@@ -6,7 +6,7 @@ use Rattle.smv_instances.specs.declared.rows.Row.{Row}
 use Rattle.smv_instances.specs.Program.{Module}
 use Rattle.smv_instances.specs.Instances.{Scope, is_process}
 use Rattle.smv_instances.specs.Walk.{AreRows, IsRow, IsStep, Stands}
-use Rattle.smv_instances.specs.Tables.{Pairs}
+use Rattle.std.specs.List.{AllZip}
 use Rattle.smv_instances.proofs.rows.main_alone.Goals as goal
 
 -- the one row is that of `main`
@@ -32,6 +32,6 @@ returns c = λ ms m stands.
     let processes : c.push-2.new.self.items ≡ 0 ∷ [] = c.in_ok-push-2.ensures.items ∙ ap (λ xs. xs ++ (0 ∷ [])) c.new-processes.ensures.items in
     record {
       rows = subst (λ rs. AreRows ms rs (Scope.Main m ∷ [])) (sym rows) (record { lengths = refl; each = alone ms m row (main_row ms m row stands refl refl refl) });
-      processes = subst (λ ns. Pairs (λ n c. slice_get (Scope.Main m ∷ []) n ≡ Some c) ns (Scope.Main m ∷ [])) (sym processes) (refl, tt);
+      processes = subst (λ ns. AllZip (λ n c. slice_get (Scope.Main m ∷ []) n ≡ Some c) ns (Scope.Main m ∷ [])) (sym processes) (refl, tt);
       counts = record { variables = refl; process = refl; instances = refl; few = omega arith; some = omega arith };
     }

@@ -1,6 +1,6 @@
 use Rattle.std.proofs.Common.{◌≡◌, refl, sym, ◌∙◌, ap, subst, ℕ, ◌+◌, ◌-◌, ◌<◌, arith, List, [], ◌∷◌, ◌++◌, length, map, flat_map, take, get_or, length-append, append_assoc, Some, inl, inr, ⊎_elim}
 use Rattle.std.specs.Prelude.{slice_get}
-use Rattle.std.specs.List.{filter_map}
+use Rattle.std.specs.List.{filter_map, AllZip}
 use Rattle.std.proofs.lemmas.Result.{err_from_is_err_and}
 use Rattle.std.proofs.lemmas.Option.{slice_get_within}
 use Rattle.std.proofs.lemmas.List.{length-map, take-append-le}
@@ -17,7 +17,6 @@ use Rattle.smv_instances.specs.Instances.{Scope, module_of, depth, child, childr
 use Rattle.smv_instances.specs.Declarations.{body, entries_of}
 use Rattle.smv_instances.specs.Counting.{IsCounts}
 use Rattle.smv_instances.specs.Numbered.{plain_entry}
-use Rattle.smv_instances.specs.Tables.{Pairs}
 use Rattle.smv_instances.specs.Walk.{AreRows, Begins, Enters, Goes, Leads, Visited, inside}
 use Rattle.smv_instances.proofs.ListSteps.{take_whole}
 use Rattle.smv_instances.proofs.TableLemmas.{get_or-map}
@@ -79,7 +78,7 @@ visit_body-returns t c = λ p before s begins.
     subst (λ xs. Visited c.args.modules.now p c.args.walk.now new before xs (length before)) (sym (instances_inside c.args.modules.now p c.args.left s))
     (visited_body c.args.modules.now p c.args.walk.now mid c.visit_inside.new.walk new before added s c.args.number (λ (row : Row). record row { children = c.in_ok-children.children })
     (λ k row u is. record { table = is.table; depth_is = is.depth_is; process_is = is.process_is; step = is.step })
-    (λ row. subst (λ xs. Pairs (λ n d. slice_get xs n ≡ Some d) c.in_ok-children.children.items (children p s)) (append_assoc before (s ∷ []) added) visited.1)
+    (λ row. subst (λ xs. AllZip (λ n d. slice_get xs n ≡ Some d) c.in_ok-children.children.items (children p s)) (append_assoc before (s ∷ []) added) visited.1)
     begins.numbered refl checked.1 visited.0 c.set_children.ensures refl refl)
 
 pub visit_child-visit_body-requires : goal.visit_child-visit_body-requires
@@ -107,7 +106,7 @@ visit_child-returns t c = λ p done s m enters.
 pub visit_inside-returns-then-left-eq0 : goal.visit_inside-returns-then-left-eq0
 visit_inside-returns-then-left-eq0 t c = λ p done s goes. (
   subst (λ xs. Visited c.args.modules.now p c.args.walk.now c.args.walk.now done xs (length done)) (sym (inside_none p c.args.left s c.if-left-eq0.true)) (visited_none c.args.modules.now p c.args.walk.now done goes.reaches),
-  subst (λ ks. Pairs (λ n d. slice_get (done ++ inside p c.args.left s) n ≡ Some d) ks (children p s)) (sym c.new-children.ensures.items) (subst (λ cs. Pairs (λ n d. slice_get (done ++ inside p c.args.left s) n ≡ Some d) [] cs) (sym (goes.bottom c.if-left-eq0.true)) tt),
+  subst (λ ks. AllZip (λ n d. slice_get (done ++ inside p c.args.left s) n ≡ Some d) ks (children p s)) (sym c.new-children.ensures.items) (subst (λ cs. AllZip (λ n d. slice_get (done ++ inside p c.args.left s) n ≡ Some d) [] cs) (sym (goes.bottom c.if-left-eq0.true)) tt),
 )
 
 pub visit_inside-index-requires : goal.visit_inside-index-requires
@@ -131,7 +130,7 @@ visit_inside-loop-entry-init t c = λ p done s goes.
     let table = table_at _ _ _ c.index-2.result.now row.table c.index-2.ensures in (
       ap (map plain_entry) c.deref-entry-items.ensures.value ∙ table.declares,
       visited_none c.args.modules.now p c.args.walk.now done goes.reaches,
-      subst (λ ks. Pairs (λ n d. slice_get (done ++ []) n ≡ Some d) ks []) (sym c.new-children.ensures.items) tt,
+      subst (λ ks. AllZip (λ n d. slice_get (done ++ []) n ≡ Some d) ks []) (sym c.new-children.ensures.items) tt,
     )
 
 -- an instance that s declares comes next
@@ -197,7 +196,7 @@ visit_inside-loop-entry-preserved t c =
           let children : w.push.new.self.items ≡ c.loop-entry.children.items ++ (w.in_ok-child.child ∷ []) = w.in_ok-push.ensures.items in (
             known.0,
             subst (λ (v : Walk). Visited c.args.modules.now p c.args.walk.now v done (flat_map (instances_from p n) (front_children p s (i + 1))) (length done)) (sym w.walk-is) (subst (λ ds. Visited c.args.modules.now p c.args.walk.now w.visit_child.new.walk done (flat_map (instances_from p n) ds) (length done)) all more.0),
-            rw w.children-is (subst (λ ks. Pairs (λ k d. slice_get (done ++ flat_map (instances_from p n) (front_children p s (i + 1))) k ≡ Some d) ks (front_children p s (i + 1))) (sym children) (subst (λ ds. Pairs (λ k d. slice_get (done ++ flat_map (instances_from p n) ds) k ≡ Some d) (c.loop-entry.children.items ++ (w.in_ok-child.child ∷ [])) ds) all more.1)),
+            rw w.children-is (subst (λ ks. AllZip (λ k d. slice_get (done ++ flat_map (instances_from p n) (front_children p s (i + 1))) k ≡ Some d) ks (front_children p s (i + 1))) (sym children) (subst (λ ds. AllZip (λ k d. slice_get (done ++ flat_map (instances_from p n) ds) k ≡ Some d) (c.loop-entry.children.items ++ (w.in_ok-child.child ∷ [])) ds) all more.1)),
           )
       | visit_inside-in_default w ↦ λ p done s goes.
           let known = c.loop-entry.invariant p done s goes in
@@ -211,7 +210,7 @@ visit_inside-loop-entry-preserved t c =
           let all : front_children p s i ≡ front_children p s (i + 1) = sym (front_same p s i e lt here none) in (
             known.0,
             subst (λ (v : Walk). Visited c.args.modules.now p c.args.walk.now v done (flat_map (instances_from p n) (front_children p s (i + 1))) (length done)) (sym w.walk-is) (subst (λ ds. Visited c.args.modules.now p c.args.walk.now c.loop-entry.walk done (flat_map (instances_from p n) ds) (length done)) all known.1),
-            rw w.children-is (subst (λ ds. Pairs (λ k d. slice_get (done ++ flat_map (instances_from p n) ds) k ≡ Some d) c.loop-entry.children.items ds) all known.2),
+            rw w.children-is (subst (λ ds. AllZip (λ k d. slice_get (done ++ flat_map (instances_from p n) ds) k ≡ Some d) c.loop-entry.children.items ds) all known.2),
           )
     ]
 
@@ -224,5 +223,5 @@ visit_inside-returns t c = λ p done s goes.
     let whole : front_children p s c.loop-entry.entry-index ≡ children p s = ap (filter_map (child p s)) (take_whole es c.loop-entry.entry-index (omega (arith, ap length known.0, length-map c.deref-entry-items.result.now plain_entry))) in
     let all : flat_map (instances_from p n) (front_children p s c.loop-entry.entry-index) ≡ inside p c.args.left s = ap (flat_map (instances_from p n)) whole ∙ sym (inside_at p c.args.left s left) in (
       subst (λ xs. Visited c.args.modules.now p c.args.walk.now c.loop-entry.walk done xs (length done)) all known.1,
-      subst (λ cs. Pairs (λ k d. slice_get (done ++ inside p c.args.left s) k ≡ Some d) c.loop-entry.children.items cs) whole (subst (λ xs. Pairs (λ k d. slice_get (done ++ xs) k ≡ Some d) c.loop-entry.children.items (front_children p s c.loop-entry.entry-index)) all known.2),
+      subst (λ cs. AllZip (λ k d. slice_get (done ++ inside p c.args.left s) k ≡ Some d) c.loop-entry.children.items cs) whole (subst (λ xs. AllZip (λ k d. slice_get (done ++ xs) k ≡ Some d) c.loop-entry.children.items (front_children p s c.loop-entry.entry-index)) all known.2),
     )

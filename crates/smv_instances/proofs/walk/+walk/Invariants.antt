@@ -4,7 +4,7 @@ use Rattle.smv_instances.specs.Program.{Program}
 use Rattle.smv_instances.specs.Entries.{entries}
 use Rattle.smv_instances.specs.Instances.{Scope, module_of, instances_from}
 use Rattle.smv_instances.specs.Numbered.{plain_entry}
-use Rattle.smv_instances.specs.Tables.{Pairs}
+use Rattle.std.specs.List.{AllZip}
 use Rattle.smv_instances.specs.Walk.{Goes, Visited}
 use Rattle.smv_instances.proofs.InsideLemmas.{front_children}
 use Rattle.smv_instances.proofs.walk.+walk.Given as goal
@@ -24,4 +24,4 @@ invariant-visit_inside-loop-entry l =
     (p : Program) (done : List Scope) (s : Scope) → Goes l.modules p l.fn.walk done s l.number l.left
     → (map plain_entry l.entry-items ≡ entries (module_of s))
     × Visited l.modules p l.fn.walk l.walk done (flat_map (instances_from p (l.left - 1)) (front_children p s l.entry-index)) (length done)
-    × Pairs (λ n c. slice_get (done ++ flat_map (instances_from p (l.left - 1)) (front_children p s l.entry-index)) n ≡ Some c) l.children.items (front_children p s l.entry-index)
+    × AllZip (λ n c. slice_get (done ++ flat_map (instances_from p (l.left - 1)) (front_children p s l.entry-index)) n ≡ Some c) l.children.items (front_children p s l.entry-index)

@@ -1,7 +1,7 @@
 use Rattle.std.proofs.Common.{◌+◌, sym, subst, arith, reverse, take}
 use Rattle.std.proofs.lemmas.Option.{slice_get_within}
 use Rattle.smv_instances.specs.Instances.{instances}
-use Rattle.smv_instances.specs.Tables.{Pairs}
+use Rattle.std.specs.List.{AllZip}
 use Rattle.smv_names.specs.Expands.{IsIndex}
 use Rattle.smv_names.specs.Known.{IsIndexValue}
 use Rattle.smv_names.proofs.CheckLemmas.{bracket_at, bad_there, value_more, values_all_there}
@@ -23,7 +23,7 @@ pub loop-bracket-preserved : goal.loop-bracket-preserved
 loop-bracket-preserved c = λ p bs targets numbers are.
     let k = c.loop-bracket.bracket-index in
     let b = bracket_at p c.args.indexes.now bs k c.bracket-item.result are c.loop-bracket-test.true c.bracket-item.is in
-    subst (λ z. Pairs (IsIndex p) (take (k + 1) (reverse bs)) z) (sym c.in_ok-push.ensures.items)
+    subst (λ z. AllZip (IsIndex p) (take (k + 1) (reverse bs)) z) (sym c.in_ok-push.ensures.items)
     (value_more p (reverse bs) k b.0 c.loop-bracket.values.items c.in-Some.value b.1 (subst (λ z. IsIndexValue p b.0 z) c.in-Some.is (c.in_ok-value.ensures p b.0 targets numbers b.2))
     (c.loop-bracket.invariant p bs targets numbers are))
 

@@ -1,5 +1,5 @@
 use Rattle.std.proofs.Common.{codes, ap, ◌∙◌, ◌++◌}
-use Rattle.trace_files.specs.Trace.{variable_name}
+use Rattle.kripke_model.specs.System.{variable_name}
 use Rattle.trace_files.proofs.FrontLemmas.{three_fronts}
 use Rattle.trace_files.proofs.fronts.behind_name.Goals as goal
 

@@ -2,7 +2,8 @@ use Rattle.std.proofs.Common.{◌+◌, ◌*◌, length, Ok, sym, subst, ap, ◌�
 use Rattle.bdd_nodes.specs.Store.{value_of}
 use Rattle.bdd_nodes.proofs.Tables.{Grows-same, value_of-false}
 use Rattle.value_tables.specs.Cells.{region_at, Reads, AreCells}
-use Rattle.value_tables.specs.Tables.{truths, logic, judged, connective}
+use Rattle.value_tables.specs.Tables.{truths, judged, connective}
+use Rattle.kripke_model.specs.Operators.{logic}
 use Rattle.value_tables.proofs.RegionLemmas.{AreCells-grows, has_region_at, keeps_join, Spends-then}
 use Rattle.value_tables.proofs.WeightLemmas.{Spends-more}
 use Rattle.value_tables.proofs.BinaryLemmas.{reads_grows, reads_as}

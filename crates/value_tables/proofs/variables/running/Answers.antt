@@ -2,9 +2,8 @@ use Rattle.std.proofs.Common.{◌≡◌, ◌&&◌, ◌||◌, Bool, not, true, fa
 use Rattle.bdd_nodes.specs.Store.{value_of}
 use Rattle.kripke_model.specs.declared.expressions.Value.TheVariants.{Number}
 use Rattle.kripke_model.specs.System.{value_in}
-use Rattle.kripke_model.specs.Evaluation.{same, truth, runs}
+use Rattle.kripke_model.specs.Evaluation.{same, truth, runs, truth_value}
 use Rattle.value_tables.specs.Cells.{shows, any_of, same_reading}
-use Rattle.value_tables.specs.Pick.{truth_of}
 use Rattle.value_tables.specs.States.{state_shown}
 use Rattle.value_tables.proofs.WeightLemmas.{Spends-more}
 use Rattle.value_tables.proofs.RegionLemmas.{keeps_join, keeps_engine, Spends-then}
@@ -41,7 +40,7 @@ returns-clause-table g c =
             each = λ k.
                 c.in_ok-add-2.ensures.shows bits k
                 ∙ (λ j. c.in_ok-add.ensures.shows bits k j || (same_reading k (Ok (c.truth-3.ensures j)) && rest j))
-                ∙ (λ j. (shows (λ r. value_of b r bits) (c.new-cells.ensures.items j) k || (same_reading k (Ok (c.truth-2.ensures j)) && still j)) || (same_reading k (Ok (truth_of false)) && not named))
+                ∙ (λ j. (shows (λ r. value_of b r bits) (c.new-cells.ensures.items j) k || (same_reading k (Ok (c.truth-2.ensures j)) && still j)) || (same_reading k (Ok (truth_value false)) && not named))
                 ∙ two_truths k named
                 ∙ (λ j. any_of (same_reading k) (Ok (truth (not (sym there j) || named))));
           };
