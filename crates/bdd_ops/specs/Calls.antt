@@ -9,13 +9,13 @@ use Rattle.bdd_ops.specs.Answer.{key_weight}
 use Rattle.bdd_ops.specs.Operation.{weight_of}
 use Rattle.bdd_ops.specs.Cost.{has_entry, IsCheap, IsFrugal}
 
-module _ (same : Key → Key → Bool) (most : ℕ) where
-  -- each key that came is no heavier than the operation
-  abbrev pub AddsWithin : Operation → Engine → Engine → Type 0
-  AddsWithin k old new
-      = (q : Key) → has_entry same (entries_of new) q ≡ true
-      → (has_entry same (entries_of old) q ≡ true) ⊎ (key_weight q ≤ weight_of k)
+-- each key that came is no heavier than the operation
+abbrev pub AddsWithin : (Key → Key → Bool) → Operation → Engine → Engine → Type 0
+AddsWithin same k old new
+    = (q : Key) → has_entry same (entries_of new) q ≡ true
+    → (has_entry same (entries_of old) q ≡ true) ⊎ (key_weight q ≤ weight_of k)
 
+module _ (same : Key → Key → Bool) (most : ℕ) where
   -- the steps of a call that succeeds are paid, where each entry found memory
   abbrev pub IsCheapCall : {A E : Type 0} → Result A E → Operation → Engine → Engine → ℕ → ℕ
       → Type 0

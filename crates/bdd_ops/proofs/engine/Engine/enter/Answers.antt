@@ -26,26 +26,30 @@ returns-in-Ok c =
     let e : Key × ℕ = (c.args.key, c.args.answer) in
     let here = fresh-comes s.memo.fresh m.fresh s.memo.cap e c.in-Ok.ensures.fresh c.in-Ok.ensures.full in
     record {
-      outcome = inl (found-new (entries_of s) (entries_in m) c.args.key c.args.answer (Contains-append_left m.fresh m.old e here) c.insert.ensures.others c.requires.absent, refl);
-      others = c.insert.ensures.others;
+      remembered = record {
+        outcome = inl (found-new (entries_of s) (entries_in m) c.args.key c.args.answer (Contains-append_left m.fresh m.old e here) c.insert.ensures.others c.requires.absent, refl);
+        others = c.insert.ensures.others;
+        kept = λ less k r held. Contains-permutation (e ∷ s.memo.fresh) m.fresh (k, r) (c.in-Ok.ensures.fresh less) (Contains-append_right (e ∷ []) s.memo.fresh (k, r) held);
+        refused = search rules;
+        store = refl;
+        lists = refl;
+        capacity = c.insert.ensures.capacity;
+      };
       fresh = λ same last less. c.in-Ok.ensures.fresh less;
-      kept = λ less k r held. Contains-permutation (e ∷ s.memo.fresh) m.fresh (k, r) (c.in-Ok.ensures.fresh less) (Contains-append_right (e ∷ []) s.memo.fresh (k, r) held);
-      refused = search rules;
-      store = refl;
-      lists = refl;
-      capacity = c.insert.ensures.capacity;
     }
 
 pub returns-in-Err : goal.returns-in-Err
 returns-in-Err c =
     let s = c.args.self.now in
     record {
-      outcome = inr (absent-within (same_key c.args.key) (entries_in c.insert.new.self) (entries_of s) c.in-Err.ensures.err_within c.requires.absent, search rules);
-      others = c.insert.ensures.others;
+      remembered = record {
+        outcome = inr (absent-within (same_key c.args.key) (entries_in c.insert.new.self) (entries_of s) c.in-Err.ensures.err_within c.requires.absent, search rules);
+        others = c.insert.ensures.others;
+        kept = search rules;
+        refused = search rules;
+        store = refl;
+        lists = refl;
+        capacity = c.insert.ensures.capacity;
+      };
       fresh = search rules;
-      kept = search rules;
-      refused = search rules;
-      store = refl;
-      lists = refl;
-      capacity = c.insert.ensures.capacity;
     }
