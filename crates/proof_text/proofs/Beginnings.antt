@@ -1,13 +1,12 @@
--- Beginnings of files, and where they stop.
-use Rattle.std.proofs.Common.{◌≡◌, inl, inr, ℕ, zero, suc, ◌+◌, ◌≤◌, List, [], ◌∷◌, ◌++◌, length, map, take, refl, ◌∙◌, ap, subst, arith, take-take, append_assoc}
+-- Beginnings of files.
+use Rattle.std.proofs.Common.{◌≡◌, ℕ, zero, suc, ◌≤◌, List, [], ◌∷◌, ◌++◌, length, map, take, refl, ◌∙◌, ap, subst, arith, append_assoc}
 use Rattle.std.specs.Prelude.{All}
 use Rattle.std.proofs.lemmas.List.Elements.{All-nil, All-cons, All-head, All-tail}
-use Rattle.std.proofs.lemmas.Bool.{cases_lt}
 use Rattle.kripke_model.specs.System.{System}
 use Rattle.proof_text.specs.Lines.{Line, line_text, file_lines}
 use Rattle.proof_text.specs.Spells.{IsGoodLine}
 use Rattle.bit_encode.specs.Code.{state_bits}
-use Rattle.proof_text.specs.Refuses.{MayBegin, Begins, StopsAt}
+use Rattle.proof_text.specs.Refuses.{MayBegin, Begins}
 
 -- the first lines of a list, with what they are and the others
 record Parted (P : Line → Type 0) (j : ℕ) (lines : List Line) : Type 0 where
@@ -43,22 +42,6 @@ begins_less m texts j (b, good) =
       },
       p.good good,
     )
-
--- a shorter beginning of a beginning
-begins_within : (m : System) (texts : List (List ℕ)) (i j : ℕ) → i ≤ j → Begins m (take j texts) → Begins m (take i texts)
-begins_within m texts i j less h = subst (Begins m) (take-take i j texts less) (begins_less m (take j texts) i h)
-
-pub stops_once : (m : System) (texts : List (List ℕ)) (j k : ℕ) → StopsAt m texts j → StopsAt m texts k → j ≡ k
-stops_once m texts j k s t = elim (cases_lt j k) [
-  | inl less ↦ absurd (s.after (begins_within m texts (j + 1) k (omega arith) t.before))
-  | inr above ↦ elim (cases_lt k j) [
-    | inl less ↦ absurd (t.after (begins_within m texts (k + 1) j (omega arith) s.before))
-    | inr same ↦ omega arith
-  ]
-]
-
-pub stops_never : (m : System) (texts : List (List ℕ)) (k : ℕ) → StopsAt m texts k → Begins m texts → ⊥
-stops_never m texts k s h = s.after (begins_less m texts (k + 1) h)
 
 -- ---- the header has no nodes
 

@@ -7,13 +7,15 @@ use Rattle.kripke_model.specs.System.{System, constraint_count, variable_name}
 use Rattle.proof_text.specs.File.{Block, File}
 use Rattle.proof_text.specs.Lines.{line_text, words_of, text_of, block_lines, file_lines}
 use Rattle.proof_text.specs.SmallNumbers.{HasSmallNumbers}
-use Rattle.proof_text.specs.Refuses.{HasLines, Begins, StopsBy, IsNodeLine, IsOrderLine, Refuses, AreOneFile}
-use Rattle.proof_text.specs.Spells.{IsBlock, Spells}
+use Rattle.proof_text.specs.Refuses.{Begins, CeasesBy, IsNodeLine, IsOrderLine, Refuses}
+use Rattle.proof_text.specs.Spells.{IsBlock, Spells, most_bytes}
 use Rattle.proof_text.specs.declared.refusals.TextRefusal.{TextRefusal}
 use Rattle.proof_text.specs.declared.refusals.TextRefusal.TheVariants.{BadLine, Truncated, BadOrder, BadNode, TooLong, Memory}
+use Rattle.text_lines.specs.Ceasing.{HasLines, AreReadOnce}
+use Rattle.text_lines.proofs.Ceasings.{ceases_never}
 use Rattle.text_lines.proofs.Cuts.{cut_unique, no_feed}
 use Rattle.text_lines.specs.WholeLines.{join_lines, IsOneLine}
-use Rattle.proof_text.proofs.Beginnings.{stops_never}
+use Rattle.proof_text.proofs.Beginnings.{begins_less}
 use Rattle.proof_text.proofs.PlainLines.{NamesArePlain, file_plain}
 use Rattle.proof_text.proofs.PlainNames.{plain_names}
 use Rattle.proof_text.proofs.PlainWords.{each_line, same_words}
@@ -23,7 +25,7 @@ use Rattle.proof_text.proofs.KnownStates.{states_known, order_known}
 
 module _ (m : System) (names : NamesArePlain m) (bytes : List ℕ) where
   -- the whole lines of a file's text
-  pub lines_are : (f : File) → Spells m f bytes → (texts : List (List ℕ)) (rest : List ℕ) → HasLines bytes texts rest → texts ≡ map line_text (file_lines m f)
+  pub lines_are : (f : File) → Spells m f bytes → (texts : List (List ℕ)) (rest : List ℕ) → HasLines most_bytes bytes texts rest → texts ≡ map line_text (file_lines m f)
   lines_are f s texts rest h =
       let one : All IsOneLine (map line_text (file_lines m f)) = each_line (file_lines m f) (file_plain m names f) in
       let e : join_lines texts ++ rest ≡ join_lines (map line_text (file_lines m f)) ++ [] = sym h.whole.cut ∙ s.text ∙ sym (append-nil (text_of (file_lines m f))) in
@@ -36,8 +38,8 @@ module _ (m : System) (names : NamesArePlain m) (bytes : List ℕ) where
     s.nodes,
   )
 
-  never_stops : (f : File) → Spells m f bytes → (l : ℕ) (P : List (List ℕ) → ℕ → Type 0) → StopsBy m bytes l P → ⊥
-  never_stops f s l P (texts, rest, k, has, stops, line, p) = stops_never m texts k stops (subst (Begins m) (sym (lines_are f s texts rest has)) (all_begin f s))
+  never_stops : (f : File) → Spells m f bytes → (l : ℕ) (P : List (List ℕ) → ℕ → Type 0) → CeasesBy m bytes l P → ⊥
+  never_stops f s l P (texts, rest, k, has, stops, line, p) = ceases_never (Begins m) (begins_less m) texts k stops (subst (Begins m) (sym (lines_are f s texts rest has)) (all_begin f s))
 
   pub not_both : (f : File) (r : TextRefusal) → Spells m f bytes → Refuses m bytes r → ⊥
   not_both f TooLong s h = omega (arith, h, s.short)
@@ -70,5 +72,5 @@ module _ (m : System) (flat : IsFlat m) (small : HasSmallNumbers m) where
       let blocks = blocks_known m few (states_known m flat small) 3 f.blocks g.blocks (all_fit f.blocks s.is_file.blocks) (all_fit g.blocks t.is_file.blocks) s.is_file.places t.is_file.places shown in
       (λ i. record { order = order i; blocks = blocks i })
 
-  pub are_one_file : (bytes : List ℕ) → AreOneFile m bytes
-  are_one_file bytes = record { one_file = one_file bytes; not_both = not_both m (plain_names m flat) bytes }
+  pub are_one_file : (bytes : List ℕ) → AreReadOnce (λ f. Spells m f bytes) (Refuses m bytes)
+  are_one_file bytes = record { one = one_file bytes; not_both = not_both m (plain_names m flat) bytes }

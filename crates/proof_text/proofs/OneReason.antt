@@ -1,5 +1,5 @@
 -- A text is refused for one reason at most, and is a file or refused.
-use Rattle.std.proofs.Common.{◌≡◌, inl, inr, ℕ, zero, suc, ◌+◌, ◌<◌, ◌≤◌, List, [], length, take, refl, sym, ◌∙◌, ap, subst, arith, length-take-le, take_all}
+use Rattle.std.proofs.Common.{◌≡◌, inl, inr, ℕ, ◌+◌, ◌<◌, ◌≤◌, List, [], length, take, refl, sym, ◌∙◌, ap, subst, arith, length-take-le}
 use Rattle.std.proofs.lemmas.List.Elements.{All-nil}
 use Rattle.std.proofs.lemmas.Bool.{cases_lt}
 use Rattle.kripke_model.specs.System.{System}
@@ -9,30 +9,29 @@ use Rattle.proof_text.specs.File.{File}
 use Rattle.proof_text.specs.Lines.{file_lines}
 use Rattle.proof_text.specs.Spells.{IsBlock, Spells, most_bytes, IsGoodLine}
 use Rattle.bit_encode.specs.Code.{state_bits}
-use Rattle.proof_text.specs.Refuses.{HasLines, Begins, StopsAt, StopsBy, IsNodeLine, IsOrderLine, IsCutOff, Refuses}
+use Rattle.proof_text.specs.Refuses.{Begins, CeasesBy, IsNodeLine, IsOrderLine, Refuses}
 use Rattle.proof_text.specs.declared.refusals.TextRefusal.{TextRefusal}
 use Rattle.proof_text.specs.declared.refusals.TextRefusal.TheVariants.{BadLine, Truncated, BadOrder, BadNode, TooLong, Memory}
 use Rattle.text_lines.specs.WholeLines.{lines_in, rest_in}
-use Rattle.text_lines.proofs.Cuts.{cut_unique, is_cut}
-use Rattle.proof_text.proofs.Beginnings.{stops_once, stops_never, header_is_good}
+use Rattle.text_lines.specs.Ceasing.{HasLines, CeasesAt, IsCutOff}
+use Rattle.text_lines.proofs.Ceasings.{same_lines, ceases_once, ceases_never, begins_all}
+use Rattle.text_lines.proofs.Cuts.{is_cut}
+use Rattle.proof_text.proofs.Beginnings.{begins_less, header_is_good}
 
 module _ (m : System) (bytes : List ℕ) where
-  same_lines : (ts us : List (List ℕ)) (r q : List ℕ) → HasLines bytes ts r → HasLines bytes us q → ts ≡ us
-  same_lines ts us r q h k = (cut_unique ts us r q h.whole.each k.whole.each h.whole.last k.whole.last (sym h.whole.cut ∙ k.whole.cut)).0
-
   -- two places where the text stops are one, and what is said of it is said of the same lines
   record SamePlace (l n : ℕ) (P Q : List (List ℕ) → ℕ → Type 0) : Type 0 where
     pub line : l ≡ n
     pub texts : List (List ℕ)
     pub place : ℕ
-    pub stops : StopsAt m texts place
+    pub stops : CeasesAt (Begins m) texts place
     pub first : P texts place
     pub other : Q texts place
 
-  same_place : (l n : ℕ) (P Q : List (List ℕ) → ℕ → Type 0) → StopsBy m bytes l P → StopsBy m bytes n Q → SamePlace l n P Q
+  same_place : (l n : ℕ) (P Q : List (List ℕ) → ℕ → Type 0) → CeasesBy m bytes l P → CeasesBy m bytes n Q → SamePlace l n P Q
   same_place l n P Q (ts, r, k, has, stops, line, p) (us, q, j, has', stops', line', p') =
-      let e : ts ≡ us = same_lines ts us r q has has' in
-      let f : k ≡ j = stops_once m us k j (subst (λ xs. StopsAt m xs k) e stops) stops' in
+      let e : ts ≡ us = same_lines most_bytes bytes ts us r q has has' in
+      let f : k ≡ j = ceases_once (Begins m) (begins_less m) us k j (subst (λ xs. CeasesAt (Begins m) xs k) e stops) stops' in
       record {
         line = line ∙ ap (λ i. i + 1) f ∙ sym line';
         texts = us;
@@ -43,15 +42,15 @@ module _ (m : System) (bytes : List ℕ) where
       }
 
   -- a line of the header is none of a node
-  node_apart : (texts : List (List ℕ)) (k : ℕ) → StopsAt m texts k → IsOrderLine texts k → IsNodeLine m texts k → ⊥
+  node_apart : (texts : List (List ℕ)) (k : ℕ) → CeasesAt (Begins m) texts k → IsOrderLine texts k → IsNodeLine m texts k → ⊥
   node_apart texts k stops order node = stops.after (header_is_good m (take (k + 1) texts) (omega (arith, length-take-le (k + 1) texts (omega (arith, stops.within)), order.0)) node)
 
-  short_of : (l : ℕ) (P : List (List ℕ) → ℕ → Type 0) → StopsBy m bytes l P → length bytes ≤ most_bytes
+  short_of : (l : ℕ) (P : List (List ℕ) → ℕ → Type 0) → CeasesBy m bytes l P → length bytes ≤ most_bytes
   short_of l P (ts, r, k, has, stops, line, p) = has.short
 
-  stop_or_end : {X : Type 0} (l n : ℕ) (P : List (List ℕ) → ℕ → Type 0) → StopsBy m bytes l P → IsCutOff m bytes n → X
+  stop_or_end : {X : Type 0} (l n : ℕ) (P : List (List ℕ) → ℕ → Type 0) → CeasesBy m bytes l P → IsCutOff (Begins m) (λ f. Spells m f bytes) most_bytes bytes n → X
   stop_or_end l n P (ts, r, k, has, stops, line, p) c =
-      absurd (stops_never m c.texts k (subst (λ xs. StopsAt m xs k) (same_lines ts c.texts r c.rest has c.has) stops) c.begins)
+      absurd (ceases_never (Begins m) (begins_less m) c.texts k (subst (λ xs. CeasesAt (Begins m) xs k) (same_lines most_bytes bytes ts c.texts r c.rest has c.has) stops) c.begins)
 
   too_long : {X : Type 0} → most_bytes < length bytes → length bytes ≤ most_bytes → X
   too_long h k = absurd (omega arith)
@@ -67,7 +66,7 @@ module _ (m : System) (bytes : List ℕ) where
   one_reason TooLong (BadLine n) h k = too_long h (short_of n Other k)
   one_reason (Truncated l) TooLong h k = too_long k h.has.short
   one_reason (Truncated l) (Truncated n) h k =
-      let e : h.texts ≡ k.texts = same_lines h.texts k.texts h.rest k.rest h.has k.has in
+      let e : h.texts ≡ k.texts = same_lines most_bytes bytes h.texts k.texts h.rest k.rest h.has k.has in
       ap Truncated (h.line ∙ ap (λ (ts : List (List ℕ)). length ts + 1) e ∙ sym k.line)
   one_reason (Truncated l) BadOrder h (n, k) = stop_or_end n l IsOrderLine k h
   one_reason (Truncated l) (BadNode n) h k = stop_or_end n l (IsNodeLine m) k h
@@ -109,7 +108,7 @@ module _ (m : System) (bytes : List ℕ) where
       )
 
   -- a text that stops is refused
-  stops_refused : (ts : List (List ℕ)) (r : List ℕ) (k : ℕ) → HasLines bytes ts r → StopsAt m ts k → ((q : TextRefusal) → Refuses m bytes q → ⊥) → ⊥
+  stops_refused : (ts : List (List ℕ)) (r : List ℕ) (k : ℕ) → HasLines most_bytes bytes ts r → CeasesAt (Begins m) ts k → ((q : TextRefusal) → Refuses m bytes q → ⊥) → ⊥
   stops_refused ts r k has stops none = none (BadLine (k + 1)) (
     ts,
     r,
@@ -123,16 +122,11 @@ module _ (m : System) (bytes : List ℕ) where
     ),
   )
 
-  begins_all : (ts : List (List ℕ)) (r : List ℕ) → HasLines bytes ts r → ((q : TextRefusal) → Refuses m bytes q → ⊥) → (k : ℕ) → k ≤ length ts → (Begins m (take k ts) → ⊥) → ⊥
-  begins_all ts r has none zero within not = not begins_empty
-  begins_all ts r has none (suc k) within not = begins_all ts r has none k (omega arith) (λ before.
-      stops_refused ts r k has (record { within = omega arith; before = before; after = λ h. let e : k + 1 ≡ suc k = omega arith in not (subst (λ n. Begins m (take n ts)) e h) }) none)
-
   pub not_neither : ((f : File) → Spells m f bytes → ⊥) → ((q : TextRefusal) → Refuses m bytes q → ⊥) → ⊥
   not_neither no_file none = elim (cases_lt most_bytes (length bytes)) [
     | inl long ↦ none TooLong long
     | inr short ↦
-        let has : HasLines bytes (lines_in bytes) (rest_in bytes) = record { short = short; whole = is_cut bytes } in
-        begins_all (lines_in bytes) (rest_in bytes) has none (length (lines_in bytes)) (omega arith) (λ h.
-        none (Truncated (length (lines_in bytes) + 1)) (record { texts = lines_in bytes; rest = rest_in bytes; has = has; begins = subst (Begins m) (take_all (length (lines_in bytes)) (lines_in bytes) (omega arith)) h; none = no_file; line = refl }))
+        let has : HasLines most_bytes bytes (lines_in bytes) (rest_in bytes) = record { short = short; whole = is_cut bytes } in
+        begins_all (Begins m) begins_empty (lines_in bytes) (λ k stops. stops_refused (lines_in bytes) (rest_in bytes) k has stops none)
+        (λ h. none (Truncated (length (lines_in bytes) + 1)) (record { texts = lines_in bytes; rest = rest_in bytes; has = has; begins = h; none = no_file; line = refl }))
   ]

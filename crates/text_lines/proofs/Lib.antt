@@ -7,6 +7,7 @@ pub mod Many
 pub mod FirstLines
 pub mod UntilLast
 pub mod Cuts
+pub mod Ceasings
 pub mod Spaced
 pub mod Numerals
 pub mod Places

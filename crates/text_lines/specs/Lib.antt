@@ -3,6 +3,7 @@ pub mod Found
 pub mod WholeText
 pub mod WholeLines
 pub mod Cursor
+pub mod Ceasing
 pub mod Halves
 pub mod Words
 pub mod Number

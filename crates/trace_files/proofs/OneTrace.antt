@@ -8,12 +8,12 @@ use Rattle.kripke_model.specs.Path.{Lasso}
 use Rattle.kripke_model.specs.Step.{IsState}
 use Rattle.kripke_model.specs.System.{System, State}
 use Rattle.text_lines.specs.WholeLines.{join_lines, IsCut}
+use Rattle.text_lines.specs.Ceasing.{AreReadOnce}
 use Rattle.text_lines.proofs.Cuts.{cut_unique, no_feed}
 use Rattle.text_lines.proofs.Lists.{same_first, same_rest}
 use Rattle.trace_files.specs.Trace.{Trace, members, spec_line, value_lines, state_line, state_lines, states_lines, loop_line, lasso_lines, trace_lines}
 use Rattle.trace_files.specs.Spells.{IsLasso, IsTrace, Spells, most_bytes}
 use Rattle.trace_files.specs.Refuses.{Refuses}
-use Rattle.trace_files.specs.Laws.{AreOneTrace}
 use Rattle.trace_files.specs.declared.refusals.TraceRefusal.{TraceRefusal}
 use Rattle.trace_files.specs.declared.refusals.TraceRefusal.TheVariants.{BadLine, Truncated, TooLong, Memory}
 use Rattle.trace_files.proofs.Beginnings.{begins_less}
@@ -110,5 +110,5 @@ module _ (m : System) (prints : PrintsApart m) where
       k.stops.after (begins_less m k.texts (k.place + 1) (inr (record { trace = t; is_trace = h.is_trace; rest = []; lines = e ∙ sym (append-nil k.texts) })))
   not_both bytes t Memory h k = k
 
-  pub are_one_trace : (bytes : List ℕ) → AreOneTrace m bytes
-  are_one_trace bytes = record { one_trace = one_trace bytes; not_both = not_both bytes }
+  pub are_one_trace : (bytes : List ℕ) → AreReadOnce (λ t. Spells m t bytes) (Refuses m bytes)
+  are_one_trace bytes = record { one = one_trace bytes; not_both = not_both bytes }

@@ -13,7 +13,8 @@ use Rattle.text_lines.specs.declared.faults.Fault.TheVariants.{Stops, Breaks, En
 use Rattle.text_lines.proofs.Cuts.{is_cut, cut_is}
 use Rattle.text_lines.proofs.FoundText.{none_at_all}
 use Rattle.trace_files.specs.Parts.{Finds}
-use Rattle.trace_files.specs.Refuses.{HasLines, Opens, Begins, StopsAt, IsBadLine, Refuses}
+use Rattle.text_lines.specs.Ceasing.{HasLines, CeasesAt}
+use Rattle.trace_files.specs.Refuses.{Opens, Begins, IsBadLine, Refuses}
 use Rattle.trace_files.specs.Spells.{IsTrace, Spells, most_bytes}
 use Rattle.trace_files.specs.Told.{IsNextRefused, TellsFault}
 use Rattle.trace_files.specs.Trace.{Trace, members, states_lines, loop_line, trace_lines}
@@ -44,7 +45,7 @@ module _ (m : System) where
   some_taken : (texts : List (List ℕ)) (k : ℕ) → k < length texts → take (k + 1) texts ≡ [] → ⊥
   some_taken texts k less e = omega (arith, less, length-take-le (k + 1) texts (omega (arith, less)), ap length e)
 
-  stops_so : (texts : List (List ℕ)) (k : ℕ) → format.StopsAt text Good (IsTrace m) (trace_lines m) texts k → StopsAt m texts k
+  stops_so : (texts : List (List ℕ)) (k : ℕ) → format.StopsAt text Good (IsTrace m) (trace_lines m) texts k → CeasesAt (Begins m) texts k
   stops_so texts k s = record { within = s.within; before = inr (opens (take k texts) s.before); after = after }
     where
       after : Begins m (take (k + 1) texts) → ⊥
@@ -58,10 +59,10 @@ module _ (m : System) where
     pub from_start : (A : Place → Type 0) (p : Place) → p.left ≡ bytes → p.line ≡ 1 → A p → A start
     from_start A p left at h = subst A (λ i. record { left = left i; line = at i }) h
 
-    has : HasLines bytes (lines_in bytes) (rest_in bytes)
+    has : HasLines most_bytes bytes (lines_in bytes) (rest_in bytes)
     has = record { short = short; whole = is_cut bytes }
 
-    bad_line : (k l : ℕ) → l ≡ k + 1 → StopsAt m (lines_in bytes) k → IsBadLine m bytes l
+    bad_line : (k l : ℕ) → l ≡ k + 1 → CeasesAt (Begins m) (lines_in bytes) k → IsBadLine m bytes l
     bad_line k l at stops = record { texts = lines_in bytes; rest = rest_in bytes; place = k; has = has; stops = stops; line = at }
 
     -- ---- a model without specifications has no trace
@@ -125,7 +126,7 @@ module _ (m : System) where
         front_opens = record { trace = t; is_trace = found.finds.read.fits; rest = []; lines = sym (append-nil (trace_lines m t)) }
 
         -- a line stands behind it
-        stops_behind : (u : List ℕ) (us : List (List ℕ)) → lines_in bytes ≡ trace_lines m t ++ (u ∷ us) → StopsAt m (lines_in bytes) (length (trace_lines m t))
+        stops_behind : (u : List ℕ) (us : List (List ℕ)) → lines_in bytes ≡ trace_lines m t ++ (u ∷ us) → CeasesAt (Begins m) (lines_in bytes) (length (trace_lines m t))
         stops_behind u us are = record {
           within = omega (arith, ap length are, length-append (trace_lines m t) (u ∷ us));
           before = inr (subst (Opens m) (sym (ap (take (length (trace_lines m t))) are ∙ take-append_seam (trace_lines m t) (u ∷ us))) front_opens);
@@ -148,7 +149,7 @@ module _ (m : System) where
         pub left_refused : (last.left ≡ [] → ⊥) → (r : TraceRefusal) → IsNextRefused last r → Refuses m bytes r
         left_refused more (BadLine l) h = bad_line (length (trace_lines m t)) l (omega (arith, h.0, found.finds.line)) (go (lines_in last.left) refl h.1)
           where
-            go : (ls : List (List ℕ)) → lines_in last.left ≡ ls → (lines_in last.left ≡ [] → ⊥) → StopsAt m (lines_in bytes) (length (trace_lines m t))
+            go : (ls : List (List ℕ)) → lines_in last.left ≡ ls → (lines_in last.left ≡ [] → ⊥) → CeasesAt (Begins m) (lines_in bytes) (length (trace_lines m t))
             go [] is not = absurd (not is)
             go (u ∷ us) is not = stops_behind u us (lines_are ∙ ap (λ ls. trace_lines m t ++ ls) is)
         left_refused more (Truncated l) h =

@@ -1,7 +1,6 @@
 pub mod Trace
 pub mod Spells
 pub mod Refuses
-pub mod Laws
 pub mod Small
 pub mod Parts
 pub mod Told

@@ -1,16 +1,11 @@
 -- Why bytes are no trace file: at which line they cease to be the beginning of one.
-use Rattle.std.specs.Prelude.{◌≡◌, ◌⊎◌, ◌<◌, ◌≤◌, ℕ, ◌+◌, List, [], ◌++◌, length, take}
+use Rattle.std.specs.Prelude.{◌≡◌, ◌⊎◌, ◌<◌, ℕ, ◌+◌, List, [], ◌++◌, length}
 use Rattle.kripke_model.specs.System.{System}
-use Rattle.text_lines.specs.WholeLines.{IsCut}
+use Rattle.text_lines.specs.Ceasing.{HasLines, CeasesAt, IsCutOff}
 use Rattle.trace_files.specs.Trace.{Trace, trace_lines}
 use Rattle.trace_files.specs.Spells.{IsTrace, Spells, most_bytes}
 use Rattle.trace_files.specs.declared.refusals.TraceRefusal.{TraceRefusal}
 use Rattle.trace_files.specs.declared.refusals.TraceRefusal.TheVariants.{BadLine, Truncated, TooLong, Memory}
-
--- the text isn't too long, and has these whole lines, and behind them a rest without a line feed
-pub record HasLines (bytes : List ℕ) (texts : List (List ℕ)) (rest : List ℕ) : Type 0 where
-  pub short : length bytes ≤ most_bytes
-  pub whole : IsCut bytes texts rest
 
 -- some trace has these lines in front
 pub record Opens (m : System) (texts : List (List ℕ)) : Type 0 where
@@ -23,33 +18,18 @@ pub record Opens (m : System) (texts : List (List ℕ)) : Type 0 where
 abbrev pub Begins : System → List (List ℕ) → Type 0
 Begins m texts = (texts ≡ []) ⊎ Opens m texts
 
--- the first k lines begin a trace, and with the next one they begin none
-pub record StopsAt (m : System) (texts : List (List ℕ)) (k : ℕ) : Type 0 where
-  pub within : k < length texts
-  pub before : Begins m (take k texts)
-  pub after : Begins m (take (k + 1) texts) → ⊥
-
--- the text has lines that stop to begin a trace at line l, counted from 1
+-- the text has lines that cease to begin a trace at line l, counted from 1
 pub record IsBadLine (m : System) (bytes : List ℕ) (l : ℕ) : Type 0 where
   pub texts : List (List ℕ)
   pub rest : List ℕ
   pub place : ℕ
-  pub has : HasLines bytes texts rest
-  pub stops : StopsAt m texts place
+  pub has : HasLines most_bytes bytes texts rest
+  pub stops : CeasesAt (Begins m) texts place
   pub line : l ≡ place + 1
-
--- all whole lines begin a trace, but the text is none: it ends too early, or bytes are left
-pub record IsCutOff (m : System) (bytes : List ℕ) (l : ℕ) : Type 0 where
-  pub texts : List (List ℕ)
-  pub rest : List ℕ
-  pub has : HasLines bytes texts rest
-  pub begins : Begins m texts
-  pub none : (t : Trace) → Spells m t bytes → ⊥
-  pub line : l ≡ length texts + 1
 
 -- The refusal applies to the bytes. Lines are counted from 1.
 abbrev pub Refuses : System → List ℕ → TraceRefusal → Type 0
 Refuses m bytes TooLong = most_bytes < length bytes
-Refuses m bytes (Truncated l) = IsCutOff m bytes l
+Refuses m bytes (Truncated l) = IsCutOff (Begins m) (λ t. Spells m t bytes) most_bytes bytes l
 Refuses m bytes (BadLine l) = IsBadLine m bytes l
 Refuses m bytes Memory = ⊥
