@@ -1,11 +1,10 @@
 -- Texts of the lines of a certificate, piece by piece.
 use Rattle.std.proofs.Common.{◌≡◌, ◌∙◌, ℕ, List, [], ◌∷◌, ◌++◌, map, length, sym, ap, append_assoc, codes}
 use Rattle.bdd_nodes.specs.declared.triple.Triple.{Triple}
-use Rattle.proof_text.specs.Lines.{Line, Words, Node, text_of, node_lines, counted}
+use Rattle.proof_text.specs.Lines.{Line, Words, Node, text_of, node_lines, counted, nodes_lines}
 use Rattle.proof_text.proofs.WrittenLines.{node_texts, text-append}
 use Rattle.strong_fair.specs.Form.{Certificate, Row}
 use Rattle.command_replies.specs.Strong.{certificate_lines, row_line, rows_lines}
-use Rattle.proof_text.specs.BlockReading.{nodes_lines}
 
 -- a text, and lines behind others
 pub behind : (xs ys : List Line) (t t1 t2 : List ℕ) → t1 ≡ t ++ text_of xs → t2 ≡ t1 ++ text_of ys

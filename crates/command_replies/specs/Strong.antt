@@ -11,10 +11,9 @@ use Rattle.kripke_model.specs.Path.{Lasso}
 use Rattle.kripke_model.specs.System.{System}
 use Rattle.path_laws.specs.StateSet.{StateSet}
 use Rattle.proof_text.specs.Lines as lines
-use Rattle.proof_text.specs.Lines.{Line, Words, counted}
+use Rattle.proof_text.specs.Lines.{Line, Words, counted, nodes_lines}
 use Rattle.proof_text.specs.Meaning.{node_set}
 use Rattle.proof_text.specs.Written.{own_order}
-use Rattle.proof_text.specs.BlockReading.{nodes_lines}
 use Rattle.smv_texts.specs.Evidence.{IsMet}
 use Rattle.smv_texts.specs.Replies.{Reply, text_of}
 use Rattle.smv_texts.specs.Report.{lasso_lines}

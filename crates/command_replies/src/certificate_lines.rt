@@ -1,10 +1,9 @@
 // The lines of a certificate over the nodes of a list.
 ghost use Rattle.std.specs.Prelude.{◌≡◌, ◌++◌, ◌∷◌, [], OnOk, codes, decimal, map};
 ghost use Rattle.proof_text.specs.Lines as lines;
-ghost use Rattle.proof_text.specs.Lines.{text_of};
+ghost use Rattle.proof_text.specs.Lines.{text_of, nodes_lines};
 ghost use Rattle.command_replies.specs.SeenRows.{certificate_of, seen_row};
 ghost use Rattle.command_replies.specs.Strong.{certificate_lines, row_line, rows_lines};
-ghost use Rattle.proof_text.specs.BlockReading.{nodes_lines};
 
 use crate::certificate::{NodeCertificate, NodeRow};
 use bdd_nodes::Triple;

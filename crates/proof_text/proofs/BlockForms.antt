@@ -16,10 +16,10 @@ use Rattle.kripke_model.specs.declared.expressions.Formula.{Formula}
 use Rattle.kripke_model.specs.Term.{has_path_operator}
 use Rattle.proof_form.specs.Form.{Proof}
 use Rattle.proof_form.specs.Shape.{spec_formula}
-use Rattle.proof_text.specs.BlockReading.{IsSmallHead, claimed_words, nodes_lines, FitsRest, rest_lines, FitsBehindHead, FindsOver, FindsFirst}
+use Rattle.proof_text.specs.BlockReading.{IsSmallHead, claimed_words, FitsRest, rest_lines, FitsBehindHead, FindsOver, FindsFirst}
 use Rattle.proof_text.specs.File.{Block}
 use Rattle.proof_text.specs.FileParts.{FitsHead, head_line, FitsNode, one_node, FitsNodes, FitsProof, FitsNextBlock}
-use Rattle.proof_text.specs.Lines.{Line, Words, Node, line_text, claim_word, counted, node_lines, proof_lines, block_lines}
+use Rattle.proof_text.specs.Lines.{Line, Words, Node, line_text, claim_word, counted, node_lines, proof_lines, block_lines, nodes_lines}
 use Rattle.proof_text.specs.SetParts.{FindsNext}
 use Rattle.proof_text.specs.Spells.{IsGoodLine}
 use Rattle.proof_text.specs.declared.heads.Head.{Head}

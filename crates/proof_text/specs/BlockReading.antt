@@ -1,5 +1,5 @@
 -- The parts of a block behind its first line, and what a reader finds where a block may begin.
-use Rattle.std.specs.Prelude.{◌≡◌, ◌⊎◌, ℕ, ◌+◌, ◌≤◌, Bool, List, [], ◌∷◌, ◌++◌, length, codes, decimal, IsSomeAnd, Result, Ok, Err}
+use Rattle.std.specs.Prelude.{◌≡◌, ◌⊎◌, ℕ, ◌+◌, ◌≤◌, Bool, List, [], ◌∷◌, ◌++◌, length, decimal, IsSomeAnd, Result, Ok, Err}
 use Rattle.std.specs.Global.{Vec}
 use Rattle.bdd_nodes.specs.declared.triple.Triple.{Triple}
 use Rattle.kripke_model.specs.Ctl.{Ctl}
@@ -7,7 +7,7 @@ use Rattle.kripke_model.specs.System.{System}
 use Rattle.proof_form.specs.Form.{Proof}
 use Rattle.proof_form.specs.Shape.{spec_formula}
 use Rattle.proof_text.specs.FileParts.{FitsNodes, FitsProof}
-use Rattle.proof_text.specs.Lines.{Line, line_text, claim_word, counted, node_lines, proof_lines}
+use Rattle.proof_text.specs.Lines.{Line, line_text, claim_word, proof_lines, nodes_lines}
 use Rattle.proof_text.specs.SetParts.{StartsNone}
 use Rattle.proof_text.specs.Spells.{IsGoodLine, greatest_number}
 use Rattle.proof_text.specs.declared.heads.Head.{Head}
@@ -27,9 +27,6 @@ abbrev pub claimed_words : Head → List (List ℕ)
 claimed_words h = decimal h.spec ∷ claim_word h.claim ∷ []
 
 -- ---- nodes behind their number, and a proof over them
-
-abbrev pub nodes_lines : List Triple → List Line
-nodes_lines nodes = counted (codes "nodes") (length nodes) ∷ node_lines [] nodes
 
 abbrev pub FitsRest : System → Ctl → Bool → List Triple × Proof ℕ → Type 0
 FitsRest m f claim p = FitsNodes p.0 × FitsProof m f claim (length p.0 + 2) p.1

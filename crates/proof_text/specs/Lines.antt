@@ -116,6 +116,10 @@ abbrev pub node_lines : List Triple → List Triple → List Line
 node_lines earlier [] = []
 node_lines earlier (t ∷ nodes) = Node earlier t ∷ node_lines (earlier ++ t ∷ []) nodes
 
+-- nodes behind their number
+abbrev pub nodes_lines : List Triple → List Line
+nodes_lines nodes = counted (codes "nodes") (length nodes) ∷ node_lines [] nodes
+
 -- the lines of a proof, each of which has something to show
 abbrev pub proof_lines : System → Proof ℕ → List Line
 proof_lines m p

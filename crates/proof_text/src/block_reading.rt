@@ -3,7 +3,8 @@
 ghost use Rattle.std.specs.Prelude.{◌≡◌, ◌↔◌, ◌∷◌, ◌+◌, ◌≤◌, ◌<◌, [], ℕ, All, AllPairs, IsSome, Some, codes, flat_map, length};
 ghost use Rattle.kripke_model.specs.WellFormed.{ctl_of};
 ghost use Rattle.proof_form.specs.Shape.{spec_formula};
-ghost use Rattle.proof_text.specs.BlockReading.{FindsFirst, FindsOver, FitsRest, in_rest, nodes_lines, rest_lines};
+ghost use Rattle.proof_text.specs.BlockReading.{FindsFirst, FindsOver, FitsRest, in_rest, rest_lines};
+ghost use Rattle.proof_text.specs.Lines.{nodes_lines};
 ghost use Rattle.proof_text.specs.File.{Block as Plain};
 ghost use Rattle.proof_text.specs.FileParts.{FitsNextBlock, FitsNodes};
 ghost use Rattle.proof_text.specs.Lines as lines;
