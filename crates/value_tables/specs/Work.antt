@@ -1,14 +1,23 @@
 -- What an engine keeps and how much it grows.
-use Rattle.std.specs.Prelude.{ℕ, ◌+◌, ◌*◌, ◌^◌, ◌≤◌, length}
+use Rattle.std.specs.Prelude.{ℕ, ◌+◌, ◌*◌, ◌^◌, ◌≤◌, length, Result, IfErr}
 use Rattle.bdd_nodes.specs.declared.store.Store.{Store}
 use Rattle.bdd_nodes.specs.Store.{levels_of, triples}
+use Rattle.bdd_nodes.specs.declared.refusal.StoreRefusal.{StoreRefusal}
+use Rattle.bdd_nodes.specs.Refusal.{IsRefusalOf}
 use Rattle.bdd_ops.specs.declared.engine.Engine.{Engine}
+use Rattle.bdd_ops.specs.Engine.{store_of}
 use Rattle.bdd_ops.specs.Kept.{KeepsEngine}
 
 -- what work on an engine keeps, and the steps never fall
 pub record Keeps (old new : Engine) (before after : ℕ) : Type 0 where
   pub engine : KeepsEngine old new
   pub steps : before ≤ after
+
+-- a call that works on an engine keeps this of it, and a refusal is one of its store
+pub record IsWork {T : Type 0} (old new : Engine) (before after : ℕ)
+    (result : Result T StoreRefusal) : Type 0 where
+  pub keeps : Keeps old new before after
+  pub held : IfErr result (IsRefusalOf (store_of new))
 
 -- the table grows by at most k times as many triples as one operation may add
 pub record Spends (k : ℕ) (old new : Store) : Type 0 where

@@ -1,12 +1,11 @@
 //! The operators of two operands.
 
-ghost use Rattle.std.specs.Prelude.{◌≤◌, ◌+◌, ◌*◌, List, Bool, IfOk, IfErr, length};
+ghost use Rattle.std.specs.Prelude.{◌≤◌, ◌+◌, ◌*◌, List, Bool, IfOk, length};
 ghost use Rattle.bdd_nodes.specs.Store.{value_of};
-ghost use Rattle.bdd_nodes.specs.Refusal.{IsRefusalOf};
 ghost use Rattle.bdd_ops.specs.Engine.{store_of};
 ghost use Rattle.kripke_model.specs.declared.expressions.Value.{Value as Values};
 ghost use Rattle.kripke_model.specs.Evaluation.{Checked};
-ghost use Rattle.value_tables.specs.Work.{Keeps, Spends};
+ghost use Rattle.value_tables.specs.Work.{IsWork, Spends};
 ghost use Rattle.value_tables.specs.Weights.{AreOperands};
 ghost use Rattle.value_tables.specs.Cells.{Reads, AreCells};
 ghost use Rattle.value_tables.specs.Operators.{ReadsAs, IsSingleAs, SpendsFor};
@@ -52,8 +51,7 @@ fn tested_pair<L: Ledger>(
         → IsOperand (λ r. value_of (store_of engine.old) r bits) right.now.cells.items
         right.now.single d → Reads (λ r. value_of (store_of engine.new) r bits) p.right.items
         (one_tested test d)) }
-    ensures held { IfErr result (IsRefusalOf (store_of engine.new)) }
-    ensures keeps { Keeps engine.old engine.new steps.old steps.new }
+    ensures work { IsWork engine.old engine.new steps.old steps.new result }
     ensures few_left { IfOk result (λ p. length p.left.items ≤ length left.now.cells.items + 1) }
     ensures few_right { IfOk result (λ p. length p.right.items ≤ length right.now.cells.items + 1) }
     ensures spends { Spends (5 * length left.now.cells.items + 5 * length right.now.cells.items + 4)
@@ -79,8 +77,7 @@ fn union_of<L: Ledger>(
     ensures reads { IfOk result (ReadsAs op left.now right.now (store_of engine.old)
         (store_of engine.new)) }
     ensures single { IfOk result (IsSingleAs op) }
-    ensures held { IfErr result (IsRefusalOf (store_of engine.new)) }
-    ensures keeps { Keeps engine.old engine.new steps.old steps.new }
+    ensures work { IsWork engine.old engine.new steps.old steps.new result }
     ensures spends { SpendsFor left.now right.now (store_of engine.old) (store_of engine.new) }
 {
     let cells = united(alloc, engine, &left.cells, &right.cells, steps)?;
@@ -105,8 +102,7 @@ fn member_of<L: Ledger>(
     ensures reads { IfOk result (ReadsAs op left.now right.now (store_of engine.old)
         (store_of engine.new)) }
     ensures single { IfOk result (IsSingleAs op) }
-    ensures held { IfErr result (IsRefusalOf (store_of engine.new)) }
-    ensures keeps { Keeps engine.old engine.new steps.old steps.new }
+    ensures work { IsWork engine.old engine.new steps.old steps.new result }
     ensures spends { SpendsFor left.now right.now (store_of engine.old) (store_of engine.new) }
 {
     let one = tested(alloc, engine, left, Test::Any, steps)?;
@@ -128,8 +124,7 @@ fn equality_of<L: Ledger>(
     ensures reads { IfOk result (ReadsAs op left.now right.now (store_of engine.old)
         (store_of engine.new)) }
     ensures single { IfOk result (IsSingleAs op) }
-    ensures held { IfErr result (IsRefusalOf (store_of engine.new)) }
-    ensures keeps { Keeps engine.old engine.new steps.old steps.new }
+    ensures work { IsWork engine.old engine.new steps.old steps.new result }
     ensures spends { SpendsFor left.now right.now (store_of engine.old) (store_of engine.new) }
 {
     let pair = tested_pair(alloc, engine, Test::Any, left, right, steps)?;
@@ -151,8 +146,7 @@ fn connective_of<L: Ledger>(
     ensures reads { IfOk result (ReadsAs op left.now right.now (store_of engine.old)
         (store_of engine.new)) }
     ensures single { IfOk result (IsSingleAs op) }
-    ensures held { IfErr result (IsRefusalOf (store_of engine.new)) }
-    ensures keeps { Keeps engine.old engine.new steps.old steps.new }
+    ensures work { IsWork engine.old engine.new steps.old steps.new result }
     ensures spends { SpendsFor left.now right.now (store_of engine.old) (store_of engine.new) }
 {
     let pair = tested_pair(alloc, engine, Test::Boolean, left, right, steps)?;
@@ -174,8 +168,7 @@ fn comparison_of<L: Ledger>(
     ensures reads { IfOk result (ReadsAs op left.now right.now (store_of engine.old)
         (store_of engine.new)) }
     ensures single { IfOk result (IsSingleAs op) }
-    ensures held { IfErr result (IsRefusalOf (store_of engine.new)) }
-    ensures keeps { Keeps engine.old engine.new steps.old steps.new }
+    ensures work { IsWork engine.old engine.new steps.old steps.new result }
     ensures spends { SpendsFor left.now right.now (store_of engine.old) (store_of engine.new) }
 {
     let pair = tested_pair(alloc, engine, Test::Number, left, right, steps)?;
@@ -197,8 +190,7 @@ fn outcome_of<L: Ledger>(
     ensures reads { IfOk result (ReadsAs op left.now right.now (store_of engine.old)
         (store_of engine.new)) }
     ensures single { IfOk result (IsSingleAs op) }
-    ensures held { IfErr result (IsRefusalOf (store_of engine.new)) }
-    ensures keeps { Keeps engine.old engine.new steps.old steps.new }
+    ensures work { IsWork engine.old engine.new steps.old steps.new result }
     ensures spends { AreOperands (store_of engine.old) left.now.cells.items left.now.single
         → AreOperands (store_of engine.old) right.now.cells.items right.now.single
         → SpendsFor left.now right.now (store_of engine.old) (store_of engine.new) }
@@ -223,8 +215,7 @@ pub(crate) fn binary_of<L: Ledger>(
     ensures reads { IfOk result (ReadsAs op left.now right.now (store_of engine.old)
         (store_of engine.new)) }
     ensures single { IfOk result (IsSingleAs op) }
-    ensures held { IfErr result (IsRefusalOf (store_of engine.new)) }
-    ensures keeps { Keeps engine.old engine.new steps.old steps.new }
+    ensures work { IsWork engine.old engine.new steps.old steps.new result }
     ensures spends { AreOperands (store_of engine.old) left.now.cells.items left.now.single
         → AreOperands (store_of engine.old) right.now.cells.items right.now.single
         → SpendsFor left.now right.now (store_of engine.old) (store_of engine.new) }

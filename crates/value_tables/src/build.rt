@@ -1,14 +1,13 @@
 //! The table of an expression, by recursion.
 
-ghost use Rattle.std.specs.Prelude.{◌≡◌, ◌<◌, ◌+◌, ◌^◌, ◌&&◌, ◌||◌, true, List, Bool, IfOk, IfErr, OnOk, length};
+ghost use Rattle.std.specs.Prelude.{◌≡◌, ◌<◌, ◌+◌, ◌^◌, ◌&&◌, ◌||◌, true, List, Bool, IfOk, OnOk, length};
 ghost use Rattle.bdd_nodes.specs.Store.{Has, value_of, levels_of};
-ghost use Rattle.bdd_nodes.specs.Refusal.{IsRefusalOf};
 ghost use Rattle.bdd_ops.specs.Engine.{store_of};
 ghost use Rattle.variable_codes.specs.LaidOut.{LaidOut};
 ghost use Rattle.kripke_model.specs.Evaluable.{IsEvaluable, AreEvaluable, AreEvaluableArms};
 ghost use Rattle.kripke_model.specs.Reading.{term_of, terms_in, arms_in};
 ghost use Rattle.kripke_model.specs.Size.{term_nodes, element_nodes, arm_nodes};
-ghost use Rattle.value_tables.specs.Work.{Keeps, Spends, allowance, list_allowance};
+ghost use Rattle.value_tables.specs.Work.{IsWork, Spends, allowance, list_allowance};
 ghost use Rattle.value_tables.specs.States.{meaning_of, elements_meaning, arms_meaning};
 ghost use Rattle.kripke_model.specs.declared.expressions.Value.{Value as Values};
 ghost use Rattle.kripke_model.specs.Evaluation.{Checked};
@@ -46,8 +45,7 @@ pub(crate) fn build<L: Ledger>(
     requires laid { LaidOut layout.now model.now (store_of engine.old) }
     ensures table { IfOk result (λ t. IsTable (store_of engine.new) t.cells.items t.single
         (meaning_of layout.now model.now next (term_of expr.now))) }
-    ensures held { IfErr result (IsRefusalOf (store_of engine.new)) }
-    ensures keeps { Keeps engine.old engine.new steps.old steps.new }
+    ensures work { IsWork engine.old engine.new steps.old steps.new result }
     ensures spends { Spends (allowance (term_nodes (term_of expr.now))
         (2 ^ levels_of (store_of engine.old))) (store_of engine.old) (store_of engine.new) }
 {
@@ -102,8 +100,7 @@ fn build_elements<L: Ledger>(
     requires laid { LaidOut layout.now model.now (store_of engine.old) }
     ensures table { IfOk result (λ cells. IsSetTable (store_of engine.new) cells.items
         (elements_meaning layout.now model.now next (terms_in elements.now))) }
-    ensures held { IfErr result (IsRefusalOf (store_of engine.new)) }
-    ensures keeps { Keeps engine.old engine.new steps.old steps.new }
+    ensures work { IsWork engine.old engine.new steps.old steps.new result }
     ensures spends { Spends (list_allowance (element_nodes (terms_in elements.now))
         (2 ^ levels_of (store_of engine.old))) (store_of engine.old) (store_of engine.new) }
 {
@@ -147,8 +144,7 @@ fn build_arm<L: Ledger>(
     ensures rest { IfOk result (λ r. (bits : List Bool) → value_of (store_of engine.new) r bits
         ≡ (value_of (store_of engine.old) left bits && goes_on
         (guard_of (meaning_of layout.now model.now next (term_of arm.now.guard) bits)))) }
-    ensures held { IfErr result (IsRefusalOf (store_of engine.new)) }
-    ensures keeps { Keeps engine.old engine.new steps.old steps.new }
+    ensures work { IsWork engine.old engine.new steps.old steps.new result }
     ensures spends { Spends (list_allowance (term_nodes (term_of arm.now.guard) + term_nodes
         (term_of arm.now.right)) (2 ^ levels_of (store_of engine.old))) (store_of engine.old)
         (store_of engine.new) }
@@ -173,8 +169,7 @@ fn build_arms<L: Ledger>(
     requires laid { LaidOut layout.now model.now (store_of engine.old) }
     ensures table { IfOk result (λ t. IsTable (store_of engine.new) t.cells.items t.single
         (arms_meaning layout.now model.now next (arms_in arms.now))) }
-    ensures held { IfErr result (IsRefusalOf (store_of engine.new)) }
-    ensures keeps { Keeps engine.old engine.new steps.old steps.new }
+    ensures work { IsWork engine.old engine.new steps.old steps.new result }
     ensures spends { Spends (allowance (1 + arm_nodes (arms_in arms.now))
         (2 ^ levels_of (store_of engine.old))) (store_of engine.old) (store_of engine.new) }
 {

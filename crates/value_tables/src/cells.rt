@@ -1,12 +1,11 @@
 //! Cells: a reading, which is one value or a fault, with the region where an expression comes to it.
 
-ghost use Rattle.std.specs.Prelude.{◌≡◌, ◌≤◌, ◌+◌, ◌&&◌, ◌||◌, Bool, List, IfErr, OnOk, length};
+ghost use Rattle.std.specs.Prelude.{◌≡◌, ◌≤◌, ◌+◌, ◌&&◌, ◌||◌, Bool, List, OnOk, length};
 ghost use Rattle.bdd_nodes.specs.Store.{Has, value_of};
-ghost use Rattle.bdd_nodes.specs.Refusal.{IsRefusalOf};
 ghost use Rattle.bdd_ops.specs.Engine.{store_of};
 ghost use Rattle.kripke_model.specs.Evaluation.{Checked};
 ghost use Rattle.kripke_model.specs.declared.expressions.Value.{Value as Values};
-ghost use Rattle.value_tables.specs.Work.{Keeps, Spends};
+ghost use Rattle.value_tables.specs.Work.{IsWork, Spends};
 ghost use Rattle.value_tables.specs.Cells.{same_reading, shows, AreCells};
 
 use crate::cell_lists::CellList;
@@ -41,8 +40,7 @@ pub(crate) fn add<L: Ledger>(
         ≡ (shows (λ r. value_of (store_of engine.old) r bits) cells.old.items k ||
         (same_reading k reading && value_of (store_of engine.old) region bits))) }
     ensures few { OnOk result (length cells.new.items ≤ length cells.old.items + 1) }
-    ensures held { IfErr result (IsRefusalOf (store_of engine.new)) }
-    ensures keeps { Keeps engine.old engine.new steps.old steps.new }
+    ensures work { IsWork engine.old engine.new steps.old steps.new result }
     ensures spends { Spends 1 (store_of engine.old) (store_of engine.new) }
     ensures stays { region ≡ 0 → Spends 0 (store_of engine.old) (store_of engine.new) }
 {

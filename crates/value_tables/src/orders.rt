@@ -1,15 +1,14 @@
 //! Order comparisons: the numbers of both operands in order, joined in halves.
 
-ghost use Rattle.std.specs.Prelude.{◌≡◌, ◌≤◌, ◌+◌, ◌*◌, ◌++◌, ◌∷◌, [], ◌-◌, ◌<◌, ◌||◌, if◌then◌else◌, IfOk, IfErr, OnOk, All, length};
+ghost use Rattle.std.specs.Prelude.{◌≡◌, ◌+◌, ◌*◌, ◌++◌, ◌∷◌, [], ◌-◌, ◌<◌, ◌||◌, if◌then◌else◌, IfOk, OnOk, All, length};
 ghost use Rattle.std.specs.List.Sorted.{IsSortedBy};
 ghost use Rattle.bdd_nodes.specs.declared.store.Store.{Store as Stores};
 ghost use Rattle.bdd_nodes.specs.Store.{Has, value_of};
-ghost use Rattle.bdd_nodes.specs.Refusal.{IsRefusalOf};
 ghost use Rattle.bdd_ops.specs.Engine.{store_of};
 ghost use Rattle.value_tables.specs.declared.cells.Cell.{Cell as Cells};
 ghost use Rattle.value_tables.specs.declared.orders.Mark.{Mark as Marks};
 ghost use Rattle.bdd_ops.specs.Kept.{IsRegion};
-ghost use Rattle.value_tables.specs.Work.{Keeps, Spends};
+ghost use Rattle.value_tables.specs.Work.{IsWork, Spends};
 ghost use Rattle.value_tables.specs.Orders.{any_below, mark_of, marks_in, is_before, is_lesser, any_pair, hits, AreMarks, AreHeld, AreJoined, ArePassed};
 
 use crate::cells::Cell;
@@ -120,8 +119,7 @@ fn join_hits<L: Ledger>(
     requires behind { AreHeld (store_of engine.old) behind.now }
     ensures region { IfOk result (λ r. IsRegion (store_of engine.new) r
         (hits (store_of engine.old) first.now behind.now)) }
-    ensures held { IfErr result (IsRefusalOf (store_of engine.new)) }
-    ensures keeps { Keeps engine.old engine.new steps.old steps.new }
+    ensures work { IsWork engine.old engine.new steps.old steps.new result }
     ensures spends { Spends 3 (store_of engine.old) (store_of engine.new) }
 {
     let either = join(engine, first.hit, behind.hit, steps)?;
@@ -145,8 +143,7 @@ fn join_sides<L: Ledger>(
         (λ bits. value_of (store_of engine.old) first.now.greater bits
         || value_of (store_of engine.old) behind.now.greater bits)) }
     ensures hit { IfOk result (λ p. p.hit ≡ hit) }
-    ensures held { IfErr result (IsRefusalOf (store_of engine.new)) }
-    ensures keeps { Keeps engine.old engine.new steps.old steps.new }
+    ensures work { IsWork engine.old engine.new steps.old steps.new result }
     ensures spends { Spends 2 (store_of engine.old) (store_of engine.new) }
 {
     let lesser = join(engine, first.lesser, behind.lesser, steps)?;
@@ -169,8 +166,7 @@ fn join_halves<L: Ledger>(
     requires behind { AreHeld (store_of engine.old) behind.now }
     ensures joined { IfOk result (AreJoined (store_of engine.old)
         (store_of engine.new) first.now behind.now) }
-    ensures held { IfErr result (IsRefusalOf (store_of engine.new)) }
-    ensures keeps { Keeps engine.old engine.new steps.old steps.new }
+    ensures work { IsWork engine.old engine.new steps.old steps.new result }
     ensures spends { Spends 5 (store_of engine.old) (store_of engine.new) }
 {
     let hit = join_hits(engine, first, behind, steps)?;
@@ -191,8 +187,7 @@ fn pass_marks<L: Ledger>(
     requires sorted { IsSortedBy is_before marks.now }
     ensures passed { IfOk result (ArePassed (store_of engine.old)
         (store_of engine.new) strict marks.now) }
-    ensures held { IfErr result (IsRefusalOf (store_of engine.new)) }
-    ensures keeps { Keeps engine.old engine.new steps.old steps.new }
+    ensures work { IsWork engine.old engine.new steps.old steps.new result }
     ensures spends { Spends (5 * (length marks.now - 1)) (store_of engine.old)
         (store_of engine.new) }
 {
@@ -216,8 +211,7 @@ fn pairs_of<L: Ledger>(
     requires sorted { IsSortedBy is_before marks.now }
     ensures region { IfOk result (λ r. IsRegion (store_of engine.new) r
         (λ bits. any_pair (λ q. value_of (store_of engine.old) q bits) strict marks.now)) }
-    ensures held { IfErr result (IsRefusalOf (store_of engine.new)) }
-    ensures keeps { Keeps engine.old engine.new steps.old steps.new }
+    ensures work { IsWork engine.old engine.new steps.old steps.new result }
     ensures spends { Spends (5 * length marks.now) (store_of engine.old) (store_of engine.new) }
 {
     if marks.is_empty() {
@@ -242,8 +236,7 @@ pub(crate) fn below<L: Ledger>(
     ensures region { IfOk result (λ r. IsRegion (store_of engine.new) r
         (λ bits. any_below (λ q. value_of (store_of engine.old) q bits) strict lesser.now
         greater.now)) }
-    ensures held { IfErr result (IsRefusalOf (store_of engine.new)) }
-    ensures keeps { Keeps engine.old engine.new steps.old steps.new }
+    ensures work { IsWork engine.old engine.new steps.old steps.new result }
     ensures spends { Spends (5 * length lesser.now + 5 * length greater.now) (store_of engine.old)
         (store_of engine.new) }
 {

@@ -1,13 +1,12 @@
 //! Operators on two values: pairs of cells.
 
-ghost use Rattle.std.specs.Prelude.{◌≡◌, ◌≤◌, ◌+◌, ◌*◌, ◌^◌, ◌||◌, ◌&&◌, true, List, IfOk, IfErr, OnOk, All, length, Bool};
+ghost use Rattle.std.specs.Prelude.{◌≡◌, ◌+◌, ◌*◌, ◌^◌, ◌||◌, ◌&&◌, true, List, IfOk, OnOk, All, length, Bool};
 ghost use Rattle.bdd_nodes.specs.Store.{levels_of, Has, value_of};
-ghost use Rattle.bdd_nodes.specs.Refusal.{IsRefusalOf};
 ghost use Rattle.bdd_ops.specs.Engine.{store_of};
 ghost use Rattle.kripke_model.specs.declared.expressions.Value.{Value as Values};
 ghost use Rattle.kripke_model.specs.Evaluation.{Checked};
 ghost use Rattle.value_tables.specs.declared.cells.Cell.{Cell as Cells};
-ghost use Rattle.value_tables.specs.Work.{Keeps, Spends};
+ghost use Rattle.value_tables.specs.Work.{IsWork, Spends};
 ghost use Rattle.value_tables.specs.Cells.{shows, any_cell, Reads, AreCells};
 ghost use Rattle.value_tables.specs.Tables.{alone, pairs_to, paired};
 ghost use Rattle.value_tables.specs.Weights.{weight, weights, AreApart};
@@ -41,8 +40,7 @@ fn pair_with<L: Ledger>(
         ≡ (shows (λ r. value_of (store_of engine.old) r bits) out.old.items k || (pairs_to
         (λ r. value_of (store_of engine.old) r bits) op k right.now cell.reading && value_of
         (store_of engine.old) cell.region bits))) }
-    ensures held { IfErr result (IsRefusalOf (store_of engine.new)) }
-    ensures keeps { Keeps engine.old engine.new steps.old steps.new }
+    ensures work { IsWork engine.old engine.new steps.old steps.new result }
     ensures thrifty { AreApart (store_of engine.old) right.now
         → OnOk result (Spends (2 * weight (store_of engine.old) cell.region) (store_of engine.old)
         (store_of engine.new)) }
@@ -81,8 +79,7 @@ fn pair_up<L: Ledger>(
         ≡ (shows (λ r. value_of (store_of engine.old) r bits) out.old.items k || any_cell
         (λ r. value_of (store_of engine.old) r bits) (pairs_to
         (λ r. value_of (store_of engine.old) r bits) op k right.now) left.now)) }
-    ensures held { IfErr result (IsRefusalOf (store_of engine.new)) }
-    ensures keeps { Keeps engine.old engine.new steps.old steps.new }
+    ensures work { IsWork engine.old engine.new steps.old steps.new result }
     ensures frugal { AreApart (store_of engine.old) right.now
         → Spends (2 * weights (store_of engine.old) left.now + 1) (store_of engine.old)
         (store_of engine.new) }
@@ -111,8 +108,7 @@ pub(crate) fn calculated<L: Ledger>(
         → Reads (λ r. value_of (store_of engine.old) r bits) right.now (alone b)
         → Reads (λ r. value_of (store_of engine.new) r bits) t.cells.items
         (alone (paired op a b))) }
-    ensures held { IfErr result (IsRefusalOf (store_of engine.new)) }
-    ensures keeps { Keeps engine.old engine.new steps.old steps.new }
+    ensures work { IsWork engine.old engine.new steps.old steps.new result }
     ensures spends { AreApart (store_of engine.old) left.now
         → AreApart (store_of engine.old) right.now
         → Spends (3 * length left.now + 3 * length right.now + 3 + 2 * 2 ^ levels_of

@@ -1,11 +1,10 @@
 //! The operations on regions, with what the engine keeps said once.
 
-ghost use Rattle.std.specs.Prelude.{◌≡◌, ◌&&◌, ◌||◌, not, if◌then◌else◌, ℕ, IfOk, IfErr};
+ghost use Rattle.std.specs.Prelude.{◌≡◌, ◌&&◌, ◌||◌, not, if◌then◌else◌, IfOk};
 ghost use Rattle.bdd_nodes.specs.Store.{Has, value_of};
-ghost use Rattle.bdd_nodes.specs.Refusal.{IsRefusalOf};
 ghost use Rattle.bdd_ops.specs.Engine.{store_of};
 ghost use Rattle.bdd_ops.specs.Kept.{IsRegion};
-ghost use Rattle.value_tables.specs.Work.{Keeps, Spends};
+ghost use Rattle.value_tables.specs.Work.{IsWork, Spends};
 
 use bdd_nodes::{Ref, Steps, StoreRefusal};
 use bdd_ops::Engine;
@@ -22,8 +21,7 @@ pub(crate) fn meet<L: Ledger>(
     requires g { Has (store_of engine.old) g }
     ensures region { IfOk result (λ r. IsRegion (store_of engine.new) r
         (λ bits. value_of (store_of engine.old) f bits && value_of (store_of engine.old) g bits)) }
-    ensures held { IfErr result (IsRefusalOf (store_of engine.new)) }
-    ensures keeps { Keeps engine.old engine.new steps.old steps.new }
+    ensures work { IsWork engine.old engine.new steps.old steps.new result }
     ensures spends { Spends 1 (store_of engine.old) (store_of engine.new) }
     // an operation that answers the empty region adds nothing
     ensures stays { IfOk result (λ r. r ≡ 0
@@ -43,8 +41,7 @@ pub(crate) fn join<L: Ledger>(
     requires g { Has (store_of engine.old) g }
     ensures region { IfOk result (λ r. IsRegion (store_of engine.new) r
         (λ bits. value_of (store_of engine.old) f bits || value_of (store_of engine.old) g bits)) }
-    ensures held { IfErr result (IsRefusalOf (store_of engine.new)) }
-    ensures keeps { Keeps engine.old engine.new steps.old steps.new }
+    ensures work { IsWork engine.old engine.new steps.old steps.new result }
     ensures spends { Spends 1 (store_of engine.old) (store_of engine.new) }
 {
     engine.or(f, g, steps)
@@ -59,8 +56,7 @@ pub(crate) fn outside<L: Ledger>(
     requires { Has (store_of engine.old) f }
     ensures region { IfOk result (λ r. IsRegion (store_of engine.new) r
         (λ bits. not (value_of (store_of engine.old) f bits))) }
-    ensures held { IfErr result (IsRefusalOf (store_of engine.new)) }
-    ensures keeps { Keeps engine.old engine.new steps.old steps.new }
+    ensures work { IsWork engine.old engine.new steps.old steps.new result }
     ensures spends { Spends 1 (store_of engine.old) (store_of engine.new) }
 {
     engine.not(f, steps)
@@ -78,8 +74,7 @@ pub(crate) fn alike<L: Ledger>(
     ensures region { IfOk result (λ r. IsRegion (store_of engine.new) r
         (λ bits. if value_of (store_of engine.old) f bits then value_of (store_of engine.old) g bits
         else not (value_of (store_of engine.old) g bits))) }
-    ensures held { IfErr result (IsRefusalOf (store_of engine.new)) }
-    ensures keeps { Keeps engine.old engine.new steps.old steps.new }
+    ensures work { IsWork engine.old engine.new steps.old steps.new result }
     ensures spends { Spends 1 (store_of engine.old) (store_of engine.new) }
 {
     engine.iff(f, g, steps)
@@ -99,8 +94,7 @@ pub(crate) fn join_both<L: Ledger>(
     ensures region { IfOk result (λ r. IsRegion (store_of engine.new) r
         (λ bits. value_of (store_of engine.old) f bits || (value_of (store_of engine.old) g bits &&
         value_of (store_of engine.old) h bits))) }
-    ensures held { IfErr result (IsRefusalOf (store_of engine.new)) }
-    ensures keeps { Keeps engine.old engine.new steps.old steps.new }
+    ensures work { IsWork engine.old engine.new steps.old steps.new result }
     ensures spends { Spends 2 (store_of engine.old) (store_of engine.new) }
 {
     let both = meet(engine, g, h, steps)?;
@@ -119,8 +113,7 @@ pub(crate) fn neither<L: Ledger>(
     ensures region { IfOk result (λ r. IsRegion (store_of engine.new) r
         (λ bits. not (value_of (store_of engine.old) f bits || value_of (store_of engine.old) g
         bits))) }
-    ensures held { IfErr result (IsRefusalOf (store_of engine.new)) }
-    ensures keeps { Keeps engine.old engine.new steps.old steps.new }
+    ensures work { IsWork engine.old engine.new steps.old steps.new result }
     ensures spends { Spends 2 (store_of engine.old) (store_of engine.new) }
 {
     let either = join(engine, f, g, steps)?;
@@ -139,8 +132,7 @@ pub(crate) fn only<L: Ledger>(
     ensures region { IfOk result (λ r. IsRegion (store_of engine.new) r
         (λ bits. value_of (store_of engine.old) f bits && not (value_of (store_of engine.old) g
         bits))) }
-    ensures held { IfErr result (IsRefusalOf (store_of engine.new)) }
-    ensures keeps { Keeps engine.old engine.new steps.old steps.new }
+    ensures work { IsWork engine.old engine.new steps.old steps.new result }
     ensures spends { Spends 2 (store_of engine.old) (store_of engine.new) }
 {
     let rest = outside(engine, g, steps)?;

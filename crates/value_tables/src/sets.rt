@@ -1,12 +1,11 @@
 //! Sets, negation and the arms of a `case`.
 
-ghost use Rattle.std.specs.Prelude.{◌≡◌, ◌≤◌, ◌+◌, ◌*◌, ◌||◌, ◌&&◌, true, Bool, List, IfOk, IfErr, OnOk, length};
+ghost use Rattle.std.specs.Prelude.{◌≡◌, ◌+◌, ◌*◌, ◌||◌, ◌&&◌, true, Bool, List, IfOk, OnOk, length};
 ghost use Rattle.bdd_nodes.specs.Store.{Has, value_of};
-ghost use Rattle.bdd_nodes.specs.Refusal.{IsRefusalOf};
 ghost use Rattle.bdd_ops.specs.Engine.{store_of};
 ghost use Rattle.kripke_model.specs.declared.expressions.Value.{Value as Values};
 ghost use Rattle.kripke_model.specs.Evaluation.{Checked};
-ghost use Rattle.value_tables.specs.Work.{Keeps, Spends};
+ghost use Rattle.value_tables.specs.Work.{IsWork, Spends};
 ghost use Rattle.value_tables.specs.Cells.{shows, Reads, AreCells};
 ghost use Rattle.value_tables.specs.Tables.{IsProper, IsSingle, IsOperand, all_values, negation, truths, guard_of, arm_shows, goes_on};
 
@@ -37,8 +36,7 @@ pub(crate) fn united<L: Ledger>(
         → Reads (λ r. value_of (store_of engine.old) r bits) left.now c
         → Reads (λ r. value_of (store_of engine.old) r bits) right.now d
         → Reads (λ r. value_of (store_of engine.new) r bits) out.items (all_values c d)) }
-    ensures held { IfErr result (IsRefusalOf (store_of engine.new)) }
-    ensures keeps { Keeps engine.old engine.new steps.old steps.new }
+    ensures work { IsWork engine.old engine.new steps.old steps.new result }
     ensures spends { Spends (5 * length left.now + 5 * length right.now + 3) (store_of engine.old)
         (store_of engine.new) }
 {
@@ -65,8 +63,7 @@ pub(crate) fn negated<L: Ledger>(
         → Reads (λ r. value_of (store_of engine.old) r bits) operand.now.cells.items c → IsProper c
         → (operand.now.single ≡ true → IsSingle c)
         → Reads (λ r. value_of (store_of engine.new) r bits) t.cells.items (negation c)) }
-    ensures held { IfErr result (IsRefusalOf (store_of engine.new)) }
-    ensures keeps { Keeps engine.old engine.new steps.old steps.new }
+    ensures work { IsWork engine.old engine.new steps.old steps.new result }
     ensures spends { Spends (7 * length operand.now.cells.items + 4) (store_of engine.old)
         (store_of engine.new) }
 {
@@ -112,8 +109,7 @@ fn choose<L: Ledger>(
         → Reads (λ q. value_of (store_of engine.old) q bits) guard.now.items (truths b)
         → value_of (store_of engine.new) r bits
         ≡ (value_of (store_of engine.old) left bits && goes_on b)) }
-    ensures held { IfErr result (IsRefusalOf (store_of engine.new)) }
-    ensures keeps { Keeps engine.old engine.new steps.old steps.new }
+    ensures work { IsWork engine.old engine.new steps.old steps.new result }
     ensures spends { Spends (2 * length guard.now.items + 2 * length right.now + 2)
         (store_of engine.old) (store_of engine.new) }
 {
@@ -150,8 +146,7 @@ pub(crate) fn add_arm<L: Ledger>(
         → IsOperand (λ q. value_of (store_of engine.old) q bits) guard.now.cells.items
         guard.now.single c → value_of (store_of engine.new) r bits
         ≡ (value_of (store_of engine.old) left bits && goes_on (guard_of c))) }
-    ensures held { IfErr result (IsRefusalOf (store_of engine.new)) }
-    ensures keeps { Keeps engine.old engine.new steps.old steps.new }
+    ensures work { IsWork engine.old engine.new steps.old steps.new result }
     ensures spends { Spends (7 * length guard.now.cells.items + 2 * length right.now + 6)
         (store_of engine.old) (store_of engine.new) }
 {

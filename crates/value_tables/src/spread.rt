@@ -1,13 +1,12 @@
 //! Cells of one table carried into another.
 
-ghost use Rattle.std.specs.Prelude.{◌≡◌, ◌≤◌, ◌+◌, ◌*◌, ◌&&◌, ◌||◌, List, Bool, IfErr, OnOk, All, length};
+ghost use Rattle.std.specs.Prelude.{◌≡◌, ◌≤◌, ◌+◌, ◌*◌, ◌&&◌, ◌||◌, List, Bool, OnOk, All, length};
 ghost use Rattle.bdd_nodes.specs.Store.{Has, value_of};
-ghost use Rattle.bdd_nodes.specs.Refusal.{IsRefusalOf};
 ghost use Rattle.bdd_ops.specs.Engine.{store_of};
 ghost use Rattle.kripke_model.specs.Evaluation.{Checked};
 ghost use Rattle.kripke_model.specs.declared.expressions.Value.{Value as Values};
 ghost use Rattle.value_tables.specs.declared.cells.Cell.{Cell as Cells};
-ghost use Rattle.value_tables.specs.Work.{Keeps, Spends};
+ghost use Rattle.value_tables.specs.Work.{IsWork, Spends};
 ghost use Rattle.value_tables.specs.Cells.{shows, any_cell, AreCells};
 ghost use Rattle.value_tables.specs.Pick.{becomes};
 ghost use Rattle.value_tables.specs.Weights.{overlap, overlaps};
@@ -39,8 +38,7 @@ fn put<L: Ledger>(
         ((becomes pick k cell.reading && value_of (store_of engine.old) cell.region bits) &&
         value_of (store_of engine.old) within bits))) }
     ensures few { OnOk result (length out.new.items ≤ length out.old.items + 1) }
-    ensures held { IfErr result (IsRefusalOf (store_of engine.new)) }
-    ensures keeps { Keeps engine.old engine.new steps.old steps.new }
+    ensures work { IsWork engine.old engine.new steps.old steps.new result }
     ensures spends { Spends 2 (store_of engine.old) (store_of engine.new) }
     ensures thrifty { OnOk result (Spends (2 * overlap (store_of engine.old) cell.region within)
         (store_of engine.old) (store_of engine.new)) }
@@ -75,8 +73,7 @@ pub(crate) fn spread<L: Ledger>(
         (λ r. value_of (store_of engine.old) r bits) (becomes pick k) cells.now && value_of
         (store_of engine.old) within bits))) }
     ensures few { OnOk result (length out.new.items ≤ length out.old.items + length cells.now) }
-    ensures held { IfErr result (IsRefusalOf (store_of engine.new)) }
-    ensures keeps { Keeps engine.old engine.new steps.old steps.new }
+    ensures work { IsWork engine.old engine.new steps.old steps.new result }
     ensures spends { Spends (2 * length cells.now) (store_of engine.old) (store_of engine.new) }
     ensures thrifty { OnOk result (Spends (2 * overlaps (store_of engine.old) cells.now within)
         (store_of engine.old) (store_of engine.new)) }

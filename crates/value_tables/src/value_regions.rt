@@ -1,14 +1,14 @@
 //! The regions of an expression's values and faults.
 
-ghost use Rattle.std.specs.Prelude.{◌≡◌, ◌≤◌, ◌+◌, ◌*◌, ◌^◌, ◌++◌, IfOk, IfErr, OnOk, length};
-ghost use Rattle.bdd_nodes.specs.Store.{levels_of, triples, Grows};
-ghost use Rattle.bdd_nodes.specs.Refusal.{IsRefusalOf};
+ghost use Rattle.std.specs.Prelude.{◌≡◌, ◌≤◌, ◌+◌, ◌*◌, ◌^◌, ◌++◌, IfOk, OnOk, length};
+ghost use Rattle.bdd_nodes.specs.Store.{levels_of, triples};
 ghost use Rattle.bdd_ops.specs.Engine.{store_of, capacity_of, lists_of, refused_of};
 ghost use Rattle.variable_codes.specs.LaidOut.{LaidOut};
 ghost use Rattle.kripke_model.specs.Evaluable.{IsEvaluable};
 ghost use Rattle.kripke_model.specs.Reading.{term_of};
 ghost use Rattle.kripke_model.specs.Size.{term_nodes};
 ghost use Rattle.value_tables.specs.Regions.{rows_of, faults_of, rows_in, faults_in, AreRegions};
+ghost use Rattle.bdd_ops.specs.Kept.{IsStoreCall};
 
 use crate::build::build;
 use crate::cells::Cell;
@@ -92,8 +92,7 @@ pub fn table<L: Ledger>(
         (term_of expr.now) t.rows.items t.faults.items) }
     ensures few { IfOk result (λ t. length t.rows.items + length t.faults.items
         ≤ term_nodes (term_of expr.now) * 2 ^ levels_of (store_of engine.old)) }
-    ensures held { IfErr result (IsRefusalOf (store_of engine.new)) }
-    ensures grows { Grows (store_of engine.old) (store_of engine.new) }
+    ensures call { IsStoreCall engine.old engine.new result }
     // at each list of the levels' bits an expression of n nodes has at most n readings
     ensures growth { length (triples (store_of engine.new)) ≤ length (triples (store_of engine.old))
         + 16 * (term_nodes (term_of expr.now) + 1) ^ 2 * 4 ^ levels_of (store_of engine.old) }

@@ -39,11 +39,11 @@ answered g t c a =
     let t1 = c.exchange.new.engine.store in
     let t2 = c.exchange-2.new.engine.store in
     let key = Rename c.in-Some.node.low c.args.to_next in
-    let grows = Grows-then s t1 t2 c.in_ok-low.ensures.keeps.grows c.in_ok-high.ensures.keeps.grows in
+    let grows = Grows-then s t1 t2 c.in_ok-low.ensures.call.keeps.grows c.in_ok-high.ensures.call.keeps.grows in
     record {
       grows = grows;
-      low = IsAnswer-grows t1 t2 c.in_ok-high.ensures.keeps.grows (lists_of c.exchange-2.new.engine) key c.in_ok-low.low
-          (subst (λ l. IsAnswer t1 l key c.in_ok-low.low) (sym c.in_ok-high.ensures.keeps.lists) c.in_ok-low.ensures.answer);
+      low = IsAnswer-grows t1 t2 c.in_ok-high.ensures.call.keeps.grows (lists_of c.exchange-2.new.engine) key c.in_ok-low.low
+          (subst (λ l. IsAnswer t1 l key c.in_ok-low.low) (sym c.in_ok-high.ensures.call.keeps.lists) c.in_ok-low.ensures.answer);
       there = omega (arith, neighbour-inside s c.args.to_next c.args.f (triple_of c.in-Some.node) a, grows.levels);
     }
 
@@ -60,13 +60,13 @@ whole g t c a =
     let high = c.in_ok-high.high in
     let made = c.in_ok-made.made in
     let last = lists_of c.make.new.self in
-    let later = Grows-then t1 t2 t3 c.in_ok-high.ensures.keeps.grows c.in_ok-made.ensures.grows in
+    let later = Grows-then t1 t2 t3 c.in_ok-high.ensures.call.keeps.grows c.in_ok-made.ensures.grows in
     let low_last = IsAnswer-grows t1 t3 later last (Rename n.low even) low
-    (subst (λ l. IsAnswer t1 l (Rename n.low even) low) (sym (c.make.ensures.lists ∙ c.in_ok-high.ensures.keeps.lists)) c.in_ok-low.ensures.answer) in
+    (subst (λ l. IsAnswer t1 l (Rename n.low even) low) (sym (c.make.ensures.lists ∙ c.in_ok-high.ensures.call.keeps.lists)) c.in_ok-low.ensures.answer) in
     let high_last = IsAnswer-grows t2 t3 c.in_ok-made.ensures.grows last (Rename n.high even) high
     (subst (λ l. IsAnswer t2 l (Rename n.high even) high) (sym c.make.ensures.lists) c.in_ok-high.ensures.answer) in
     let node = subst (λ l. IsNodeOf t3 l low high made) c.neighbour.ensures c.in_ok-made.ensures.node in
-    IsAnswer-whole s t3 (Grows-then s t1 t3 c.in_ok-low.ensures.keeps.grows later) last even c.args.f (triple_of n) a low high made low_last high_last c.in_ok-made.ensures.has node
+    IsAnswer-whole s t3 (Grows-then s t1 t3 c.in_ok-low.ensures.call.keeps.grows later) last even c.args.f (triple_of n) a low high made low_last high_last c.in_ok-made.ensures.has node
 
 pub returns-in_default-clause-answer : goal.returns-in_default-clause-answer
 returns-in_default-clause-answer g t c = IsAnswer-constant c.args.engine.now.store (lists_of c.args.engine.now) c.args.to_next c.args.f c.requires.has c.requires.parity c.in_default.ensures.none
@@ -88,15 +88,15 @@ exchange-requires-2 g t c =
     let s = c.recall.new.self.store in
     let t1 = c.exchange.new.engine.store in
     let a = moved g t (goal.at.exchange-requires-2 g t c).In_default-recall in
-    let high = IsChild-grows s t1 c.in_ok-low.ensures.keeps.grows c.args.to_next c.args.f c.in-Some.node.level c.in-Some.node.high (child s c.args.to_next c.args.f (triple_of c.in-Some.node) a true) in
-    let pairs : levels_of t1 % 2 ≡ 0 = ap (λ l. l % 2) c.in_ok-low.ensures.keeps.grows.levels ∙ a.pairs in
+    let high = IsChild-grows s t1 c.in_ok-low.ensures.call.keeps.grows c.args.to_next c.args.f c.in-Some.node.level c.in-Some.node.high (child s c.args.to_next c.args.f (triple_of c.in-Some.node) a true) in
+    let pairs : levels_of t1 % 2 ≡ 0 = ap (λ l. l % 2) c.in_ok-low.ensures.call.keeps.grows.levels ∙ a.pairs in
     search (rules, high.smaller, high.has, pairs, high.parity)
 
 -- what both calls added leaves room for one more triple
 room : (g : _) (t : _) (c : In_ok-low g t) → IsMoved c.recall.new.self.store c.args.to_next c.args.f (triple_of c.in-Some.node) → (n : ℕ) → IsWithin c.in-Some.node.high (n + 1) c.exchange.new.engine.store → IsWithin c.args.f (n + 2) c.args.engine.now.store
 room g t c a n h =
     subst (IsWithin c.args.f (n + 2)) c.recall.ensures.store
-    (both-within c.recall.new.self.store c.exchange.new.engine.store c.in_ok-low.ensures.keeps.grows c.args.to_next c.args.f (triple_of c.in-Some.node) a n c.in_ok-low.ensures.count h)
+    (both-within c.recall.new.self.store c.exchange.new.engine.store c.in_ok-low.ensures.call.keeps.grows c.args.to_next c.args.f (triple_of c.in-Some.node) a n c.in_ok-low.ensures.count h)
 
 pub returns-in_err-high-clause-count : goal.returns-in_err-high-clause-count
 returns-in_err-high-clause-count g t c =
@@ -171,29 +171,35 @@ recall_keeps : (g : _) (t : _) (c : After-recall g t) → KeepsEngine c.args.eng
 recall_keeps g t c = KeepsEngine-store _ _ c.recall.ensures.store c.recall.ensures.lists c.recall.ensures.capacity (omega (arith, c.recall.ensures.refused))
 
 sides_keep : (g : _) (t : _) (c : After-exchange-2 g t) → KeepsEngine c.args.engine.now c.recall.new.self → KeepsEngine c.args.engine.now c.exchange-2.new.engine
-sides_keep g t c first = KeepsEngine-then _ _ _ (KeepsEngine-then _ _ _ first c.exchange.ensures.keeps) c.exchange-2.ensures.keeps
+sides_keep g t c first = KeepsEngine-then _ _ _ (KeepsEngine-then _ _ _ first c.exchange.ensures.call.keeps) c.exchange-2.ensures.call.keeps
 
 made_keeps : (g : _) (t : _) (c : After-make g t) → KeepsEngine c.args.engine.now c.exchange-2.new.engine → KeepsEngine c.args.engine.now c.make.new.self
 made_keeps g t c both = KeepsEngine-then _ _ _ both (KeepsEngine-made _ _ c.make.ensures.grows c.make.ensures.lists c.make.ensures.cache c.make.ensures.refused)
 
-pub returns-in-Some-recall-clause-keeps : goal.returns-in-Some-recall-clause-keeps
-returns-in-Some-recall-clause-keeps g t c = recall_keeps g t (goal.at.returns-in-Some-recall-clause-keeps g t c).After-recall
+pub returns-in-Some-recall-clause-call : goal.returns-in-Some-recall-clause-call
+returns-in-Some-recall-clause-call g t c = record { keeps = recall_keeps g t (goal.at.returns-in-Some-recall-clause-call g t c).After-recall; held = search rules }
 
-pub returns-in_err-low-clause-keeps : goal.returns-in_err-low-clause-keeps
-returns-in_err-low-clause-keeps g t c = KeepsEngine-then _ _ _ (recall_keeps g t (goal.at.returns-in_err-low-clause-keeps g t c).After-recall) c.exchange.ensures.keeps
+pub returns-in_err-low-clause-call : goal.returns-in_err-low-clause-call
+returns-in_err-low-clause-call g t c = record { keeps = KeepsEngine-then _ _ _ (recall_keeps g t (goal.at.returns-in_err-low-clause-call g t c).After-recall) c.exchange.ensures.call.keeps; held = search rules }
 
-pub returns-in_err-high-clause-keeps : goal.returns-in_err-high-clause-keeps
-returns-in_err-high-clause-keeps g t c =
-    let at = goal.at.returns-in_err-high-clause-keeps g t c in
-    sides_keep g t at.After-exchange-2 (recall_keeps g t at.After-recall)
+pub returns-in_err-high-clause-call : goal.returns-in_err-high-clause-call
+returns-in_err-high-clause-call g t c = record {
+  keeps = let at = goal.at.returns-in_err-high-clause-call g t c in
+      sides_keep g t at.After-exchange-2 (recall_keeps g t at.After-recall);
+  held = search rules;
+}
 
-pub returns-in_err-made-clause-keeps : goal.returns-in_err-made-clause-keeps
-returns-in_err-made-clause-keeps g t c =
-    let at = goal.at.returns-in_err-made-clause-keeps g t c in
-    made_keeps g t at.After-make (sides_keep g t at.After-exchange-2 (recall_keeps g t at.After-recall))
+pub returns-in_err-made-clause-call : goal.returns-in_err-made-clause-call
+returns-in_err-made-clause-call g t c = record {
+  keeps = let at = goal.at.returns-in_err-made-clause-call g t c in
+      made_keeps g t at.After-make (sides_keep g t at.After-exchange-2 (recall_keeps g t at.After-recall));
+  held = search rules;
+}
 
-pub returns-clause-keeps : goal.returns-clause-keeps
-returns-clause-keeps g t c =
-    let at = goal.at.returns-clause-keeps g t c in
-    KeepsEngine-then _ _ _ (made_keeps g t at.After-make (sides_keep g t at.After-exchange-2 (recall_keeps g t at.After-recall)))
-    (KeepsEngine-store _ _ c.remember.ensures.store c.remember.ensures.lists c.remember.ensures.capacity c.remember.ensures.refused)
+pub returns-clause-call : goal.returns-clause-call
+returns-clause-call g t c = record {
+  keeps = let at = goal.at.returns-clause-call g t c in
+      KeepsEngine-then _ _ _ (made_keeps g t at.After-make (sides_keep g t at.After-exchange-2 (recall_keeps g t at.After-recall)))
+      (KeepsEngine-store _ _ c.remember.ensures.store c.remember.ensures.lists c.remember.ensures.capacity c.remember.ensures.refused);
+  held = search rules;
+}

@@ -1,4 +1,4 @@
-use Rattle.std.proofs.Common.{◌+◌, ◌*◌, ◌≤◌, List, length, sym, subst, arith}
+use Rattle.std.proofs.Common.{◌+◌, ◌*◌, ◌≤◌, List, length, sym, subst, arith, rules}
 use Rattle.std.proofs.lemmas.Nat.{pow_pos}
 use Rattle.bdd_nodes.specs.Store.{levels_of, value_of}
 use Rattle.kripke_model.specs.Evaluation.{◌>>=◌, number, binary}
@@ -24,13 +24,13 @@ returns-clause-reads g c =
 pub returns-clause-single : goal.returns-clause-single
 returns-clause-single g c = if_ok c.ordered.result c.ordered.ensures.single (λ t h e. comparison_single c.args.op c.requires.op)
 
-pub returns-clause-keeps : goal.returns-clause-keeps
-returns-clause-keeps g c = keeps_join c.tested_pair.ensures.keeps c.ordered.ensures.keeps
+pub returns-clause-work : goal.returns-clause-work
+returns-clause-work g c = record { keeps = keeps_join c.tested_pair.ensures.work.keeps c.ordered.ensures.work.keeps; held = search rules }
 
 pub returns-clause-spends : goal.returns-clause-spends
 returns-clause-spends g c =
     let s = c.args.engine.now.store in
     let l : length c.deref.result.now ≤ length c.args.left.now.cells.items + 1 = subst (λ (xs : List Cell). length xs ≤ length c.args.left.now.cells.items + 1) (sym c.deref.ensures.value) c.in_ok-pair.ensures.few_left in
     let r : length c.deref-2.result.now ≤ length c.args.right.now.cells.items + 1 = subst (λ (xs : List Cell). length xs ≤ length c.args.right.now.cells.items + 1) (sym c.deref-2.ensures.value) c.in_ok-pair.ensures.few_right in
-    Spends-then s c.tested_pair.new.engine.store c.ordered.new.engine.store (5 * length c.args.left.now.cells.items + 5 * length c.args.right.now.cells.items + 4) _ _ c.tested_pair.ensures.keeps.engine.grows.levels
+    Spends-then s c.tested_pair.new.engine.store c.ordered.new.engine.store (5 * length c.args.left.now.cells.items + 5 * length c.args.right.now.cells.items + 4) _ _ c.tested_pair.ensures.work.keeps.engine.grows.levels
     (omega (arith, l, r, pow_pos (levels_of s))) c.tested_pair.ensures.spends c.ordered.ensures.spends

@@ -1,4 +1,4 @@
-use Rattle.std.proofs.Common.{◌+◌, ◌*◌, length, arith}
+use Rattle.std.proofs.Common.{◌+◌, ◌*◌, length, arith, rules}
 use Rattle.value_tables.specs.declared.pick.Test.{Test}
 use Rattle.value_tables.specs.Tables.{one_tested, truths, connective, guard_of}
 use Rattle.kripke_model.specs.Evaluation.{binary}
@@ -22,8 +22,8 @@ returns-clause-single g c = if_ok c.combined.result c.combined.ensures.single (�
 
 pub returns-clause-spends : goal.returns-clause-spends
 returns-clause-spends g c =
-    Spends-then c.args.engine.now.store c.tested_pair.new.engine.store c.combined.new.engine.store (5 * length c.args.left.now.cells.items + 5 * length c.args.right.now.cells.items + 4) (3 * length c.in_ok-pair.pair.left.items + 3 * length c.in_ok-pair.pair.right.items + 10) _ c.tested_pair.ensures.keeps.engine.grows.levels
+    Spends-then c.args.engine.now.store c.tested_pair.new.engine.store c.combined.new.engine.store (5 * length c.args.left.now.cells.items + 5 * length c.args.right.now.cells.items + 4) (3 * length c.in_ok-pair.pair.left.items + 3 * length c.in_ok-pair.pair.right.items + 10) _ c.tested_pair.ensures.work.keeps.engine.grows.levels
     (omega (arith, c.in_ok-pair.ensures.few_left, c.in_ok-pair.ensures.few_right)) c.tested_pair.ensures.spends c.combined.ensures.spends
 
-pub returns-clause-keeps : goal.returns-clause-keeps
-returns-clause-keeps g c = keeps_join c.tested_pair.ensures.keeps c.combined.ensures.keeps
+pub returns-clause-work : goal.returns-clause-work
+returns-clause-work g c = record { keeps = keeps_join c.tested_pair.ensures.work.keeps c.combined.ensures.work.keeps; held = search rules }

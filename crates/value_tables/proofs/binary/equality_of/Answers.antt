@@ -1,4 +1,4 @@
-use Rattle.std.proofs.Common.{sym, subst, ◌+◌, ◌*◌, length, ap, arith}
+use Rattle.std.proofs.Common.{sym, subst, ◌+◌, ◌*◌, length, ap, arith, rules}
 use Rattle.bdd_nodes.specs.Store.{value_of}
 use Rattle.value_tables.specs.declared.pick.Test.{Test}
 use Rattle.value_tables.specs.Cells.{Reads}
@@ -24,8 +24,8 @@ returns-clause-single g c = if_ok c.compared.result c.compared.ensures.single (�
 pub returns-clause-spends : goal.returns-clause-spends
 returns-clause-spends g c =
     let l = ap length c.deref.ensures.value in
-    Spends-then c.args.engine.now.store c.tested_pair.new.engine.store c.compared.new.engine.store (5 * length c.args.left.now.cells.items + 5 * length c.args.right.now.cells.items + 4) (5 * length c.deref.result.now + 3 * length c.in_ok-pair.pair.right.items + 8) _ c.tested_pair.ensures.keeps.engine.grows.levels
+    Spends-then c.args.engine.now.store c.tested_pair.new.engine.store c.compared.new.engine.store (5 * length c.args.left.now.cells.items + 5 * length c.args.right.now.cells.items + 4) (5 * length c.deref.result.now + 3 * length c.in_ok-pair.pair.right.items + 8) _ c.tested_pair.ensures.work.keeps.engine.grows.levels
     (omega (arith, l, c.in_ok-pair.ensures.few_left, c.in_ok-pair.ensures.few_right)) c.tested_pair.ensures.spends c.compared.ensures.spends
 
-pub returns-clause-keeps : goal.returns-clause-keeps
-returns-clause-keeps g c = keeps_join c.tested_pair.ensures.keeps c.compared.ensures.keeps
+pub returns-clause-work : goal.returns-clause-work
+returns-clause-work g c = record { keeps = keeps_join c.tested_pair.ensures.work.keeps c.compared.ensures.work.keeps; held = search rules }

@@ -1,4 +1,4 @@
-use Rattle.std.proofs.Common.{◌+◌, ◌*◌, length, sym, subst, ap, arith}
+use Rattle.std.proofs.Common.{◌+◌, ◌*◌, length, sym, subst, ap, arith, rules}
 use Rattle.bdd_nodes.specs.Store.{value_of}
 use Rattle.value_tables.specs.declared.pick.Test.{Test}
 use Rattle.value_tables.specs.Cells.{Reads}
@@ -10,7 +10,7 @@ use Rattle.value_tables.proofs.BinaryLemmas.{reads_grows, reads_as, member_is, m
 use Rattle.value_tables.proofs.binary.member_of.Goals as goal
 
 pub compared-requires-clause-right : goal.compared-requires-clause-right
-compared-requires-clause-right g c = AreCells-grows c.args.engine.now.store c.tested.new.engine.store c.tested.ensures.keeps.engine.grows c.args.right.now.cells.items c.requires.right
+compared-requires-clause-right g c = AreCells-grows c.args.engine.now.store c.tested.new.engine.store c.tested.ensures.work.keeps.engine.grows c.args.right.now.cells.items c.requires.right
 
 pub returns-clause-reads : goal.returns-clause-reads
 returns-clause-reads g c =
@@ -20,7 +20,7 @@ returns-clause-reads g c =
     reads_as _ _ (membership (value_tested Test.Any r) q) (binary c.args.op r q) (member_is c.args.op r q c.requires.op)
     (h bits (value_tested Test.Any r) q
     (subst (λ xs. Reads (λ n. value_of t n bits) xs (one_tested Test.Any r)) (sym c.deref.ensures.value) (c.in_ok-one.ensures.reads bits r x.reads x.proper x.few))
-    (reads_grows s t c.tested.ensures.keeps.engine.grows c.args.right.now.cells.items c.requires.right.has bits q y.reads)))
+    (reads_grows s t c.tested.ensures.work.keeps.engine.grows c.args.right.now.cells.items c.requires.right.has bits q y.reads)))
 
 pub returns-clause-single : goal.returns-clause-single
 returns-clause-single g c = if_ok c.compared.result c.compared.ensures.single (λ t h e. member_single c.args.op c.requires.op)
@@ -28,8 +28,8 @@ returns-clause-single g c = if_ok c.compared.result c.compared.ensures.single (�
 pub returns-clause-spends : goal.returns-clause-spends
 returns-clause-spends g c =
     let l = ap length c.deref.ensures.value in
-    Spends-then c.args.engine.now.store c.tested.new.engine.store c.compared.new.engine.store (5 * length c.args.left.now.cells.items + 2) (5 * length c.deref.result.now + 3 * length c.args.right.now.cells.items + 8) _ c.tested.ensures.keeps.engine.grows.levels
+    Spends-then c.args.engine.now.store c.tested.new.engine.store c.compared.new.engine.store (5 * length c.args.left.now.cells.items + 2) (5 * length c.deref.result.now + 3 * length c.args.right.now.cells.items + 8) _ c.tested.ensures.work.keeps.engine.grows.levels
     (omega (arith, l, c.in_ok-one.ensures.few)) c.tested.ensures.spends c.compared.ensures.spends
 
-pub returns-clause-keeps : goal.returns-clause-keeps
-returns-clause-keeps g c = keeps_join c.tested.ensures.keeps c.compared.ensures.keeps
+pub returns-clause-work : goal.returns-clause-work
+returns-clause-work g c = record { keeps = keeps_join c.tested.ensures.work.keeps c.compared.ensures.work.keeps; held = search rules }

@@ -1,4 +1,4 @@
-use Rattle.std.proofs.Common.{◌+◌, ◌*◌, ◌^◌, ◌≤◌, List, length, sym, subst, ap, arith}
+use Rattle.std.proofs.Common.{◌+◌, ◌*◌, ◌^◌, ◌≤◌, List, length, sym, subst, ap, arith, rules}
 use Rattle.bdd_nodes.specs.Store.{value_of}
 use Rattle.value_tables.specs.declared.pick.Test.{Test}
 use Rattle.value_tables.specs.Cells.{Reads}
@@ -34,9 +34,9 @@ returns-clause-spends g c =
     let apart_right : AreApart t c.deref-2.result.now = subst (AreApart t) (sym c.deref-2.ensures.value) (reads-apart t pair.right.items c.in_ok-pair.ensures.right (λ bits. let o = right.result bits in (one_tested Test.Number o.0, c.in_ok-pair.ensures.reads_right bits o.0 o.1, amount_single _ (single_alone (value_tested Test.Number o.0))))) in
     let l : length c.deref.result.now ≤ length c.args.left.now.cells.items + 1 = subst (λ (xs : List Cell). length xs ≤ length c.args.left.now.cells.items + 1) (sym c.deref.ensures.value) c.in_ok-pair.ensures.few_left in
     let r : length c.deref-2.result.now ≤ length c.args.right.now.cells.items + 1 = subst (λ (xs : List Cell). length xs ≤ length c.args.right.now.cells.items + 1) (sym c.deref-2.ensures.value) c.in_ok-pair.ensures.few_right in
-    let same = ap (λ n. 2 ^ n) c.tested_pair.ensures.keeps.engine.grows.levels in
-    Spends-then s t c.calculated.new.engine.store (5 * length c.args.left.now.cells.items + 5 * length c.args.right.now.cells.items + 4) _ _ c.tested_pair.ensures.keeps.engine.grows.levels
+    let same = ap (λ n. 2 ^ n) c.tested_pair.ensures.work.keeps.engine.grows.levels in
+    Spends-then s t c.calculated.new.engine.store (5 * length c.args.left.now.cells.items + 5 * length c.args.right.now.cells.items + 4) _ _ c.tested_pair.ensures.work.keeps.engine.grows.levels
     (omega (arith, l, r, same)) c.tested_pair.ensures.spends (c.calculated.ensures.spends apart_left apart_right)
 
-pub returns-clause-keeps : goal.returns-clause-keeps
-returns-clause-keeps g c = keeps_join c.tested_pair.ensures.keeps c.calculated.ensures.keeps
+pub returns-clause-work : goal.returns-clause-work
+returns-clause-work g c = record { keeps = keeps_join c.tested_pair.ensures.work.keeps c.calculated.ensures.work.keeps; held = search rules }

@@ -1,17 +1,17 @@
-use Rattle.std.proofs.Common.{arith}
+use Rattle.std.proofs.Common.{arith, rules}
 use Rattle.value_tables.proofs.RegionLemmas.{keeps_join, Spends-then}
 use Rattle.value_tables.proofs.WeightLemmas.{Spends-more}
 use Rattle.value_tables.proofs.OrderLemmas.{held-grows}
 use Rattle.value_tables.proofs.orders.join_halves.Goals as goal
 
 pub join_sides-requires-clause-first : goal.join_sides-requires-clause-first
-join_sides-requires-clause-first g c = held-grows c.join_hits.ensures.keeps.engine.grows c.requires.first
+join_sides-requires-clause-first g c = held-grows c.join_hits.ensures.work.keeps.engine.grows c.requires.first
 
 pub join_sides-requires-clause-behind : goal.join_sides-requires-clause-behind
-join_sides-requires-clause-behind g c = held-grows c.join_hits.ensures.keeps.engine.grows c.requires.behind
+join_sides-requires-clause-behind g c = held-grows c.join_hits.ensures.work.keeps.engine.grows c.requires.behind
 
-pub returns-clause-keeps : goal.returns-clause-keeps
-returns-clause-keeps g c = keeps_join c.join_hits.ensures.keeps c.join_sides.ensures.keeps
+pub returns-clause-work : goal.returns-clause-work
+returns-clause-work g c = record { keeps = keeps_join c.join_hits.ensures.work.keeps c.join_sides.ensures.work.keeps; held = search rules }
 
 pub returns-in_err-hit-clause-spends : goal.returns-in_err-hit-clause-spends
 returns-in_err-hit-clause-spends g c =
@@ -20,5 +20,5 @@ returns-in_err-hit-clause-spends g c =
 
 pub returns-clause-spends : goal.returns-clause-spends
 returns-clause-spends g c = Spends-then c.args.engine.now.store c.join_hits.new.engine.store
-    c.join_sides.new.engine.store 3 2 5 c.join_hits.ensures.keeps.engine.grows.levels
+    c.join_sides.new.engine.store 3 2 5 c.join_hits.ensures.work.keeps.engine.grows.levels
     (omega arith) c.join_hits.ensures.spends c.join_sides.ensures.spends

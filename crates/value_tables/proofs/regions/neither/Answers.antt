@@ -1,4 +1,4 @@
-use Rattle.std.proofs.Common.{not, ap, ◌∙◌, arith}
+use Rattle.std.proofs.Common.{not, ap, ◌∙◌, arith, rules}
 use Rattle.value_tables.proofs.RegionLemmas.{keeps_join, Spends-then}
 use Rattle.value_tables.proofs.WeightLemmas.{Spends-more}
 use Rattle.value_tables.proofs.StepLemmas.{if_ok}
@@ -7,11 +7,11 @@ use Rattle.value_tables.proofs.regions.neither.Goals as goal
 pub returns-clause-region : goal.returns-clause-region
 returns-clause-region g c = if_ok c.outside.result c.outside.ensures.region (λ r h. record { has = h.has; value = λ bits. h.value bits ∙ ap not (c.in_ok-either.ensures.region.value bits) })
 
-pub returns-clause-keeps : goal.returns-clause-keeps
-returns-clause-keeps g c = keeps_join c.join.ensures.keeps c.outside.ensures.keeps
+pub returns-clause-work : goal.returns-clause-work
+returns-clause-work g c = record { keeps = keeps_join c.join.ensures.work.keeps c.outside.ensures.work.keeps; held = search rules }
 
 pub returns-in_err-either-clause-spends : goal.returns-in_err-either-clause-spends
 returns-in_err-either-clause-spends g c = Spends-more c.args.engine.now.store c.join.new.engine.store 1 2 (omega arith) c.join.ensures.spends
 
 pub returns-clause-spends : goal.returns-clause-spends
-returns-clause-spends g c = Spends-then c.args.engine.now.store c.join.new.engine.store c.outside.new.engine.store 1 1 2 c.join.ensures.keeps.engine.grows.levels (omega arith) c.join.ensures.spends c.outside.ensures.spends
+returns-clause-spends g c = Spends-then c.args.engine.now.store c.join.new.engine.store c.outside.new.engine.store 1 1 2 c.join.ensures.work.keeps.engine.grows.levels (omega arith) c.join.ensures.spends c.outside.ensures.spends

@@ -1,4 +1,4 @@
-use Rattle.std.proofs.Common.{◌∙◌, ◌&&◌, ◌||◌, ap, ◌+◌, ◌*◌, length, arith}
+use Rattle.std.proofs.Common.{◌∙◌, ◌&&◌, ◌||◌, ap, ◌+◌, ◌*◌, length, arith, rules}
 use Rattle.bdd_nodes.specs.Store.{value_of}
 use Rattle.bdd_nodes.proofs.Tables.{value_of-true}
 use Rattle.value_tables.specs.declared.pick.Pick.{Pick}
@@ -21,13 +21,13 @@ returns-clause-reads g c =
 pub returns-clause-spends : goal.returns-clause-spends
 returns-clause-spends g c =
     let l = ap length c.deref.ensures.value in
-    Spends-then c.args.engine.now.store c.tested.new.engine.store c.spread.new.engine.store (5 * length c.args.operand.now.cells.items + 2) (2 * length c.deref.result.now) _ c.tested.ensures.keeps.engine.grows.levels
+    Spends-then c.args.engine.now.store c.tested.new.engine.store c.spread.new.engine.store (5 * length c.args.operand.now.cells.items + 2) (2 * length c.deref.result.now) _ c.tested.ensures.work.keeps.engine.grows.levels
     (omega (arith, l, c.in_ok-boolean.ensures.few)) c.tested.ensures.spends c.spread.ensures.spends
 
 pub returns-in_err-spread-clause-spends : goal.returns-in_err-spread-clause-spends
 returns-in_err-spread-clause-spends g c =
     let l = ap length c.deref.ensures.value in
-    Spends-then c.args.engine.now.store c.tested.new.engine.store c.spread.new.engine.store (5 * length c.args.operand.now.cells.items + 2) (2 * length c.deref.result.now) _ c.tested.ensures.keeps.engine.grows.levels
+    Spends-then c.args.engine.now.store c.tested.new.engine.store c.spread.new.engine.store (5 * length c.args.operand.now.cells.items + 2) (2 * length c.deref.result.now) _ c.tested.ensures.work.keeps.engine.grows.levels
     (omega (arith, l, c.in_ok-boolean.ensures.few)) c.tested.ensures.spends c.spread.ensures.spends
 
 pub returns-in_err-boolean-clause-spends : goal.returns-in_err-boolean-clause-spends
@@ -35,8 +35,8 @@ returns-in_err-boolean-clause-spends g c =
     let n = length c.args.operand.now.cells.items in
     Spends-more c.args.engine.now.store c.tested.new.engine.store (5 * n + 2) (7 * n + 4) (omega arith) c.tested.ensures.spends
 
-pub returns-in_err-spread-clause-keeps : goal.returns-in_err-spread-clause-keeps
-returns-in_err-spread-clause-keeps g c = keeps_join c.tested.ensures.keeps c.spread.ensures.keeps
+pub returns-in_err-spread-clause-work : goal.returns-in_err-spread-clause-work
+returns-in_err-spread-clause-work g c = record { keeps = keeps_join c.tested.ensures.work.keeps c.spread.ensures.work.keeps; held = search rules }
 
-pub returns-clause-keeps : goal.returns-clause-keeps
-returns-clause-keeps g c = keeps_join c.tested.ensures.keeps c.spread.ensures.keeps
+pub returns-clause-work : goal.returns-clause-work
+returns-clause-work g c = record { keeps = keeps_join c.tested.ensures.work.keeps c.spread.ensures.work.keeps; held = search rules }
