@@ -34,11 +34,6 @@ use Rattle.smv_instantiate.proofs.Silence.{silent_first, silent_second}
 
 -- ---- members by their places
 
-pub slice_in : {A : Type 0} (xs : List A) (k : ℕ) (x : A) → slice_get xs k ≡ Some x → In x xs
-slice_in [] k x e = absurd (not_some e)
-slice_in (y ∷ ys) zero x e = subst (λ z. In z (y ∷ ys)) (some_same e) In.first
-slice_in (y ∷ ys) (suc k) x e = In.later (slice_in ys k x e)
-
 counted_option : {B : Type 0} (o : Option B) (ys zs : List B) (c : B) → slice_get zs (length ys) ≡ Some c → slice_get (cons_option o zs) (length (cons_option o ys)) ≡ Some c
 counted_option None ys zs c h = h
 counted_option (Some d) ys zs c h = h
@@ -69,7 +64,7 @@ or_second : (a b : Bool) → b ≡ true → (a || b) ≡ true
 or_second true b e = refl
 or_second false b e = e
 
-name_among : (x : Name) (names : List Name) → In x names → list_any (bytes_eq x) names ≡ true
+pub name_among : (x : Name) (names : List Name) → In x names → list_any (bytes_eq x) names ≡ true
 name_among x [] i = elim i [ ]
 name_among x (y ∷ ys) In.first = or_first (bytes_eq x x) (list_any (bytes_eq x) ys) (bytes_same x)
 name_among x (y ∷ ys) (In.later i) = or_second (bytes_eq x y) (list_any (bytes_eq x) ys) (name_among x ys i)

@@ -63,7 +63,7 @@ total_most f g (x ∷ xs) h = let a : f x ≤ g x = h x in let b : total f xs �
 none_each : (count : ℕ) → 0 ≡ 0 * count
 none_each count = omega arith
 
-elements_each : (f : ℕ → List Name) (count : ℕ) (is : List ℕ) → ((i : ℕ) → total (λ x. 1) (f i) ≡ count) → total (λ x. 1) (flat_map f is) ≡ length is * count
+pub elements_each : (f : ℕ → List Name) (count : ℕ) (is : List ℕ) → ((i : ℕ) → total (λ x. 1) (f i) ≡ count) → total (λ x. 1) (flat_map f is) ≡ length is * count
 elements_each f count [] e = none_each count
 elements_each f count (i ∷ is) e =
     let rest : total (λ x. 1) (flat_map f is) ≡ length is * count = elements_each f count is e in
@@ -73,7 +73,7 @@ elements_each f count (i ∷ is) e =
     one_more : (a b : ℕ) → a + b * a ≡ suc b * a
     one_more a b = grind arith
 
-elements_count : (type : Plain) (x : Name) → total (λ y. 1) (element_names type x) ≡ variable_count type
+pub elements_count : (type : Plain) (x : Name) → total (λ y. 1) (element_names type x) ≡ variable_count type
 elements_count Plain.Boolean x = refl
 elements_count (Plain.Enumeration constants) x = refl
 elements_count (Plain.Range low high) x = refl

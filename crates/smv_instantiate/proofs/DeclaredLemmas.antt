@@ -454,6 +454,9 @@ module _ (p : Program) (silent : Silent (refused_declarations p)) (written : IsW
         elim (cases_lt 1024 (value_count type)) [ inl more ↦ absurd (silent_first (silent_second (silent_second k)) (FlatRefusal.Limit e.line Which.Values (value_count type)) (refl, more)) | inr few ↦ few ],
       )
 
+  pub not_reversed : (s : Scope) (e : Entry) (type : Plain) → In s (instances p) → In e (entries (module_of s)) → e.entity ≡ Entity.Stored type → is_reversed type ≡ true → ⊥
+  not_reversed s e type i j is = let h = placed_silent s e i j in (silent_type h.0 s h.1 e type is h.2).0
+
   -- ---- symbols
 
   kept_entry : (bodies : List Scope) (s : Scope) (b : List Entry) (name : Name) (line : ℕ) (entity : Entity) → Silent (declaration p bodies s b (record { name = name; line = line; entity = entity })) → IsKeptEntry entity

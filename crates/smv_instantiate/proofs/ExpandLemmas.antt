@@ -1,5 +1,5 @@
 -- What an expression's term says of the terms of its parts.
-use Rattle.std.proofs.Common.{◌≡◌, refl, sym, ◌∙◌, ap, subst, ℕ, zero, suc, ◌-◌, ◌+◌, ◌≤◌, arith, List, [], ◌∷◌, length, take, Bool, true, false, Some, ◌⊎◌, inl, inr, lit≤, ◌++◌}
+use Rattle.std.proofs.Common.{◌≡◌, refl, sym, ◌∙◌, ap, subst, ℕ, zero, suc, ◌-◌, ◌+◌, ◌≤◌, arith, List, [], ◌∷◌, length, take, Bool, true, false, Some, ◌⊎◌, inl, inr, lit≤, ◌++◌, Option}
 use Rattle.std.specs.Prelude.{map, pos, slice_get, Result, IfOk}
 use Rattle.kripke_model.specs.declared.expressions.Arm.{Arm as FlatArm}
 use Rattle.kripke_model.specs.declared.expressions.BinOp.{BinOp}
@@ -161,10 +161,10 @@ until_same f g h = cc
 
 -- ---- calls
 
-pub are_instances : (p : Program) {all : Instances} {paths : _} {names : List Name} → CanExpand p all paths names → AreInstances p all
+pub are_instances : (p : Program) {all : Instances} {paths : _} {firsts : List (Option ℕ)} → CanExpand p all paths firsts → AreInstances p all
 are_instances p can = can.paths_are.targets_are.started.instances_are
 
-pub is_kept : (p : Program) {all : Instances} {paths : _} {names : List Name} → CanExpand p all paths names → IsKept p
+pub is_kept : (p : Program) {all : Instances} {paths : _} {firsts : List (Option ℕ)} → CanExpand p all paths firsts → IsKept p
 is_kept p can = kept p (are_instances p can).silent can.written
 
 -- the node of an expression stands for the same term

@@ -14,6 +14,7 @@ mod FrontSteps
 mod ProcessSteps
 mod ExpandLemmas
 mod PathSteps
+mod FirstLemmas
 mod FlatLemmas
 mod TermLemmas
 mod ItemLemmas

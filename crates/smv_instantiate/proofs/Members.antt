@@ -1,8 +1,9 @@
--- Lists by recursion: what each member keeps, which members there are, and lists without a member twice.
-use Rattle.std.proofs.Common.{◌≡◌, refl, sym, ◌∙◌, ap, subst, ℕ, zero, suc, ◌<◌, arith, List, [], ◌∷◌, ◌++◌, length, get_or, Bool, true, false, cond, Some, None, Option, ◌⊎◌, inl, inr}
-use Rattle.std.specs.Prelude.{map, flat_map, filter, filter_map, find, All, Any, AllPairs, ◌≢◌, unwrap_or, is_some}
+-- Lists by recursion: what each member keeps, which members there are, lists without a member twice, and lists that stand in others.
+use Rattle.std.proofs.Common.{◌≡◌, refl, sym, ◌∙◌, ap, subst, ℕ, zero, suc, ◌<◌, ◌+◌, arith, List, [], ◌∷◌, ◌++◌, length, get_or, Bool, true, false, cond, Some, None, Option, ◌⊎◌, inl, inr}
+use Rattle.std.specs.Prelude.{map, flat_map, filter, filter_map, find, All, Any, AllPairs, ◌≢◌, unwrap_or, is_some, slice_get}
 use Rattle.std.specs.List.{cons_option}
 use Rattle.std.proofs.lemmas.Bool.{false≢true}
+use Rattle.smv_instances.proofs.RowLemmas.{slice_get_left}
 
 pub some_same : {A : Type 0} {a b : A} → Some a ≡ Some b → a ≡ b
 some_same {a} e = ap (λ o. unwrap_or o a) e
@@ -152,6 +153,43 @@ pub any_in : {A : Type 0} (P : A → Type 0) {x : A} (xs : List A) → In x xs �
 any_in P [] i holds = elim i [ ]
 any_in P {x} (y ∷ ys) In.first holds = (0, y, omega arith, refl, holds)
 any_in P (y ∷ ys) (In.later i) holds = let r : Any P ys = any_in P ys i holds in (suc r.0, r.1, omega (arith, r.2), r.3, r.4)
+
+pub slice_in : {A : Type 0} (xs : List A) (k : ℕ) (x : A) → slice_get xs k ≡ Some x → In x xs
+slice_in [] k x e = absurd (not_some e)
+slice_in (y ∷ ys) zero x e = subst (λ z. In z (y ∷ ys)) (some_same e) In.first
+slice_in (y ∷ ys) (suc k) x e = In.later (slice_in ys k x e)
+
+pub in_slice : {A : Type 0} {x : A} (xs : List A) → In x xs → (k : ℕ) × (slice_get xs k ≡ Some x)
+in_slice [] i = elim i [ ]
+in_slice (y ∷ ys) In.first = (0, refl)
+in_slice (y ∷ ys) (In.later i) = let r = in_slice ys i in (suc r.0, r.1)
+
+-- ---- lists that stand in others
+
+-- xs stands in ys from this place on
+pub record IsBlock {A : Type 0} (xs ys : List A) : Type 0 where
+  pub start : ℕ
+  pub at : (k : ℕ) (x : A) → slice_get xs k ≡ Some x → slice_get ys (start + k) ≡ Some x
+
+pub block_itself : {A : Type 0} (xs : List A) → IsBlock xs xs
+block_itself xs = record { start = 0; at = λ k x e. let s : 0 + k ≡ k = omega arith in ap (slice_get xs) s ∙ e }
+
+block_left : {A : Type 0} {xs : List A} (ys zs : List A) → IsBlock xs ys → IsBlock xs (ys ++ zs)
+block_left ys zs b = record { start = b.start; at = λ k x e. slice_get_left ys zs (b.start + k) x (b.at k x e) }
+
+pub block_right : {A : Type 0} {xs : List A} (ys zs : List A) → IsBlock xs zs → IsBlock xs (ys ++ zs)
+block_right [] zs b = b
+block_right (y ∷ ys) zs b =
+    let r = block_right ys zs b in
+    record { start = suc r.start; at = λ k x e. let s : suc r.start + k ≡ suc (r.start + k) = omega arith in ap (slice_get (y ∷ (ys ++ zs))) s ∙ r.at k x e }
+
+pub block_flat : {A B : Type 0} {zs : List B} (f : A → List B) {x : A} (xs : List A) → In x xs → IsBlock zs (f x) → IsBlock zs (flat_map f xs)
+block_flat f [] i b = elim i [ ]
+block_flat f (y ∷ ys) In.first b = block_left (f y) (flat_map f ys) b
+block_flat f (y ∷ ys) (In.later i) b = block_right (f y) (flat_map f ys) (block_flat f ys i b)
+
+pub in_block : {A : Type 0} {x : A} {xs ys : List A} → IsBlock xs ys → In x xs → In x ys
+in_block {x} {xs} {ys} b i = let r = in_slice xs i in slice_in ys (b.start + r.0) x (b.at r.0 x r.1)
 
 -- ---- lists without a member twice
 

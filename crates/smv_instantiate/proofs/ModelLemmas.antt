@@ -1,10 +1,9 @@
 -- The parts of a flat model together.
-use Rattle.std.proofs.Common.{◌≡◌, sym, ◌∙◌, ap, subst, List, [], length, map, Some, inl, inr}
+use Rattle.std.proofs.Common.{◌≡◌, sym, ◌∙◌, ap, subst, ℕ, List, Option, [], length, Some, inl, inr}
 use Rattle.std.specs.Prelude.{All, filter, flat_map, slice_get}
 use Rattle.std.proofs.lemmas.List.{length-map}
 use Rattle.kripke_model.specs.Refusing.{Silent, First, first_of}
 use Rattle.kripke_model.proofs.FirstLemmas.{silent_then}
-use Rattle.kripke_model.specs.System.{Variable}
 use Rattle.smv_names.specs.declared.paths.Paths.{Paths}
 use Rattle.smv_names.specs.Paths.{ArePaths}
 use Rattle.smv_instances.specs.declared.instances.Instances.{Instances}
@@ -13,12 +12,13 @@ use Rattle.smv_instances.specs.declared.rows.Row.{Row}
 use Rattle.smv_instances.specs.Answers.{Refused}
 use Rattle.smv_instances.specs.Built.{AreInstances}
 use Rattle.smv_instances.specs.Declarations.{refused_declarations}
-use Rattle.smv_instances.specs.Instances.{all_entries, instances, is_process, process_name, module_of, processes, variables}
-use Rattle.smv_instances.specs.Program.{Name, Program}
+use Rattle.smv_instances.specs.Instances.{all_entries, instances, is_process, process_name, module_of, processes}
+use Rattle.smv_instances.specs.Program.{Program}
 use Rattle.smv_instances.specs.Walk.{AreRows, AreLinked}
 use Rattle.smv_instances.proofs.TableLemmas.{length_pairs}
 use Rattle.smv_names.specs.Abbreviations.{definition}
 use Rattle.smv_instantiate.specs.Bodies.{AreBodies}
+use Rattle.smv_instantiate.specs.Firsts.{AreFirsts}
 use Rattle.smv_instantiate.specs.Flattens.{Placed, all_items, section_items}
 use Rattle.smv_instantiate.specs.Passes.{AreTables, IsExpandable, HasTerm}
 use Rattle.smv_instantiate.specs.Refuses.{Refuses, expression, item}
@@ -42,10 +42,10 @@ bodies_of p all rows same are written = record {
 pub process_total : (p : Program) (all : Instances) → AreInstances p all → length all.processes.items ≡ length (processes p)
 process_total p all are = length_pairs (λ n c. slice_get (instances p) n ≡ Some c) all.processes.items (filter is_process (instances p)) are.entered ∙ sym (length-map (filter is_process (instances p)) process_name)
 
-pub tables_of : (p : Program) (all : Instances) (paths : Paths) (names : List Name) (vs : List Variable) → AreInstances p all → ArePaths p all paths → IsWritten p → vs ≡ variables p → names ≡ map (λ (v : Variable). v.name) vs → AreTables p all paths names
-tables_of p all paths names vs are known written is named = record {
+pub tables_of : (p : Program) (all : Instances) (paths : Paths) (firsts : List (Option ℕ)) → AreInstances p all → ArePaths p all paths → AreFirsts p firsts → IsWritten p → AreTables p all paths firsts
+tables_of p all paths firsts are known first written = record {
   instances_are = are;
-  expands = record { paths_are = known; names_are = named ∙ ap (map (λ (v : Variable). v.name)) is; written = written };
+  expands = record { paths_are = known; firsts_are = first; written = written };
 }
 
 -- ---- items

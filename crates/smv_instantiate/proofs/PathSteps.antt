@@ -1,23 +1,23 @@
 -- What the targets of paths say, and the names by which flat variables are found.
-use Rattle.std.proofs.Common.{◌≡◌, refl, sym, ◌∙◌, ap, subst, ℕ, suc, ◌+◌, ◌<◌, arith, List, [], ◌∷◌, ◌++◌, length, take, get_or, reverse, Bool, true, false, cond, Option, Some, None}
-use Rattle.std.specs.Prelude.{map, not, ◌||◌, if◌then◌else◌, slice_get, IfSome, IfNone}
+use Rattle.std.proofs.Common.{◌≡◌, refl, sym, ◌∙◌, ap, subst, ℕ, suc, ◌+◌, ◌<◌, arith, List, [], ◌∷◌, ◌++◌, length, take, get_or, Bool, true, false, Some, None}
+use Rattle.std.specs.Prelude.{map, not, ◌||◌, if◌then◌else◌, slice_get}
 use Rattle.std.specs.List.{list_any}
 use Rattle.std.specs.Str.{bytes_eq}
 use Rattle.std.proofs.lemmas.Bool.{false≢true}
-use Rattle.std.proofs.lemmas.List.{get_or-take, length-take-le, take_more, take-map, reverse-append}
+use Rattle.std.proofs.lemmas.List.{get_or-take, length-take-le, take-map}
 use Rattle.std.proofs.lemmas.Option.{same_Some, slice_get_read, slice_get_within, get_or_from_slice_get}
 use Rattle.kripke_model.specs.Flat.{AreDistinct}
 use Rattle.kripke_model.specs.System.{Variable}
 use Rattle.kripke_model.specs.Term.{Term}
 use Rattle.smv_instances.specs.Plain.{plain_expr, plain_type}
 use Rattle.smv_instances.specs.Program.{Name, Expr, Path, Plain, Program}
-use Rattle.smv_instances.specs.Instances.{Scope, instances, all_entries, indexed, spelled, place_of, variable_names, symbols}
+use Rattle.smv_instances.specs.Instances.{Scope, all_entries, place_of, symbols}
 use Rattle.smv_instances.specs.Numbered.{scope_at}
 use Rattle.smv_names.specs.declared.targets.Bracket.{Bracket as Held_bracket}
 use Rattle.smv_names.specs.declared.targets.Target.{Target as Code}
 use Rattle.smv_names.specs.declared.targets.Target.TheVariants as held
 use Rattle.smv_names.specs.Denotes.{Bracket, Target, Denotes, bare}
-use Rattle.smv_names.specs.Expands.{is_array, element_name, Expands, Selects, AreIndexes}
+use Rattle.smv_names.specs.Expands.{is_array, Expands, Selects, AreIndexes}
 use Rattle.smv_names.specs.Ends.{IsEnd, AreEnds, no_end}
 use Rattle.smv_names.specs.Sound.{AreDefined}
 use Rattle.smv_names.specs.Targets.{AreBrackets, IsText, IsTarget, Resolves}
@@ -29,10 +29,8 @@ use Rattle.smv_names.proofs.Once.{denotes_one}
 use Rattle.smv_names.proofs.TextLemmas.{numbered_within}
 use Rattle.smv_instantiate.specs.declared.expansion.End.{End}
 use Rattle.smv_instantiate.specs.Expansion.{IsSelected, DenotesNoText, IsWrittenAt, EndsPath, IsNodeOf}
-use Rattle.smv_instantiate.proofs.Members.{In}
 use Rattle.smv_instantiate.proofs.NameLemmas.{names_same}
 use Rattle.smv_instantiate.proofs.BodySteps.{read_mapped}
-use Rattle.smv_instantiate.proofs.TargetLemmas.{IsKept, selected_below}
 
 -- ---- names
 
@@ -63,26 +61,6 @@ variable_added f vs k v x old new b distinct lt is same before added names =
     let fresh : list_any (bytes_eq x) old ≡ false =
     ap (λ z. list_any (bytes_eq z) old) same ∙ ap (list_any (bytes_eq (f v))) (before ∙ sym (take-map f k vs)) ∙ unlike_earlier (map f vs) k (f v) distinct within (sym (get_or_from_slice_get (map f vs) k (f v) (f v) stands)) in
     name_added old new x b added fresh names ∙ ap (λ z. old ++ (z ∷ [])) same ∙ ap (λ z. z ++ (f v ∷ [])) before ∙ sym (take_map f vs k v lt is)
-
-one_more : (n : ℕ) → 1 + n ≡ suc n
-one_more n = omega arith
-
--- a name that isn't there stands at the end
-missing_place : (x : Name) (ns : List Name) → list_any (bytes_eq x) ns ≡ false → place_of ns x ≡ length ns
-missing_place x [] e = refl
-missing_place x (y ∷ ys) e = by (bytes_eq x y) refl e (λ none. missing_place x ys none)
-  where
-    by : (b : Bool) → bytes_eq x y ≡ b → (bytes_eq x y || list_any (bytes_eq x) ys) ≡ false → (list_any (bytes_eq x) ys ≡ false → place_of ys x ≡ length ys) → cond (not (bytes_eq x y)) (1 + place_of ys x) 0 ≡ suc (length ys)
-    by true f none rest = absurd (false≢true (sym none ∙ ap (λ c. c || list_any (bytes_eq x) ys) f))
-    by false f none rest =
-        ap (λ c. cond (not c) (1 + place_of ys x) 0) f ∙ ap (λ n. 1 + n) (rest (sym (ap (λ c. c || list_any (bytes_eq x) ys) f) ∙ none)) ∙ one_more (length ys)
-
--- one index more
-pub element_more : (x : Name) (values : List ℕ) (k : ℕ) (old new : Name) → k < length values → old ≡ element_name x (reverse (take k values)) → new ≡ indexed old (get_or values k 0) → new ≡ element_name x (reverse (take (k + 1) values))
-element_more x values k old new lt before next =
-    let v = get_or values k 0 in
-    next ∙ ap (λ z. indexed z v) before
-    ∙ sym (ap (λ z. element_name x (reverse z)) (take_more values k 0 lt) ∙ ap (element_name x) (reverse-append (take k values) (v ∷ [])))
 
 -- ---- variables
 
@@ -147,19 +125,6 @@ pub unvalued_selects : (p : Program) (s : Scope) (q : Path) (home : ℕ) (x : Na
     → ((ns : List ℕ) → AreIndexes p at.brackets ns → ⊥) → IsSelected p s q None
 unvalued_selects p s q home x type indexes at none k (Selects.cell {ns = ns} d flat values) =
     none ns (subst (λ bs. AreIndexes p bs ns) (ap (brackets_or at.brackets) (denotes_one d at.denotes)) values)
-
--- a variable with values of its indexes, by its name
-pub named_selects : (p : Program) (kept : IsKept p) (s : Scope) (q : Path) (home : ℕ) (x : Name) (type : Plain) (indexes : List Held_bracket) (at : IsStoredAt p s q home x type indexes) → In s (instances p)
-    → is_array type ≡ false → (ns : List ℕ) → AreIndexes p at.brackets ns → (flat : Name) → flat ≡ element_name (spelled at.scope x) ns → (found : Option ℕ)
-    → IfSome found (λ k. k ≡ place_of (variable_names p) flat) → IfNone found (list_any (bytes_eq flat) (variable_names p) ≡ false) → IsSelected p s q found
-named_selects p kept s q home x type indexes at there one ns values flat is None some none = λ k selects.
-    let own : Selects p s q (place_of (variable_names p) (element_name (spelled at.scope x) ns)) = Selects.cell at.denotes one values in
-    let below : place_of (variable_names p) (element_name (spelled at.scope x) ns) < length (variable_names p) = selected_below p kept own there in
-    let end : place_of (variable_names p) flat ≡ length (variable_names p) = missing_place flat (variable_names p) none in
-    let same : place_of (variable_names p) flat ≡ place_of (variable_names p) (element_name (spelled at.scope x) ns) = ap (place_of (variable_names p)) is in
-    absurd (omega (arith, below, end, same))
-named_selects p kept s q home x type indexes at there one ns values flat is (Some k) some none =
-    subst (λ z. Selects p s q z) (sym (some ∙ ap (place_of (variable_names p)) is)) (Selects.cell at.denotes one values)
 
 -- ---- constants
 

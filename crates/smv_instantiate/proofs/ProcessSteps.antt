@@ -13,11 +13,11 @@ use Rattle.smv_instances.specs.Instances.{Scope, module_of, instances, is_proces
 use Rattle.smv_instances.specs.Declarations.{refused_declarations}
 use Rattle.std.specs.List.{AllZip}
 use Rattle.smv_instantiate.specs.Written.{IsWritten}
-use Rattle.smv_instantiate.proofs.Members.{In, Distinct, not_some, some_same, map-append}
+use Rattle.smv_instantiate.proofs.Members.{In, Distinct, not_some, some_same, map-append, slice_in}
 use Rattle.smv_instantiate.proofs.TypeSteps.{rising-push}
 use Rattle.smv_instantiate.proofs.NameLemmas.{bytes_same, names_same}
 use Rattle.smv_instantiate.proofs.DeclaredLemmas.{filter_fewer, instance_count, processes_distinct}
-use Rattle.smv_instantiate.proofs.BodySteps.{slice_in, slice_mapped}
+use Rattle.smv_instantiate.proofs.BodySteps.{slice_mapped}
 
 -- ---- places
 

@@ -10,13 +10,13 @@ use Rattle.kripke_model.specs.Evaluable.{IsKnown}
 use Rattle.kripke_model.specs.Flat.{IsSound, AreSound, AreSoundArms}
 use Rattle.smv_instances.specs.Program.{Name, Expr, Exprs, Path, Plain, Module, Formal, Program}
 use Rattle.smv_instances.specs.Program
-use Rattle.smv_instances.specs.Entries.{Entity, Entry, entries, module_named}
+use Rattle.smv_instances.specs.Entries.{Entity, Entry, entries, entity_in, module_named}
 use Rattle.smv_instances.specs.Instances.{Scope, module_of, child, children, instances_from, instances, main_name, spelled, indexed, between, element_names, entry_variables, variables_from, variable_names, selector_variables, main_scope, greatest_depth, processes, process_name, is_process, place_of, symbols, is_symbol}
 use Rattle.kripke_model.specs.Evaluation.{truth_value}
 use Rattle.smv_names.specs.Denotes.{Bracket, Target, Meaning, bare, passed, actual_of, meaning_of, meaning, Finds, Denotes}
 use Rattle.smv_names.specs.Expands.{is_array, element_name, Expands, ExpandElements, ExpandArms, Selects, IsIndex, AreIndexes}
 use Rattle.smv_instantiate.specs.Written.{IsWrittenExpr, AreWritten, AreWrittenArms, IsWrittenModule, IsWritten}
-use Rattle.smv_instantiate.proofs.Members.{In, all_in, in_map, in_flat, in_flat_back, in_filter, in_right, in_filter_map_back, find_in, not_some, some_same, map-append, map-flat_map}
+use Rattle.smv_instantiate.proofs.Members.{In, all_in, in_map, in_flat, in_flat_back, in_filter, in_filter_map_back, IsBlock, block_itself, block_right, block_flat, in_block, find_in, not_some, some_same, map-append, map-flat_map}
 use Rattle.smv_instantiate.proofs.TreeLemmas.{declares, HasParent, tree_parent, instances_are}
 use Rattle.smv_instantiate.proofs.NameLemmas.{names_same, rising_has}
 use Rattle.smv_instantiate.specs.Bodies.{inner_variables}
@@ -45,35 +45,36 @@ selected p root type z w (b ∷ bs) (n ∷ ns) peeled (AreIndexes.index (IsIndex
 selected p root type z w [] (n ∷ ns) peeled values i = elim values [ ]
 selected p root type z w (b ∷ bs) [] peeled values i = elim values [ ]
 
-stored_in_entry : (p : Program) (inner : Scope → List Variable) (s : Scope) (e : Entry) (root : Plain) (w : Name) → e.entity ≡ Entity.Stored root → In w (element_names root (spelled s e.name)) → In w (names_of (entry_variables p inner s e))
-stored_in_entry p inner s e root w is i = by e.name e.line e.entity is i
+stored_in_entry : (p : Program) (inner : Scope → List Variable) (s : Scope) (e : Entry) (root : Plain) → e.entity ≡ Entity.Stored root → IsBlock (element_names root (spelled s e.name)) (names_of (entry_variables p inner s e))
+stored_in_entry p inner s e root is = by e.name e.line e.entity is
   where
-    by : (name : Name) (line : ℕ) (entity : Entity) → entity ≡ Entity.Stored root → In w (element_names root (spelled s name)) → In w (names_of (entry_variables p inner s (record { name = name; line = line; entity = entity })))
-    by name line entity f j = subst (λ z. In w (names_of (entry_variables p inner s (record { name = name; line = line; entity = z })))) (sym f)
-        (subst (In w) (sym (stored_names p line root (element_names root (spelled s name)))) j)
+    by : (name : Name) (line : ℕ) (entity : Entity) → entity ≡ Entity.Stored root → IsBlock (element_names root (spelled s name)) (names_of (entry_variables p inner s (record { name = name; line = line; entity = entity })))
+    by name line entity f = subst (λ z. IsBlock (element_names root (spelled s name)) (names_of (entry_variables p inner s (record { name = name; line = line; entity = z })))) (sym f)
+        (subst (IsBlock (element_names root (spelled s name))) (sym (stored_names p line root (element_names root (spelled s name)))) (block_itself (element_names root (spelled s name))))
 
-inner_in_entry : (p : Program) (inner : Scope → List Variable) (s : Scope) (e : Entry) (c : Scope) (w : Name) → child p s e ≡ Some c → In w (names_of (inner c)) → In w (names_of (entry_variables p inner s e))
-inner_in_entry p inner s e c w given i = by e.name e.line e.entity given
+inner_in_entry : (p : Program) (inner : Scope → List Variable) (s : Scope) (e : Entry) (c : Scope) (xs : List Name) → child p s e ≡ Some c → IsBlock xs (names_of (inner c)) → IsBlock xs (names_of (entry_variables p inner s e))
+inner_in_entry p inner s e c xs given b = by e.name e.line e.entity given
   where
-    by : (name : Name) (line : ℕ) (entity : Entity) → child p s (record { name = name; line = line; entity = entity }) ≡ Some c → In w (names_of (entry_variables p inner s (record { name = name; line = line; entity = entity })))
+    by : (name : Name) (line : ℕ) (entity : Entity) → child p s (record { name = name; line = line; entity = entity }) ≡ Some c → IsBlock xs (names_of (entry_variables p inner s (record { name = name; line = line; entity = entity })))
     by name line (Entity.Instance process x actuals) f =
-        subst (λ o. In w (names_of (flat_map inner (cons_option o [])))) (sym f) (subst (λ vs. In w (names_of vs)) (sym (append-nil (inner c))) i)
+        subst (λ o. IsBlock xs (names_of (flat_map inner (cons_option o [])))) (sym f) (subst (λ vs. IsBlock xs (names_of vs)) (sym (append-nil (inner c))) b)
     by name line Entity.Parameter f = absurd (not_some f)
     by name line (Entity.Stored type) f = absurd (not_some f)
     by name line (Entity.Defined body) f = absurd (not_some f)
 
-in_body : (p : Program) (n : ℕ) (s : Scope) (e : Entry) (w : Name) → In e (entries (module_of s)) → In w (names_of (entry_variables p (inner_variables p n) s e)) → In w (names_of (variables_from p n s))
-in_body p n s e w i j = subst (λ vs. In w (names_of vs)) (sym (variables_of_body p n s))
-    (subst (In w) (sym (map-flat_map name_of (entry_variables p (inner_variables p n) s) (entries (module_of s)))) (in_flat (λ f. names_of (entry_variables p (inner_variables p n) s f)) (entries (module_of s)) i j))
+in_body : (p : Program) (n : ℕ) (s : Scope) (e : Entry) (xs : List Name) → In e (entries (module_of s)) → IsBlock xs (names_of (entry_variables p (inner_variables p n) s e)) → IsBlock xs (names_of (variables_from p n s))
+in_body p n s e xs i b = subst (λ vs. IsBlock xs (names_of vs)) (sym (variables_of_body p n s))
+    (subst (IsBlock xs) (sym (map-flat_map name_of (entry_variables p (inner_variables p n) s) (entries (module_of s)))) (block_flat (λ f. names_of (entry_variables p (inner_variables p n) s f)) (entries (module_of s)) i b))
 
-pub stored_in_tree : (p : Program) (n : ℕ) (r home : Scope) (e : Entry) (root : Plain) (w : Name) → In home (instances_from p n r) → In e (entries (module_of home)) → e.entity ≡ Entity.Stored root → In w (element_names root (spelled home e.name)) → In w (names_of (variables_from p n r))
-stored_in_tree p zero r home e root w In.first i is j = in_body p zero home e w i (stored_in_entry p (inner_variables p zero) home e root w is j)
-stored_in_tree p zero r home e root w (In.later there) i is j = elim there [ ]
-stored_in_tree p (suc n) r home e root w In.first i is j = in_body p (suc n) home e w i (stored_in_entry p (inner_variables p (suc n)) home e root w is j)
-stored_in_tree p (suc n) r home e root w (In.later there) i is j =
+-- the elements of a variable or an array stand next to one another
+stored_in_tree : (p : Program) (n : ℕ) (r home : Scope) (e : Entry) (root : Plain) → In home (instances_from p n r) → In e (entries (module_of home)) → e.entity ≡ Entity.Stored root → IsBlock (element_names root (spelled home e.name)) (names_of (variables_from p n r))
+stored_in_tree p zero r home e root In.first i is = in_body p zero home e (element_names root (spelled home e.name)) i (stored_in_entry p (inner_variables p zero) home e root is)
+stored_in_tree p zero r home e root (In.later there) i is = elim there [ ]
+stored_in_tree p (suc n) r home e root In.first i is = in_body p (suc n) home e (element_names root (spelled home e.name)) i (stored_in_entry p (inner_variables p (suc n)) home e root is)
+stored_in_tree p (suc n) r home e root (In.later there) i is =
     let b = in_flat_back (instances_from p n) (children p r) there in
     let f = in_filter_map_back (child p r) (entries (module_of r)) b.1 in
-    in_body p (suc n) r f.0 w f.1 (inner_in_entry p (variables_from p n) r f.0 b.0 w f.2 (stored_in_tree p n b.0 home e root w b.2 i is j))
+    in_body p (suc n) r f.0 (element_names root (spelled home e.name)) f.1 (inner_in_entry p (variables_from p n) r f.0 b.0 (element_names root (spelled home e.name)) f.2 (stored_in_tree p n b.0 home e root b.2 i is))
 
 -- ---- the program
 
@@ -114,6 +115,7 @@ module _ (p : Program) (kept : IsKept p) where
     pub named : entry.name ≡ x
     pub root : Plain
     pub entity : entry.entity ≡ Entity.Stored root
+    pub declared : entity_in (module_of home) x ≡ Some (Entity.Stored root)
     pub peeled : Peels root indexes type
 
   abbrev pub IsGood : Target → Type 0
@@ -197,11 +199,12 @@ module _ (p : Program) (kept : IsKept p) where
           let w : IsWrittenExpr pair.1 = all_in IsWrittenExpr actuals h.1 (zipped m.formals actuals pair (find_in (λ (pair : Formal × Expr). bytes_eq pair.0.name x) (zip m.formals actuals) found).0) in
           subst IsGoodMeaning (some_same f) (good_passed around (bare pair.1) h.0 (written_bare pair.1 w))
 
-  good_entity : (s : Scope) (x : Name) (e : Entry) (M : Meaning) (entity : Entity) → In s (instances p) → In e (entries (module_of s)) → e.name ≡ x → e.entity ≡ entity → meaning_of p s x entity ≡ Some M → IsGoodMeaning M
-  good_entity s x e M Entity.Parameter i j named is given = good_actual s x M i given
-  good_entity s x e M (Entity.Stored type) i j named is given = subst IsGoodMeaning (some_same given) (i, record { entry = e; listed = j; named = named; root = type; entity = is; peeled = refl })
-  good_entity s x e M (Entity.Defined body) i j named is given = subst IsGoodMeaning (some_same given) (i, subst IsWrittenEntity is (entry_written s i e j).entity)
-  good_entity s x e M (Entity.Instance process y actuals) i j named is given = by (module_named p y) refl given
+  good_entity : (s : Scope) (x : Name) (e : Entry) (M : Meaning) (entity : Entity) → In s (instances p) → In e (entries (module_of s)) → e.name ≡ x → entity_in (module_of s) x ≡ Some e.entity → e.entity ≡ entity → meaning_of p s x entity ≡ Some M → IsGoodMeaning M
+  good_entity s x e M Entity.Parameter i j named declared is given = good_actual s x M i given
+  good_entity s x e M (Entity.Stored type) i j named declared is given =
+      subst IsGoodMeaning (some_same given) (i, record { entry = e; listed = j; named = named; root = type; entity = is; declared = declared ∙ ap Some is; peeled = refl })
+  good_entity s x e M (Entity.Defined body) i j named declared is given = subst IsGoodMeaning (some_same given) (i, subst IsWrittenEntity is (entry_written s i e j).entity)
+  good_entity s x e M (Entity.Instance process y actuals) i j named declared is given = by (module_named p y) refl given
     where
       child_is : (m : Module) → module_named p y ≡ Some m → child p s e ≡ Some (Scope.Inside s e.name process actuals m)
       child_is m found = ap (λ z. child p s (record { name = e.name; line = e.line; entity = z })) is ∙ ap (option_map (Scope.Inside s e.name process actuals)) found
@@ -215,7 +218,7 @@ module _ (p : Program) (kept : IsKept p) where
     where
       by : (o : Option Entry) → find (λ e. bytes_eq e.name x) (entries (module_of s)) ≡ o → option_and_then (meaning_of p s x) (option_map (λ e. e.entity) o) ≡ Some M → IsGoodMeaning M
       by None found f = absurd (not_some f)
-      by (Some e) found f = let r = find_in (λ e. bytes_eq e.name x) (entries (module_of s)) found in good_entity s x e M e.entity i r.0 (names_same e.name x r.1) refl f
+      by (Some e) found f = let r = find_in (λ e. bytes_eq e.name x) (entries (module_of s)) found in good_entity s x e M e.entity i r.0 (names_same e.name x r.1) (ap (option_map (λ (d : Entry). d.entity)) found) refl f
 
   mutual
     good_find : {s : Scope} {x : Name} {t : Target} → Finds p s x t → In s (instances p) → IsGood t
@@ -227,13 +230,14 @@ module _ (p : Program) (kept : IsKept p) where
     good_target (Denotes.constant none symbol) i = symbol
     good_target (Denotes.field d f) i = good_find f (good_target d i)
     good_target (Denotes.index d) i = let g = good_target d i in
-        (g.0, record { entry = g.1.entry; listed = g.1.listed; named = g.1.named; root = g.1.root; entity = g.1.entity; peeled = g.1.peeled })
+        (g.0, record { entry = g.1.entry; listed = g.1.listed; named = g.1.named; root = g.1.root; entity = g.1.entity; declared = g.1.declared; peeled = g.1.peeled })
 
   -- ---- numbers
 
-  pub named_below : (w : Name) → In w (names_of (variables_from p greatest_depth (Scope.Main kept.root))) → In w (variable_names p)
-  named_below w i = subst (In w) (sym (map-append name_of (selector_variables p) (flat_map (variables_from p greatest_depth) (main_scope p))))
-      (in_right (names_of (selector_variables p)) (names_of (flat_map (variables_from p greatest_depth) (main_scope p))) (subst (λ vs. In w (names_of vs)) (sym body) i))
+  pub stored_block : (home : Scope) (e : Entry) (root : Plain) → In home (instances p) → In e (entries (module_of home)) → e.entity ≡ Entity.Stored root → IsBlock (element_names root (spelled home e.name)) (variable_names p)
+  stored_block home e root i j is = subst (IsBlock (element_names root (spelled home e.name))) (sym (map-append name_of (selector_variables p) (flat_map (variables_from p greatest_depth) (main_scope p))))
+      (block_right (names_of (selector_variables p)) (names_of (flat_map (variables_from p greatest_depth) (main_scope p)))
+      (subst (λ vs. IsBlock (element_names root (spelled home e.name)) (names_of vs)) (sym body) (stored_in_tree p greatest_depth (Scope.Main kept.root) home e root (subst (In home) main_is i) j is)))
     where
       body : flat_map (variables_from p greatest_depth) (main_scope p) ≡ variables_from p greatest_depth (Scope.Main kept.root)
       body = ap (λ o. flat_map (variables_from p greatest_depth) (cons_option (option_map Scope.Main o) [])) kept.found ∙ append-nil (variables_from p greatest_depth (Scope.Main kept.root))
@@ -243,9 +247,8 @@ module _ (p : Program) (kept : IsKept p) where
       let g = good_target d i in
       let e = g.1 in
       let z : In (element_name (spelled home x) ns) (element_names e.root (spelled home x)) = selected p e.root type (spelled home x) (element_name (spelled home x) ns) indexes ns e.peeled values (one_element type (element_name (spelled home x) ns) flat) in
-      place_below (element_name (spelled home x) ns) (variable_names p) (named_below (element_name (spelled home x) ns)
-      (stored_in_tree p greatest_depth (Scope.Main kept.root) home e.entry e.root (element_name (spelled home x) ns) (subst (In home) main_is g.0) e.listed e.entity
-      (subst (λ y. In (element_name (spelled home x) ns) (element_names e.root (spelled home y))) (sym e.named) z)))
+      place_below (element_name (spelled home x) ns) (variable_names p)
+      (in_block (stored_block home e.entry e.root g.0 e.listed e.entity) (subst (λ y. In (element_name (spelled home x) ns) (element_names e.root (spelled home y))) (sym e.named) z))
 
   in_processes : (s : Scope) → In s (instances p) → is_process s ≡ true → In (process_name s) (processes p)
   in_processes s i its = in_map process_name (filter is_process (instances p)) (in_filter is_process (instances p) i its)

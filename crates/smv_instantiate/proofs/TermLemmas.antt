@@ -21,10 +21,9 @@ use Rattle.smv_names.proofs.GroundLemmas.{IsGrounded}
 use Rattle.smv_names.proofs.ExistLemmas.{IsGood, AllGood, term_exists}
 use Rattle.smv_names.proofs.DefinedLemmas.{AreNumbered, grounded_good}
 use Rattle.smv_instantiate.specs.Written.{IsWritten}
-use Rattle.smv_instantiate.proofs.Members.{some_same, not_some, In, Distinct, find_in, in_flat, in_flat_back, in_map, in_map_back}
+use Rattle.smv_instantiate.proofs.Members.{some_same, not_some, In, Distinct, find_in, in_flat, in_flat_back, in_map, in_map_back, slice_in}
 use Rattle.smv_instantiate.proofs.NameLemmas.{names_same, rising_has}
 use Rattle.smv_instantiate.proofs.TypeLemmas.{length_rising}
-use Rattle.smv_instantiate.proofs.BodySteps.{slice_in}
 use Rattle.smv_instantiate.proofs.TargetLemmas.{IsKept, good_meaning, good_target}
 use Rattle.smv_instantiate.proofs.DeclaredLemmas.{kept}
 

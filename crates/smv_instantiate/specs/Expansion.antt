@@ -11,7 +11,7 @@ use Rattle.smv_parser.specs.View.{tree_of, arm_pair}
 use Rattle.smv_instances.specs.declared.instances.Instances.{Instances}
 use Rattle.smv_instances.specs.Abstract as abstract
 use Rattle.smv_instances.specs.Plain.{plain_expr}
-use Rattle.smv_instances.specs.Program.{Name, Expr, Exprs, Path, Program}
+use Rattle.smv_instances.specs.Program.{Expr, Exprs, Path, Program}
 use Rattle.smv_instances.specs.Program
 use Rattle.smv_instances.specs.Instances.{Scope}
 use Rattle.smv_instances.specs.Numbered.{scope_at}
@@ -20,14 +20,14 @@ use Rattle.smv_names.specs.Denotes.{Target, Denotes, bare}
 use Rattle.smv_names.specs.Expands.{Expands, ExpandElements, ExpandArms, Selects}
 use Rattle.smv_names.specs.Paths.{ArePaths}
 use Rattle.smv_instantiate.specs.declared.expansion.End.{End}
-use Rattle.smv_instantiate.specs.Names.{AreVariableNames}
+use Rattle.smv_instantiate.specs.Firsts.{AreFirsts}
 use Rattle.smv_instantiate.specs.Written.{IsWritten}
 
--- the paths and the flat variables are those of a written program
+-- the paths and the first flat variables are those of a written program
 pub record CanExpand (p : Program) (instances : Instances) (paths : Paths)
-    (names : List Name) : Type 0 where
+    (firsts : List (Option ℕ)) : Type 0 where
   pub paths_are : ArePaths p instances paths
-  pub names_are : AreVariableNames p names
+  pub firsts_are : AreFirsts p firsts
   pub written : IsWritten p
 
 -- the flat variable that the path selects, or none where it selects none

@@ -7,6 +7,7 @@ pub mod Parsed
 pub mod Bodies
 pub mod Expanded
 pub mod Names
+pub mod Firsts
 pub mod Expansion
 pub mod Passes
 pub mod Parts

@@ -1,5 +1,5 @@
 -- What the pass over items knows of the items that it went over.
-use Rattle.std.specs.Prelude.{◌≡◌, ℕ, ◌+◌, ◌<◌, ◌≤◌, ◌⊎◌, List, [], ◌∷◌, ◌++◌, map, All, Some, Result, MatchResult, sum_by}
+use Rattle.std.specs.Prelude.{◌≡◌, ℕ, ◌+◌, ◌<◌, ◌≤◌, ◌⊎◌, List, [], ◌∷◌, ◌++◌, map, All, Option, Some, Result, MatchResult, sum_by}
 use Rattle.kripke_model.specs.Refusing.{Silent, First, refuse}
 use Rattle.kripke_model.specs.Size.{term_nodes, nesting}
 use Rattle.kripke_model.specs.Term.{Term}
@@ -11,7 +11,7 @@ use Rattle.smv_instances.specs.Built.{AreInstances}
 use Rattle.smv_instances.specs.Declarations.{Refusal}
 use Rattle.smv_instances.specs.Instances.{Scope}
 use Rattle.smv_instances.specs.Numbered.{scope_at}
-use Rattle.smv_instances.specs.Program.{Kind, Name, Path, Program}
+use Rattle.smv_instances.specs.Program.{Kind, Path, Program}
 use Rattle.smv_names.specs.declared.paths.Paths.{Paths}
 use Rattle.smv_names.specs.Expands.{Expands, Selects}
 use Rattle.smv_instantiate.specs.declared.items.Item.{Item as Held}
@@ -22,16 +22,16 @@ use Rattle.smv_instantiate.specs.Refuses.{AreTerms, count_of, count_rows, expres
 use Rattle.smv_instantiate.specs.Expansion.{CanExpand}
 use Rattle.smv_instantiate.specs.Written.{IsWrittenExpr}
 
--- the instances, the paths and the names of the flat variables, as the code keeps them
+-- the instances, the paths and the first flat variables, as the code keeps them
 pub record AreTables (p : Program) (instances : Instances) (paths : Paths)
-    (names : List Name) : Type 0 where
+    (firsts : List (Option ℕ)) : Type 0 where
   pub instances_are : AreInstances p instances
-  pub expands : CanExpand p instances paths names
+  pub expands : CanExpand p instances paths firsts
 
 -- one of the instances has this number
-abbrev pub HasTables : Instances → Paths → List Name → ℕ → Type 0
-HasTables instances paths names i
-    = (p : Program) × (s : Scope) × AreTables p instances paths names × (scope_at p i ≡ Some s)
+abbrev pub HasTables : Instances → Paths → List (Option ℕ) → ℕ → Type 0
+HasTables instances paths firsts i
+    = (p : Program) × (s : Scope) × AreTables p instances paths firsts × (scope_at p i ≡ Some s)
 
 -- items in the body of s
 abbrev pub placed : Scope → List Held → List Placed

@@ -16,7 +16,6 @@ ghost use Rattle.smv_instantiate.specs.Passes.{AreCounts, AreTables, CountsItem,
 
 use crate::expansion::selected;
 use crate::items::{Item, mentions_of};
-use crate::names::VariableNames;
 use crate::totals::{Totals, add_size, count_condition};
 use kripke_model::refusals::FlatRefusal;
 use smv_instances::Instances;
@@ -31,12 +30,12 @@ fn check_item_paths<'p>(
     alloc: Global,
     instances: &Instances<'p>,
     paths: &Paths<'p>,
-    names: &VariableNames<'_>,
+    firsts: &[Option<u32>],
     i: usize,
     item: &Item<'p>,
 ) -> Result<(), FlatRefusal>
-    requires { HasTables instances.now paths.now names.now i }
-    ensures { (p : Plain) (s : Scope) → AreTables p instances.now paths.now names.now
+    requires { HasTables instances.now paths.now firsts.now i }
+    ensures { (p : Plain) (s : Scope) → AreTables p instances.now paths.now firsts.now
         → scope_at p i ≡ Some s
         → MatchResult result (λ _. AreSound p s (item_mentions (plain_item item.now))
         × Silent (path_rows p s (item_mentions (plain_item item.now))))
@@ -58,18 +57,18 @@ fn check_left<'p>(
     alloc: Global,
     instances: &Instances<'p>,
     paths: &Paths<'p>,
-    names: &VariableNames<'_>,
+    firsts: &[Option<u32>],
     i: usize,
     left: &'p Left,
 ) -> Result<(), FlatRefusal>
-    requires { HasTables instances.now paths.now names.now i }
-    ensures { (p : Plain) (s : Scope) → AreTables p instances.now paths.now names.now
+    requires { HasTables instances.now paths.now firsts.now i }
+    ensures { (p : Plain) (s : Scope) → AreTables p instances.now paths.now firsts.now
         → scope_at p i ≡ Some s
         → MatchResult result (λ _. ((x : ℕ) × Selects p s (plain_path left.now.path) x)
         × Silent (left_row p s (plain_path left.now.path) left.now.line))
         (Refused (left_row p s (plain_path left.now.path) left.now.line)) }
 {
-    match selected(alloc, instances, paths, names, i, &left.path)? {
+    match selected(alloc, instances, paths, firsts, i, &left.path)? {
         Some(_) => Ok(()),
         None => Err(FlatRefusal::NotAssignable { line: left.line }),
     }
@@ -80,20 +79,20 @@ fn count_item<'p>(
     alloc: Global,
     instances: &Instances<'p>,
     paths: &Paths<'p>,
-    names: &VariableNames<'_>,
+    firsts: &[Option<u32>],
     i: usize,
     item: &Item<'p>,
     totals: &Totals,
 ) -> Result<Totals, FlatRefusal>
-    requires { HasTables instances.now paths.now names.now i }
+    requires { HasTables instances.now paths.now firsts.now i }
     ensures { (p : Plain) (s : Scope) (before : List Placed)
-        → AreTables p instances.now paths.now names.now → scope_at p i ≡ Some s
+        → AreTables p instances.now paths.now firsts.now → scope_at p i ≡ Some s
         → AreCounts totals.now before → CountsItem p before s (plain_item item.now) totals.now
         result }
 {
     match item {
         Item::Assigns(assignment) => {
-            check_left(alloc, instances, paths, names, i, &assignment.left)?;
+            check_left(alloc, instances, paths, firsts, i, &assignment.left)?;
             Ok(*totals)
         }
         Item::States { condition, .. } => count_condition(*condition, item.line(), totals),
@@ -105,20 +104,20 @@ pub fn check_item<'p>(
     alloc: Global,
     instances: &Instances<'p>,
     paths: &Paths<'p>,
-    names: &VariableNames<'_>,
+    firsts: &[Option<u32>],
     i: usize,
     item: &Item<'p>,
     totals: &Totals,
 ) -> Result<Totals, FlatRefusal>
     requires { (p : Plain) × (s : Scope) × (before : List Placed)
-        × AreTables p instances.now paths.now names.now × (scope_at p i ≡ Some s)
+        × AreTables p instances.now paths.now firsts.now × (scope_at p i ≡ Some s)
         × IsPassed p before totals.now }
     ensures { (p : Plain) (s : Scope) (before : List Placed)
-        → AreTables p instances.now paths.now names.now → scope_at p i ≡ Some s
+        → AreTables p instances.now paths.now firsts.now → scope_at p i ≡ Some s
         → IsPassed p before totals.now → PassesItem p before (s, plain_item item.now) result }
 {
-    check_item_paths(alloc, instances, paths, names, i, item)?;
-    let counted = count_item(alloc, instances, paths, names, i, item, totals)?;
+    check_item_paths(alloc, instances, paths, firsts, i, item)?;
+    let counted = count_item(alloc, instances, paths, firsts, i, item, totals)?;
     let measured = size(
         alloc,
         instances,

@@ -1,7 +1,7 @@
 //! Expressions with their paths replaced by what they denote. A name of a program may stand for another expression;
 //! the recursion goes along those expressions only where it makes a node of the term, and so no deeper than the term is.
 
-ghost use Rattle.std.specs.Prelude.{◌≡◌, ℕ, ◌≤◌, IfOk, Some, None, reverse};
+ghost use Rattle.std.specs.Prelude.{◌≡◌, ℕ, ◌≤◌, IfOk, Some, None};
 ghost use Rattle.kripke_model.specs.Reading.{arms_in, term_of, terms_in};
 ghost use Rattle.kripke_model.specs.Size.{nesting};
 ghost use Rattle.kripke_model.specs.Term.{Arms as FlatArms, Term, Terms};
@@ -10,18 +10,16 @@ ghost use Rattle.smv_instances.specs.Plain.{plain_expr, plain_type};
 ghost use Rattle.smv_instances.specs.Instances.{Scope};
 ghost use Rattle.kripke_model.specs.Evaluation.{truth_value as value_of_truth};
 ghost use Rattle.smv_instances.specs.Numbered.{scope_at};
-ghost use Rattle.smv_names.specs.Expands.{Expands, element_name, is_array as is_array_type};
+ghost use Rattle.smv_names.specs.Expands.{Expands, is_array as is_array_type};
 ghost use Rattle.smv_names.specs.Paths.{ArePaths};
 ghost use Rattle.smv_names.specs.Targets.{IsText, Resolves};
 ghost use Rattle.smv_names.specs.Written.{plain_path};
 ghost use Rattle.smv_instantiate.specs.Expansion.{ArmsStandFor, CanExpand, DenotesNoText, ElementsStandFor, EndsPath, IsNode, IsNodeOf, IsSelected, IsWrittenAt, StandsFor, plain_arms, plain_exprs};
 ghost use Rattle.smv_instantiate.specs.Written.{IsWrittenExpr};
 
-use crate::fronts::spelled_name;
-use crate::names::VariableNames;
+use crate::firsts::{first_at, offset};
 use crate::operators::{binary, binary_operator, is_every, next_of, prefixed, until};
-use crate::types::{indexed_name, number_value};
-use kripke_model::Name;
+use crate::types::number_value;
 use kripke_model::expressions::{Arm as FlatArm, Expr as FlatExpr, Value};
 use smv_instances::Instances;
 use smv_names::checks::index_values;
@@ -32,17 +30,6 @@ use smv_parser::{Arm, Expr, ExprKind, Path, Plain as Type, PlainKind};
 use std::alloc::{AllocError, Global};
 
 // ---- variables
-
-/// The name of an element, by the values of the indexes, the first one first.
-fn element(alloc: Global, name: Name, values: &[u32]) -> Result<Name, AllocError>
-    ensures { IfOk result (λ flat. flat ≡ element_name name (reverse values.now)) }
-{
-    let mut flat = name;
-    for value in values {
-        flat = indexed_name(alloc, &flat, *value)?;
-    }
-    Ok(flat)
-}
 
 fn is_array(plain: &Type) -> bool
     ensures { result ≡ is_array_type (plain_type plain.now) }
@@ -58,13 +45,14 @@ fn cell<'p>(
     alloc: Global,
     instances: &Instances<'p>,
     paths: &Paths<'p>,
-    names: &VariableNames<'_>,
+    firsts: &[Option<u32>],
     target: &Target<'p>,
 ) -> Result<Option<u32>, AllocError>
-    requires { (p : Plain) × (s : Scope) × (q : Written)
-        × CanExpand p instances.now paths.now names.now × Resolves p s q (Some target.now) }
+    requires { (p : Plain) × (s : Scope) × (q : Written) × (i : ℕ)
+        × CanExpand p instances.now paths.now firsts.now × (scope_at p i ≡ Some s)
+        × Resolves p s q (Some target.now) }
     ensures { (p : Plain) (s : Scope) (q : Written) (i : ℕ)
-        → CanExpand p instances.now paths.now names.now → scope_at p i ≡ Some s
+        → CanExpand p instances.now paths.now firsts.now → scope_at p i ≡ Some s
         → Resolves p s q (Some target.now) → IfOk result (IsSelected p s q) }
 {
     let Target::Stored {
@@ -82,9 +70,8 @@ fn cell<'p>(
     match index_values(alloc, instances, &paths.targets, &paths.numbers, indexes)? {
         None => Ok(None),
         Some(values) => {
-            let spelled = spelled_name(alloc, &instances.rows, *home, *name)?;
-            let flat = element(alloc, spelled, &values)?;
-            Ok(names.number(&flat))
+            let first = first_at(instances, &paths.targets, firsts, *home, *name);
+            Ok(Some(first + offset(indexes, &values)))
         }
     }
 }
@@ -94,17 +81,17 @@ pub fn selected<'p>(
     alloc: Global,
     instances: &Instances<'p>,
     paths: &Paths<'p>,
-    names: &VariableNames<'_>,
+    firsts: &[Option<u32>],
     i: usize,
     path: &'p Path,
 ) -> Result<Option<u32>, AllocError>
-    requires { (p : Plain) × (s : Scope) × CanExpand p instances.now paths.now names.now
+    requires { (p : Plain) × (s : Scope) × CanExpand p instances.now paths.now firsts.now
         × (scope_at p i ≡ Some s) }
-    ensures { (p : Plain) (s : Scope) → CanExpand p instances.now paths.now names.now
+    ensures { (p : Plain) (s : Scope) → CanExpand p instances.now paths.now firsts.now
         → scope_at p i ≡ Some s → IfOk result (IsSelected p s (plain_path path.now)) }
 {
     match paths.targets.resolve(alloc, instances, i, path)? {
-        Some(target) => cell(alloc, instances, paths, names, &target),
+        Some(target) => cell(alloc, instances, paths, firsts, &target),
         None => Ok(None),
     }
 }
@@ -213,21 +200,21 @@ fn target_leaf<'p>(
     alloc: Global,
     instances: &Instances<'p>,
     paths: &Paths<'p>,
-    names: &VariableNames<'_>,
+    firsts: &[Option<u32>],
     target: &Target<'p>,
 ) -> Result<FlatExpr, AllocError>
     requires { (p : Plain) × (s : Scope) × (q : Written) × (i : ℕ) × (t : Term)
-        × CanExpand p instances.now paths.now names.now × (scope_at p i ≡ Some s)
+        × CanExpand p instances.now paths.now firsts.now × (scope_at p i ≡ Some s)
         × Resolves p s q (Some target.now) × Expands p s (Body.At q) t × DenotesNoText p s q }
     ensures { (p : Plain) (s : Scope) (q : Written) (i : ℕ) (t : Term)
-        → CanExpand p instances.now paths.now names.now → scope_at p i ≡ Some s
+        → CanExpand p instances.now paths.now firsts.now → scope_at p i ≡ Some s
         → Resolves p s q (Some target.now) → Expands p s (Body.At q) t → DenotesNoText p s q
         → IfOk result (λ e. term_of e ≡ t) }
 {
     if let Target::Constant(place) = target {
         return Ok(FlatExpr::Const(Value::Symbol(*place as u32)));
     }
-    match cell(alloc, instances, paths, names, target)? {
+    match cell(alloc, instances, paths, firsts, target)? {
         Some(x) => Ok(FlatExpr::Var(x)),
         None => unreachable!(),
     }
@@ -238,19 +225,19 @@ fn leaf<'p>(
     alloc: Global,
     instances: &Instances<'p>,
     paths: &Paths<'p>,
-    names: &VariableNames<'_>,
+    firsts: &[Option<u32>],
     i: usize,
     path: &'p Path,
 ) -> Result<FlatExpr, AllocError>
     requires { (p : Plain) × (s : Scope) × (t : Term)
-        × CanExpand p instances.now paths.now names.now × (scope_at p i ≡ Some s)
+        × CanExpand p instances.now paths.now firsts.now × (scope_at p i ≡ Some s)
         × Expands p s (Body.At (plain_path path.now)) t × DenotesNoText p s (plain_path path.now) }
-    ensures { (p : Plain) (s : Scope) (t : Term) → CanExpand p instances.now paths.now names.now
+    ensures { (p : Plain) (s : Scope) (t : Term) → CanExpand p instances.now paths.now firsts.now
         → scope_at p i ≡ Some s → Expands p s (Body.At (plain_path path.now)) t
         → DenotesNoText p s (plain_path path.now) → IfOk result (λ e. term_of e ≡ t) }
 {
     match paths.targets.resolve(alloc, instances, i, path)? {
-        Some(target) => target_leaf(alloc, instances, paths, names, &target),
+        Some(target) => target_leaf(alloc, instances, paths, firsts, &target),
         None => unreachable!(),
     }
 }
@@ -263,20 +250,22 @@ fn expand_within<'p>(
     alloc: Global,
     instances: &Instances<'p>,
     paths: &Paths<'p>,
-    names: &VariableNames<'_>,
+    firsts: &[Option<u32>],
     i: usize,
     expr: &'p Expr,
     depth: u32,
 ) -> Result<FlatExpr, AllocError>
     requires { (p : Plain) × (s : Scope) × (t : Term)
-        × CanExpand p instances.now paths.now names.now × (scope_at p i ≡ Some s)
+        × CanExpand p instances.now paths.now firsts.now × (scope_at p i ≡ Some s)
         × StandsFor p s (plain_expr expr.now) depth t }
-    ensures { (p : Plain) (s : Scope) (t : Term) → CanExpand p instances.now paths.now names.now
+    ensures { (p : Plain) (s : Scope) (t : Term) → CanExpand p instances.now paths.now firsts.now
         → scope_at p i ≡ Some s → StandsFor p s (plain_expr expr.now) depth t
         → IfOk result (λ e. term_of e ≡ t) }
 {
     let node = node_of(alloc, instances, paths, i, expr)?;
-    expand_node(alloc, instances, paths, names, node.home, node.right, depth)
+    expand_node(
+        alloc, instances, paths, firsts, node.home, node.right, depth,
+    )
 }
 
 /// The flat expressions of the elements of braces.
@@ -285,21 +274,21 @@ fn expand_elements<'p>(
     alloc: Global,
     instances: &Instances<'p>,
     paths: &Paths<'p>,
-    names: &VariableNames<'_>,
+    firsts: &[Option<u32>],
     i: usize,
     elements: &'p [Expr],
     depth: u32,
 ) -> Result<Vec<FlatExpr>, AllocError>
     requires { (p : Plain) × (s : Scope) × (ts : Terms)
-        × CanExpand p instances.now paths.now names.now × (scope_at p i ≡ Some s)
+        × CanExpand p instances.now paths.now firsts.now × (scope_at p i ≡ Some s)
         × ElementsStandFor p s (plain_exprs elements.now) depth ts }
-    ensures { (p : Plain) (s : Scope) (ts : Terms) → CanExpand p instances.now paths.now names.now
+    ensures { (p : Plain) (s : Scope) (ts : Terms) → CanExpand p instances.now paths.now firsts.now
         → scope_at p i ≡ Some s → ElementsStandFor p s (plain_exprs elements.now) depth ts
         → IfOk result (λ es. terms_in es.items ≡ ts) }
 {
     let mut expanded = Vec::new(alloc);
     for element in elements {
-        expanded.push(expand_within(alloc, instances, paths, names, i, element, depth)?)?;
+        expanded.push(expand_within(alloc, instances, paths, firsts, i, element, depth)?)?;
     }
     Ok(expanded)
 }
@@ -310,23 +299,23 @@ fn expand_arms<'p>(
     alloc: Global,
     instances: &Instances<'p>,
     paths: &Paths<'p>,
-    names: &VariableNames<'_>,
+    firsts: &[Option<u32>],
     i: usize,
     arms: &'p [Arm],
     depth: u32,
 ) -> Result<Vec<FlatArm>, AllocError>
     requires { (p : Plain) × (s : Scope) × (ts : FlatArms)
-        × CanExpand p instances.now paths.now names.now × (scope_at p i ≡ Some s)
+        × CanExpand p instances.now paths.now firsts.now × (scope_at p i ≡ Some s)
         × ArmsStandFor p s (plain_arms arms.now) depth ts }
     ensures { (p : Plain) (s : Scope) (ts : FlatArms)
-        → CanExpand p instances.now paths.now names.now → scope_at p i ≡ Some s
+        → CanExpand p instances.now paths.now firsts.now → scope_at p i ≡ Some s
         → ArmsStandFor p s (plain_arms arms.now) depth ts
         → IfOk result (λ es. arms_in es.items ≡ ts) }
 {
     let mut expanded = Vec::new(alloc);
     for arm in arms {
-        let guard = expand_within(alloc, instances, paths, names, i, &arm.guard, depth)?;
-        let right = expand_within(alloc, instances, paths, names, i, &arm.right, depth)?;
+        let guard = expand_within(alloc, instances, paths, firsts, i, &arm.guard, depth)?;
+        let right = expand_within(alloc, instances, paths, firsts, i, &arm.right, depth)?;
         expanded.push(FlatArm { guard, right })?;
     }
     Ok(expanded)
@@ -338,15 +327,15 @@ fn expand_node<'p>(
     alloc: Global,
     instances: &Instances<'p>,
     paths: &Paths<'p>,
-    names: &VariableNames<'_>,
+    firsts: &[Option<u32>],
     i: usize,
     expr: &'p Expr,
     depth: u32,
 ) -> Result<FlatExpr, AllocError>
     requires { (p : Plain) × (s : Scope) × (t : Term)
-        × CanExpand p instances.now paths.now names.now × (scope_at p i ≡ Some s)
+        × CanExpand p instances.now paths.now firsts.now × (scope_at p i ≡ Some s)
         × StandsFor p s (plain_expr expr.now) depth t × IsNode p s (plain_expr expr.now) }
-    ensures { (p : Plain) (s : Scope) (t : Term) → CanExpand p instances.now paths.now names.now
+    ensures { (p : Plain) (s : Scope) (t : Term) → CanExpand p instances.now paths.now firsts.now
         → scope_at p i ≡ Some s → StandsFor p s (plain_expr expr.now) depth t
         → IsNode p s (plain_expr expr.now) → IfOk result (λ e. term_of e ≡ t) }
 {
@@ -355,32 +344,32 @@ fn expand_node<'p>(
         ExprKind::Number(n) => Ok(FlatExpr::Const(number_value(*n))),
         ExprKind::Truth(truth) => Ok(FlatExpr::Const(truth_value(*truth))),
         ExprKind::Running => Ok(FlatExpr::Running(instances.process(i) as u32)),
-        ExprKind::Path(path) => leaf(alloc, instances, paths, names, i, path),
+        ExprKind::Path(path) => leaf(alloc, instances, paths, firsts, i, path),
         ExprKind::Parens(_) => unreachable!(),
         ExprKind::Next(inner) => {
-            let inner = expand_within(alloc, instances, paths, names, i, inner, below)?;
+            let inner = expand_within(alloc, instances, paths, firsts, i, inner, below)?;
             next_of(alloc, inner)
         }
         ExprKind::Prefix(op, inner) => {
-            let inner = expand_within(alloc, instances, paths, names, i, inner, below)?;
+            let inner = expand_within(alloc, instances, paths, firsts, i, inner, below)?;
             prefixed(alloc, *op, inner)
         }
         ExprKind::Binary(op, left, right) => {
-            let left = expand_within(alloc, instances, paths, names, i, left, below)?;
-            let right = expand_within(alloc, instances, paths, names, i, right, below)?;
+            let left = expand_within(alloc, instances, paths, firsts, i, left, below)?;
+            let right = expand_within(alloc, instances, paths, firsts, i, right, below)?;
             binary(alloc, binary_operator(*op), left, right)
         }
         ExprKind::Until(every, left, right) => {
-            let left = expand_within(alloc, instances, paths, names, i, left, below)?;
-            let right = expand_within(alloc, instances, paths, names, i, right, below)?;
+            let left = expand_within(alloc, instances, paths, firsts, i, left, below)?;
+            let right = expand_within(alloc, instances, paths, firsts, i, right, below)?;
             until(alloc, is_every(*every), left, right)
         }
         ExprKind::Braces(elements) => {
-            let elements = expand_elements(alloc, instances, paths, names, i, elements, below)?;
+            let elements = expand_elements(alloc, instances, paths, firsts, i, elements, below)?;
             Ok(FlatExpr::Braces(elements))
         }
         ExprKind::Case(arms) => {
-            let arms = expand_arms(alloc, instances, paths, names, i, arms, below)?;
+            let arms = expand_arms(alloc, instances, paths, firsts, i, arms, below)?;
             Ok(FlatExpr::Case(arms))
         }
     }
@@ -391,19 +380,19 @@ pub fn expand<'p>(
     alloc: Global,
     instances: &Instances<'p>,
     paths: &Paths<'p>,
-    names: &VariableNames<'_>,
+    firsts: &[Option<u32>],
     i: usize,
     expr: &'p Expr,
     depth: u32,
 ) -> Result<FlatExpr, AllocError>
     requires { (p : Plain) × (s : Scope) × (t : Term)
-        × CanExpand p instances.now paths.now names.now × (scope_at p i ≡ Some s)
+        × CanExpand p instances.now paths.now firsts.now × (scope_at p i ≡ Some s)
         × IsWrittenExpr (plain_expr expr.now) × Expands p s (plain_expr expr.now) t
         × (nesting t ≤ depth) }
-    ensures { (p : Plain) (s : Scope) (t : Term) → CanExpand p instances.now paths.now names.now
+    ensures { (p : Plain) (s : Scope) (t : Term) → CanExpand p instances.now paths.now firsts.now
         → scope_at p i ≡ Some s → IsWrittenExpr (plain_expr expr.now)
         → Expands p s (plain_expr expr.now) t → nesting t ≤ depth
         → IfOk result (λ e. term_of e ≡ t) }
 {
-    expand_within(alloc, instances, paths, names, i, expr, depth)
+    expand_within(alloc, instances, paths, firsts, i, expr, depth)
 }

@@ -4,6 +4,7 @@
 mod bodies;
 mod checks;
 mod expansion;
+mod firsts;
 mod fronts;
 mod items;
 mod models;

@@ -17,6 +17,7 @@ ghost use Rattle.smv_instantiate.specs.Refuses.{Refuses, item};
 ghost use Rattle.smv_instantiate.specs.Written.{IsWritten};
 
 use crate::bodies::variables_of;
+use crate::firsts::firsts_of;
 use crate::names::VariableNames;
 use crate::parts::{FlatParts, parts_of};
 use crate::passes::check_items;
@@ -71,8 +72,9 @@ fn checked_parts<'p>(
         × Silent (First (item p) [] (all_items p))) (Refused (First (item p) [] (all_items p))) }
 {
     let names = VariableNames::of(alloc, variables)?;
-    check_items(alloc, instances, paths, &names)?;
-    let parts = parts_of(alloc, instances, paths, &names)?;
+    let firsts = firsts_of(alloc, instances, &paths.targets, &names)?;
+    check_items(alloc, instances, paths, &firsts)?;
+    let parts = parts_of(alloc, instances, paths, &firsts)?;
     Ok(parts)
 }
 

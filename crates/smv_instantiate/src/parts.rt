@@ -18,7 +18,6 @@ ghost use Rattle.smv_instantiate.specs.Written.{IsWrittenExpr};
 
 use crate::expansion::{expand, selected};
 use crate::items::{Item, items_of};
-use crate::names::VariableNames;
 use crate::totals::MOST_NESTING;
 use kripke_model::models::{Assign, Item as FlatItem, Part};
 use smv_instances::Instances;
@@ -53,24 +52,24 @@ fn flat_assignment<'p>(
     alloc: Global,
     instances: &Instances<'p>,
     paths: &Paths<'p>,
-    names: &VariableNames<'_>,
+    firsts: &[Option<u32>],
     i: usize,
     assignment: &'p Assignment,
 ) -> Result<Assign, AllocError>
-    requires { (p : Plain) × (s : Scope) × AreTables p instances.now paths.now names.now
+    requires { (p : Plain) × (s : Scope) × AreTables p instances.now paths.now firsts.now
         × (scope_at p i ≡ Some s) × IsExpandable p (s, Assigns (plain_assigned assignment.now)) }
-    ensures { (p : Plain) (s : Scope) → AreTables p instances.now paths.now names.now
+    ensures { (p : Plain) (s : Scope) → AreTables p instances.now paths.now firsts.now
         → scope_at p i ≡ Some s → IsExpandable p (s, Assigns (plain_assigned assignment.now))
         → IfOk result (IsAssignment p (s, Assigns (plain_assigned assignment.now))) }
 {
-    let Some(var) = selected(alloc, instances, paths, names, i, &assignment.left.path)? else {
+    let Some(var) = selected(alloc, instances, paths, firsts, i, &assignment.left.path)? else {
         unreachable!()
     };
     let right = expand(
         alloc,
         instances,
         paths,
-        names,
+        firsts,
         i,
         &assignment.right,
         MOST_NESTING,
@@ -90,21 +89,21 @@ fn flat_condition<'p>(
     alloc: Global,
     instances: &Instances<'p>,
     paths: &Paths<'p>,
-    names: &VariableNames<'_>,
+    firsts: &[Option<u32>],
     i: usize,
     expr: &'p Expr,
     line: u32,
 ) -> Result<FlatItem, AllocError>
     requires { (p : Plain) × (s : Scope) × (t : Term)
-        × AreTables p instances.now paths.now names.now × (scope_at p i ≡ Some s)
+        × AreTables p instances.now paths.now firsts.now × (scope_at p i ≡ Some s)
         × IsWrittenExpr (plain_expr expr.now) × Expands p s (plain_expr expr.now) t
         × (nesting t ≤ 1024) }
-    ensures { (p : Plain) (s : Scope) (t : Term) → AreTables p instances.now paths.now names.now
+    ensures { (p : Plain) (s : Scope) (t : Term) → AreTables p instances.now paths.now firsts.now
         → scope_at p i ≡ Some s → IsWrittenExpr (plain_expr expr.now)
         → Expands p s (plain_expr expr.now) t → nesting t ≤ 1024
         → IfOk result (λ c. (c.expr ≡ t) × (c.line ≡ line)) }
 {
-    let expr = expand(alloc, instances, paths, names, i, expr, MOST_NESTING)?;
+    let expr = expand(alloc, instances, paths, firsts, i, expr, MOST_NESTING)?;
     Ok(FlatItem { expr, line })
 }
 
@@ -147,21 +146,21 @@ fn push_item<'p>(
     alloc: Global,
     instances: &Instances<'p>,
     paths: &Paths<'p>,
-    names: &VariableNames<'_>,
+    firsts: &[Option<u32>],
     i: usize,
     item: &Item<'p>,
     parts: &mut FlatParts,
 ) -> Result<(), AllocError>
-    requires { (p : Plain) × (s : Scope) × AreTables p instances.now paths.now names.now
+    requires { (p : Plain) × (s : Scope) × AreTables p instances.now paths.now firsts.now
         × (scope_at p i ≡ Some s) × IsExpandable p (s, plain_item item.now) }
     ensures { (p : Plain) (s : Scope) (before : List Placed)
-        → AreTables p instances.now paths.now names.now → scope_at p i ≡ Some s
+        → AreTables p instances.now paths.now firsts.now → scope_at p i ≡ Some s
         → IsExpandable p (s, plain_item item.now) → AreParts p before parts.old
         → IfOk result (λ _. AreParts p (before ++ (s, plain_item item.now) ∷ []) parts.new) }
 {
     match item {
         Item::Assigns(assignment) => {
-            let flat = flat_assignment(alloc, instances, paths, names, i, *assignment)?;
+            let flat = flat_assignment(alloc, instances, paths, firsts, i, *assignment)?;
             parts.assigns.push(flat)?;
             Ok(())
         }
@@ -171,7 +170,7 @@ fn push_item<'p>(
             ..
         } => {
             let line = item.line();
-            let flat = flat_condition(alloc, instances, paths, names, i, *expr, line)?;
+            let flat = flat_condition(alloc, instances, paths, firsts, i, *expr, line)?;
             push_condition(*condition, flat, parts)
         }
     }
@@ -182,20 +181,20 @@ fn push_body<'p>(
     alloc: Global,
     instances: &Instances<'p>,
     paths: &Paths<'p>,
-    names: &VariableNames<'_>,
+    firsts: &[Option<u32>],
     i: usize,
     items: &[Item<'p>],
     parts: &mut FlatParts,
 ) -> Result<(), AllocError>
-    requires { (p : Plain) × (s : Scope) × AreTables p instances.now paths.now names.now
+    requires { (p : Plain) × (s : Scope) × AreTables p instances.now paths.now firsts.now
         × (scope_at p i ≡ Some s) × All (IsExpandable p) (placed s items.now) }
     ensures { (p : Plain) (s : Scope) (before : List Placed)
-        → AreTables p instances.now paths.now names.now → scope_at p i ≡ Some s
+        → AreTables p instances.now paths.now firsts.now → scope_at p i ≡ Some s
         → All (IsExpandable p) (placed s items.now) → AreParts p before parts.old
         → IfOk result (λ _. AreParts p (before ++ placed s items.now) parts.new) }
 {
     for item in items {
-        push_item(alloc, instances, paths, names, i, item, parts)?;
+        push_item(alloc, instances, paths, firsts, i, item, parts)?;
     }
     Ok(())
 }
@@ -218,17 +217,17 @@ pub fn parts_of<'p>(
     alloc: Global,
     instances: &Instances<'p>,
     paths: &Paths<'p>,
-    names: &VariableNames<'_>,
+    firsts: &[Option<u32>],
 ) -> Result<FlatParts, AllocError>
-    requires { (p : Plain) × AreTables p instances.now paths.now names.now
+    requires { (p : Plain) × AreTables p instances.now paths.now firsts.now
         × All (IsExpandable p) (all_items p) }
-    ensures { (p : Plain) → AreTables p instances.now paths.now names.now
+    ensures { (p : Plain) → AreTables p instances.now paths.now firsts.now
         → All (IsExpandable p) (all_items p) → IfOk result (AreParts p (all_items p)) }
 {
     let mut parts = no_parts(alloc);
     for i in 0..instances.len() {
         let items = items_of(alloc, instances.module(i))?;
-        push_body(alloc, instances, paths, names, i, &items, &mut parts)?;
+        push_body(alloc, instances, paths, firsts, i, &items, &mut parts)?;
     }
     Ok(parts)
 }

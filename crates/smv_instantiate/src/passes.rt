@@ -12,7 +12,6 @@ ghost use Rattle.smv_instantiate.specs.Refuses.{item as item_rule};
 
 use crate::checks::check_item;
 use crate::items::{Item, items_of};
-use crate::names::VariableNames;
 use crate::totals::{Totals, no_totals};
 use kripke_model::refusals::FlatRefusal;
 use smv_instances::Instances;
@@ -24,21 +23,21 @@ fn check_body<'p>(
     alloc: Global,
     instances: &Instances<'p>,
     paths: &Paths<'p>,
-    names: &VariableNames<'_>,
+    firsts: &[Option<u32>],
     i: usize,
     items: &[Item<'p>],
     totals: &Totals,
 ) -> Result<Totals, FlatRefusal>
     requires { (p : Plain) × (s : Scope) × (before : List Placed)
-        × AreTables p instances.now paths.now names.now × (scope_at p i ≡ Some s)
+        × AreTables p instances.now paths.now firsts.now × (scope_at p i ≡ Some s)
         × IsPassed p before totals.now }
     ensures { (p : Plain) (s : Scope) (before : List Placed)
-        → AreTables p instances.now paths.now names.now → scope_at p i ≡ Some s
+        → AreTables p instances.now paths.now firsts.now → scope_at p i ≡ Some s
         → IsPassed p before totals.now → PassesAll p before (placed s items.now) result }
 {
     let mut so_far = *totals;
     for item in items {
-        so_far = check_item(alloc, instances, paths, names, i, item, &so_far)?;
+        so_far = check_item(alloc, instances, paths, firsts, i, item, &so_far)?;
     }
     Ok(so_far)
 }
@@ -48,10 +47,10 @@ pub fn check_items<'p>(
     alloc: Global,
     instances: &Instances<'p>,
     paths: &Paths<'p>,
-    names: &VariableNames<'_>,
+    firsts: &[Option<u32>],
 ) -> Result<(), FlatRefusal>
-    requires { (p : Plain) × AreTables p instances.now paths.now names.now }
-    ensures { (p : Plain) → AreTables p instances.now paths.now names.now
+    requires { (p : Plain) × AreTables p instances.now paths.now firsts.now }
+    ensures { (p : Plain) → AreTables p instances.now paths.now firsts.now
         → MatchResult result (λ _. All (HasTerm p) (all_items p)
         × Silent (First (item_rule p) [] (all_items p)))
         (Refused (First (item_rule p) [] (all_items p))) }
@@ -59,7 +58,7 @@ pub fn check_items<'p>(
     let mut totals = no_totals();
     for i in 0..instances.len() {
         let items = items_of(alloc, instances.module(i))?;
-        totals = check_body(alloc, instances, paths, names, i, &items, &totals)?;
+        totals = check_body(alloc, instances, paths, firsts, i, &items, &totals)?;
     }
     Ok(())
 }

@@ -14,7 +14,8 @@ use Rattle.smv_instantiate.specs.Types.{AreNamed}
 use Rattle.smv_instantiate.proofs.BodyLemmas.{variables_of_body}
 use Rattle.smv_instantiate.proofs.DeclaredLemmas.{few_symbols}
 use Rattle.smv_instantiate.proofs.TypeSteps.{taken_all}
-use Rattle.smv_instantiate.proofs.BodySteps.{slice_in, read_mapped, type_written, type_named, child_there, child_noted, child_front, stored_variables, declared_variables, inner_more, entry_more, count_more}
+use Rattle.smv_instantiate.proofs.Members.{slice_in}
+use Rattle.smv_instantiate.proofs.BodySteps.{read_mapped, type_written, type_named, child_there, child_noted, child_front, stored_variables, declared_variables, inner_more, entry_more, count_more}
 use Rattle.smv_instantiate.proofs.bodies.+bodies.Goals as goal
 
 -- ---- a body

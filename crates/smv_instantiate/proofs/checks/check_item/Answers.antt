@@ -6,7 +6,7 @@ use Rattle.smv_names.specs.Known.{AreSizes}
 use Rattle.smv_names.specs.Expands.{Expands}
 use Rattle.smv_instantiate.specs.Items.{plain_item}
 use Rattle.smv_instantiate.specs.Refuses.{expression}
-use Rattle.smv_instantiate.proofs.BodySteps.{slice_in}
+use Rattle.smv_instantiate.proofs.Members.{slice_in}
 use Rattle.smv_instantiate.proofs.PassLemmas.{own_refused, passes, paths_refused, right_sound, scope_below}
 use Rattle.smv_instantiate.proofs.TermLemmas.{stands_for}
 use Rattle.smv_instantiate.proofs.checks.check_item.Goals as goal

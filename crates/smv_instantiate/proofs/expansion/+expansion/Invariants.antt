@@ -23,11 +23,11 @@ decreases-expand_arms l = 3 * l.depth + 2
 -- the terms of the elements so far
 abbrev pub invariant-expand_elements-loop-element : goal.invariant-expand_elements-loop-element
 invariant-expand_elements-loop-element l =
-    (p : Program) (s : Scope) (ts : Terms) → CanExpand p l.instances l.paths l.names → scope_at p l.i ≡ Some s → ElementsStandFor p s (plain_exprs l.elements) l.depth ts
+    (p : Program) (s : Scope) (ts : Terms) → CanExpand p l.instances l.paths l.firsts → scope_at p l.i ≡ Some s → ElementsStandFor p s (plain_exprs l.elements) l.depth ts
     → map term_of l.expanded.items ≡ take l.element-index (terms_list ts)
 
 -- the terms of the arms so far
 abbrev pub invariant-expand_arms-loop-arm : goal.invariant-expand_arms-loop-arm
 invariant-expand_arms-loop-arm l =
-    (p : Program) (s : Scope) (ts : Arms) → CanExpand p l.instances l.paths l.names → scope_at p l.i ≡ Some s → ArmsStandFor p s (plain_arms l.arms) l.depth ts
+    (p : Program) (s : Scope) (ts : Arms) → CanExpand p l.instances l.paths l.firsts → scope_at p l.i ≡ Some s → ArmsStandFor p s (plain_arms l.arms) l.depth ts
     → map arm_of l.expanded.items ≡ take l.arm-index (arms_list ts)

@@ -1,18 +1,17 @@
-use Rattle.std.proofs.Common.{◌≡◌, ◌<◌, length, reverse, sym, ◌∙◌, ap, subst, arith, Some}
-use Rattle.std.specs.Prelude.{IfSome, IfNone, MatchOption, false}
-use Rattle.std.specs.List.{list_any}
-use Rattle.std.specs.Str.{bytes_eq}
-use Rattle.std.proofs.lemmas.Option.{slice_get_within}
-use Rattle.smv_instances.specs.Instances.{instances, place_of, spelled}
-use Rattle.smv_instances.specs.Walk.{AreRows}
+use Rattle.std.proofs.Common.{◌≡◌, ◌+◌, ◌≤◌, reverse, sym, ◌∙◌, ap, subst, arith, Some}
+use Rattle.std.specs.Prelude.{MatchOption}
+use Rattle.std.specs.List.{AllZip}
+use Rattle.smv_instances.specs.Instances.{instances}
 use Rattle.smv_names.specs.declared.targets.Target.{Target}
-use Rattle.smv_names.specs.Expands.{AreIndexes, element_name}
+use Rattle.smv_names.specs.Expands.{AreIndexes, Selects}
 use Rattle.smv_names.specs.Known.{AreNumbers, SomeBad}
 use Rattle.smv_names.specs.Targets.{AreBrackets, Resolves}
 use Rattle.smv_names.proofs.PairLemmas.{bad_not_indexes}
-use Rattle.smv_instantiate.proofs.BodySteps.{slice_in}
-use Rattle.smv_instantiate.proofs.ExpandLemmas.{are_instances, is_kept}
-use Rattle.smv_instantiate.proofs.PathSteps.{array_selects, named_selects, other_selects, stored_at, stored_or_other, unvalued_selects}
+use Rattle.smv_instantiate.specs.Firsts.{IsWithin, offset}
+use Rattle.smv_instantiate.proofs.Members.{slice_in}
+use Rattle.smv_instantiate.proofs.ExpandLemmas.{are_instances}
+use Rattle.smv_instantiate.proofs.FirstLemmas.{cell_at}
+use Rattle.smv_instantiate.proofs.PathSteps.{array_selects, other_selects, stored_at, stored_or_other, unvalued_selects}
 use Rattle.smv_instantiate.proofs.expansion.cell.Goals as goal
 
 pub returns-in_default : goal.returns-in_default
@@ -23,16 +22,6 @@ returns-then-is_array c = λ p s q i can at r.
     let stored = stored_at p s q c.in-Stored.home c.in-Stored.name c.in-Stored.plain c.in-Stored.indexes (subst (λ (t : Target). Resolves p s q (Some t)) c.in-Stored.is r) in
     array_selects p s q _ _ _ _ stored (sym c.is_array.ensures ∙ c.if-is_array.true)
 
-pub spelled_name-requires : goal.spelled_name-requires
-spelled_name-requires c =
-    let h = c.requires in
-    let stored = stored_at h.0 h.1 h.2 c.in-Stored.home c.in-Stored.name c.in-Stored.plain c.in-Stored.indexes (subst (λ (t : Target). Resolves h.0 h.1 h.2 (Some t)) c.in-Stored.is h.4) in
-    let all = are_instances h.0 h.3 in
-    let rows = subst (λ z. AreRows c.args.instances.now.modules z (instances h.0)) (sym c.deref-in-Some.ensures.value) all.are in
-    let below = slice_get_within (instances h.0) c.in-Stored.home stored.scope stored.placed in
-    let within : c.in-Stored.home < length c.deref-in-Some.result.now = omega (arith, below, rows.lengths) in
-    (c.args.instances.now.modules, (instances h.0, rows, within))
-
 pub returns-in-None : goal.returns-in-None
 returns-in-None c = λ p s q i can at r.
     let stored = stored_at p s q c.in-Stored.home c.in-Stored.name c.in-Stored.plain c.in-Stored.indexes (subst (λ (t : Target). Resolves p s q (Some t)) c.in-Stored.is r) in
@@ -42,18 +31,63 @@ returns-in-None c = λ p s q i can at r.
     subst (λ o. MatchOption o (SomeBad p stored.brackets) (λ vs. AreIndexes p stored.brackets (reverse vs.items))) c.in-None.is (c.in_ok-index_values.ensures p stored.brackets can.paths_are.targets_are numbers brackets) in
     unvalued_selects p s q _ _ _ _ stored (λ ns values. bad_not_indexes p stored.brackets ns bad values)
 
-pub returns-in_ok-flat-in-Some : goal.returns-in_ok-flat-in-Some
-returns-in_ok-flat-in-Some c = λ p s q i can at r.
+pub first_at-first-requires : goal.first_at-first-requires
+first_at-first-requires c =
+    let h = c.requires in
+    let stored = stored_at h.0 h.1 h.2 c.in-Stored.home c.in-Stored.name c.in-Stored.plain c.in-Stored.indexes (subst (λ (t : Target). Resolves h.0 h.1 h.2 (Some t)) c.in-Stored.is h.6) in
+    let numbers = subst (AreNumbers h.0) (sym c.deref.ensures.value) h.4.paths_are.numbers_are in
+    let brackets = subst (λ z. AreBrackets h.0 z stored.brackets) (sym c.deref-2.ensures.value) stored.are in
+    let values : AreIndexes h.0 stored.brackets (reverse c.in-Some.values.items) =
+    subst (λ o. MatchOption o (SomeBad h.0 stored.brackets) (λ vs. AreIndexes h.0 stored.brackets (reverse vs.items))) c.in-Some.is (c.in_ok-index_values.ensures h.0 stored.brackets h.4.paths_are.targets_are numbers brackets) in
+    let cell = cell_at h.0 (are_instances h.0 h.4).silent h.4.written h.1 h.2 _ _ _ _ stored c.in-Some.values.items (slice_in (instances h.0) h.3 h.1 h.5) (sym c.is_array.ensures ∙ c.if-is_array.false) values in
+    (h.0, cell.scope, cell.root, h.4.paths_are.targets_are, h.4.firsts_are, cell.placed, cell.declared)
+
+pub offset-requires-clause-within : goal.offset-requires-clause-within
+offset-requires-clause-within c =
+    let h = c.requires in
+    let stored = stored_at h.0 h.1 h.2 c.in-Stored.home c.in-Stored.name c.in-Stored.plain c.in-Stored.indexes (subst (λ (t : Target). Resolves h.0 h.1 h.2 (Some t)) c.in-Stored.is h.6) in
+    let numbers = subst (AreNumbers h.0) (sym c.deref.ensures.value) h.4.paths_are.numbers_are in
+    let brackets = subst (λ z. AreBrackets h.0 z stored.brackets) (sym c.deref-2.ensures.value) stored.are in
+    let values : AreIndexes h.0 stored.brackets (reverse c.in-Some.values.items) =
+    subst (λ o. MatchOption o (SomeBad h.0 stored.brackets) (λ vs. AreIndexes h.0 stored.brackets (reverse vs.items))) c.in-Some.is (c.in_ok-index_values.ensures h.0 stored.brackets h.4.paths_are.targets_are numbers brackets) in
+    let cell = cell_at h.0 (are_instances h.0 h.4).silent h.4.written h.1 h.2 _ _ _ _ stored c.in-Some.values.items (slice_in (instances h.0) h.3 h.1 h.5) (sym c.is_array.ensures ∙ c.if-is_array.false) values in
+    subst (λ hs. AllZip IsWithin hs c.deref-in-Some-2.result.now) (sym c.deref-in-Some.ensures.value) (subst (AllZip IsWithin c.in-Stored.indexes.items) (sym c.deref-in-Some-2.ensures.value) cell.counted.within)
+
+pub offset-requires-clause-few : goal.offset-requires-clause-few
+offset-requires-clause-few c =
+    let h = c.requires in
+    let stored = stored_at h.0 h.1 h.2 c.in-Stored.home c.in-Stored.name c.in-Stored.plain c.in-Stored.indexes (subst (λ (t : Target). Resolves h.0 h.1 h.2 (Some t)) c.in-Stored.is h.6) in
+    let numbers = subst (AreNumbers h.0) (sym c.deref.ensures.value) h.4.paths_are.numbers_are in
+    let brackets = subst (λ z. AreBrackets h.0 z stored.brackets) (sym c.deref-2.ensures.value) stored.are in
+    let values : AreIndexes h.0 stored.brackets (reverse c.in-Some.values.items) =
+    subst (λ o. MatchOption o (SomeBad h.0 stored.brackets) (λ vs. AreIndexes h.0 stored.brackets (reverse vs.items))) c.in-Some.is (c.in_ok-index_values.ensures h.0 stored.brackets h.4.paths_are.targets_are numbers brackets) in
+    let cell = cell_at h.0 (are_instances h.0 h.4).silent h.4.written h.1 h.2 _ _ _ _ stored c.in-Some.values.items (slice_in (instances h.0) h.3 h.1 h.5) (sym c.is_array.ensures ∙ c.if-is_array.false) values in
+    let few : offset (reverse c.in-Stored.indexes.items) (reverse c.in-Some.values.items) ≤ 255 = omega (arith, cell.counted.place, cell.counted.few) in
+    subst (λ hs. offset (reverse hs) (reverse c.deref-in-Some-2.result.now) ≤ 255) (sym c.deref-in-Some.ensures.value) (subst (λ vs. offset (reverse c.in-Stored.indexes.items) (reverse vs) ≤ 255) (sym c.deref-in-Some-2.ensures.value) few)
+
+pub overflow_add-result : goal.overflow_add-result
+overflow_add-result c =
+    let h = c.requires in
+    let stored = stored_at h.0 h.1 h.2 c.in-Stored.home c.in-Stored.name c.in-Stored.plain c.in-Stored.indexes (subst (λ (t : Target). Resolves h.0 h.1 h.2 (Some t)) c.in-Stored.is h.6) in
+    let numbers = subst (AreNumbers h.0) (sym c.deref.ensures.value) h.4.paths_are.numbers_are in
+    let brackets = subst (λ z. AreBrackets h.0 z stored.brackets) (sym c.deref-2.ensures.value) stored.are in
+    let values : AreIndexes h.0 stored.brackets (reverse c.in-Some.values.items) =
+    subst (λ o. MatchOption o (SomeBad h.0 stored.brackets) (λ vs. AreIndexes h.0 stored.brackets (reverse vs.items))) c.in-Some.is (c.in_ok-index_values.ensures h.0 stored.brackets h.4.paths_are.targets_are numbers brackets) in
+    let cell = cell_at h.0 (are_instances h.0 h.4).silent h.4.written h.1 h.2 _ _ _ _ stored c.in-Some.values.items (slice_in (instances h.0) h.3 h.1 h.5) (sym c.is_array.ensures ∙ c.if-is_array.false) values in
+    let first = c.first_at-first.ensures h.0 cell.scope cell.root h.4.paths_are.targets_are h.4.firsts_are cell.placed cell.declared in
+    let count : c.offset.result ≡ offset (reverse c.in-Stored.indexes.items) (reverse c.in-Some.values.items) =
+    c.offset.ensures ∙ ap (λ hs. offset (reverse hs) (reverse c.deref-in-Some-2.result.now)) c.deref-in-Some.ensures.value ∙ ap (λ vs. offset (reverse c.in-Stored.indexes.items) (reverse vs)) c.deref-in-Some-2.ensures.value in
+    omega (arith, first, count, cell.counted.place, cell.counted.few)
+
+pub returns-in-Some : goal.returns-in-Some
+returns-in-Some c = λ p s q i can at r.
     let stored = stored_at p s q c.in-Stored.home c.in-Stored.name c.in-Stored.plain c.in-Stored.indexes (subst (λ (t : Target). Resolves p s q (Some t)) c.in-Stored.is r) in
     let numbers = subst (AreNumbers p) (sym c.deref.ensures.value) can.paths_are.numbers_are in
     let brackets = subst (λ z. AreBrackets p z stored.brackets) (sym c.deref-2.ensures.value) stored.are in
     let values : AreIndexes p stored.brackets (reverse c.in-Some.values.items) =
     subst (λ o. MatchOption o (SomeBad p stored.brackets) (λ vs. AreIndexes p stored.brackets (reverse vs.items))) c.in-Some.is (c.in_ok-index_values.ensures p stored.brackets can.paths_are.targets_are numbers brackets) in
-    let rows = subst (λ z. AreRows c.args.instances.now.modules z (instances p)) (sym c.deref-in-Some.ensures.value) (are_instances p can).are in
-    let flat = c.in_ok-flat-in-Some.flat in
-    let front : c.in_ok-spelled-in-Some.spelled ≡ spelled stored.scope c.in-Stored.name.now = c.in_ok-spelled-in-Some.ensures c.args.instances.now.modules (instances p) stored.scope rows stored.placed in
-    let is : flat ≡ element_name (spelled stored.scope c.in-Stored.name.now) (reverse c.in-Some.values.items) =
-    c.in_ok-flat-in-Some.ensures ∙ ap (λ z. element_name z (reverse c.deref-in-Some-2.result.now)) front ∙ ap (λ z. element_name (spelled stored.scope c.in-Stored.name.now) (reverse z)) c.deref-in-Some-2.ensures.value in
-    named_selects p (is_kept p can) s q _ _ _ _ stored (slice_in (instances p) i s at) (sym c.is_array.ensures ∙ c.if-is_array.false) (reverse c.in-Some.values.items) values flat is c.number.result
-    (subst (λ ns. IfSome c.number.result (λ k. k ≡ place_of ns flat)) can.names_are c.number.ensures.some)
-    (subst (λ ns. IfNone c.number.result (list_any (bytes_eq flat) ns ≡ false)) can.names_are c.number.ensures.none)
+    let cell = cell_at p (are_instances p can).silent can.written s q _ _ _ _ stored c.in-Some.values.items (slice_in (instances p) i s at) (sym c.is_array.ensures ∙ c.if-is_array.false) values in
+    let first = c.first_at-first.ensures p cell.scope cell.root can.paths_are.targets_are can.firsts_are cell.placed cell.declared in
+    let count : c.offset.result ≡ offset (reverse c.in-Stored.indexes.items) (reverse c.in-Some.values.items) =
+    c.offset.ensures ∙ ap (λ hs. offset (reverse hs) (reverse c.deref-in-Some-2.result.now)) c.deref-in-Some.ensures.value ∙ ap (λ vs. offset (reverse c.in-Stored.indexes.items) (reverse vs)) c.deref-in-Some-2.ensures.value in
+    subst (Selects p s q) (cell.counted.place ∙ sym (ap (λ n. n + offset (reverse c.in-Stored.indexes.items) (reverse c.in-Some.values.items)) first) ∙ sym (ap (λ n. c.first_at-first.result + n) count)) cell.selects

@@ -1,5 +1,5 @@
 use Rattle.smv_instances.specs.Instances.{instances}
-use Rattle.smv_instantiate.proofs.BodySteps.{slice_in}
+use Rattle.smv_instantiate.proofs.Members.{slice_in}
 use Rattle.smv_instantiate.proofs.ExpandLemmas.{is_kept, written_numbers}
 use Rattle.smv_instantiate.proofs.expansion.expand.Goals as goal
 

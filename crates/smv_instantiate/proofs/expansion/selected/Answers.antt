@@ -9,7 +9,7 @@ pub cell-requires : goal.cell-requires
 cell-requires c =
     let h = c.requires in
     let q = plain_path c.args.path.now in
-    (h.0, h.1, q, h.2, subst (λ (o : Option Target). Resolves h.0 h.1 q o) c.in-Some.is (c.in_ok-target.ensures h.0 h.1 h.2.paths_are.targets_are h.3))
+    (h.0, h.1, q, c.args.i, h.2, h.3, subst (λ (o : Option Target). Resolves h.0 h.1 q o) c.in-Some.is (c.in_ok-target.ensures h.0 h.1 h.2.paths_are.targets_are h.3))
 
 pub returns-in-Some : goal.returns-in-Some
 returns-in-Some c = λ p s can at.

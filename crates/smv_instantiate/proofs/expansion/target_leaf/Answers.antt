@@ -7,7 +7,7 @@ use Rattle.smv_names.specs.Expands.{Expands}
 use Rattle.smv_names.specs.Targets.{Resolves}
 use Rattle.smv_names.proofs.Once.{expands_one}
 use Rattle.smv_instantiate.specs.Expansion.{IsSelected}
-use Rattle.smv_instantiate.proofs.BodySteps.{slice_in}
+use Rattle.smv_instantiate.proofs.Members.{slice_in}
 use Rattle.smv_instantiate.proofs.DeclaredLemmas.{few_symbols}
 use Rattle.smv_instantiate.proofs.TargetLemmas.{good_target, symbol_below}
 use Rattle.smv_instantiate.proofs.ExpandLemmas.{are_instances, is_kept, leaf_term}

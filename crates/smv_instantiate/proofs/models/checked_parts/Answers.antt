@@ -1,7 +1,9 @@
-use Rattle.std.proofs.Common.{sym, subst, ◌≤◌, List, length, map}
+use Rattle.std.proofs.Common.{◌∙◌, sym, subst, ap, ◌≤◌, List, length, map}
 use Rattle.kripke_model.specs.System.{Variable}
 use Rattle.kripke_model.specs.Flat.{AreDistinct}
 use Rattle.smv_instances.specs.Instances.{variables}
+use Rattle.smv_instantiate.specs.Firsts.{AreFirsts}
+use Rattle.smv_instantiate.specs.Names.{AreVariableNames}
 use Rattle.smv_instantiate.proofs.Members.{distinct_pairs}
 use Rattle.smv_instantiate.proofs.BodyLemmas.{names_of}
 use Rattle.smv_instantiate.proofs.DeclaredLemmas.{names_distinct, variable_count}
@@ -21,11 +23,17 @@ of-requires-clause-few c =
 pub parts_of-requires : goal.parts_of-requires
 parts_of-requires c =
     let r = c.requires in
-    let tables = tables_of r.0 c.args.instances.now c.args.paths.now c.in_ok-names.names c.args.variables.now r.1 r.2 r.3 r.4 c.in_ok-names.ensures in
-    (r.0, tables, all_expandable r.0 r.1.silent r.3 (c.in_ok-check_items.ensures r.0 tables).0)
+    let named : AreVariableNames r.0 c.in_ok-names.names = c.in_ok-names.ensures ∙ ap (map (λ (v : Variable). v.name)) r.4 in
+    let firsts = c.in_ok-firsts.ensures r.0 r.2.targets_are r.3 named in
+    let checked = tables_of r.0 c.args.instances.now c.args.paths.now c.deref.result.now r.1 r.2 (subst (AreFirsts r.0) (sym c.deref.ensures.value) firsts) r.3 in
+    let tables = tables_of r.0 c.args.instances.now c.args.paths.now c.deref-2.result.now r.1 r.2 (subst (AreFirsts r.0) (sym c.deref-2.ensures.value) firsts) r.3 in
+    (r.0, tables, all_expandable r.0 r.1.silent r.3 (c.in_ok-check_items.ensures r.0 checked).0)
 
 pub returns : goal.returns
 returns c = λ p are known written vars.
-    let tables = tables_of p c.args.instances.now c.args.paths.now c.in_ok-names.names c.args.variables.now are known written vars c.in_ok-names.ensures in
+    let named : AreVariableNames p c.in_ok-names.names = c.in_ok-names.ensures ∙ ap (map (λ (v : Variable). v.name)) vars in
+    let firsts = c.in_ok-firsts.ensures p known.targets_are written named in
+    let tables = tables_of p c.args.instances.now c.args.paths.now c.deref.result.now are known (subst (AreFirsts p) (sym c.deref.ensures.value) firsts) written in
+    let expanded = tables_of p c.args.instances.now c.args.paths.now c.deref-2.result.now are known (subst (AreFirsts p) (sym c.deref-2.ensures.value) firsts) written in
     let checked = c.in_ok-check_items.ensures p tables in
-    (c.in_ok-parts.ensures p tables (all_expandable p are.silent written checked.0), checked.1)
+    (c.in_ok-parts.ensures p expanded (all_expandable p are.silent written checked.0), checked.1)

@@ -8,4 +8,4 @@ use Rattle.smv_instantiate.proofs.parts.parts_of.Given as goal
 
 -- the items of the instances so far
 abbrev pub invariant-loop-i : goal.invariant-loop-i
-invariant-loop-i l = (p : Program) → AreTables p l.instances l.paths l.names → All (IsExpandable p) (all_items p) → AreParts p (items_before p l.i) l.parts
+invariant-loop-i l = (p : Program) → AreTables p l.instances l.paths l.firsts → All (IsExpandable p) (all_items p) → AreParts p (items_before p l.i) l.parts

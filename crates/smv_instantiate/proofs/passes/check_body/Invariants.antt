@@ -11,5 +11,5 @@ use Rattle.smv_instantiate.proofs.passes.check_body.Given as goal
 -- none of the items so far is refused
 abbrev pub invariant-loop-item : goal.invariant-loop-item
 invariant-loop-item l =
-    (p : Program) (s : Scope) (before : List Placed) → AreTables p l.instances l.paths l.names → scope_at p l.i ≡ Some s → IsPassed p before l.totals
+    (p : Program) (s : Scope) (before : List Placed) → AreTables p l.instances l.paths l.firsts → scope_at p l.i ≡ Some s → IsPassed p before l.totals
     → IsPassed p (before ++ placed s (take l.item-index l.items)) l.so_far × Silent (First (item p) before (placed s (take l.item-index l.items)))

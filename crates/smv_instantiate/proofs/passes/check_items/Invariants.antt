@@ -8,4 +8,4 @@ use Rattle.smv_instantiate.proofs.passes.check_items.Given as goal
 
 -- none of the items of the instances so far is refused
 abbrev pub invariant-loop-i : goal.invariant-loop-i
-invariant-loop-i l = (p : Program) → AreTables p l.instances l.paths l.names → IsPassed p (items_before p l.i) l.totals × Silent (First (item p) [] (items_before p l.i))
+invariant-loop-i l = (p : Program) → AreTables p l.instances l.paths l.firsts → IsPassed p (items_before p l.i) l.totals × Silent (First (item p) [] (items_before p l.i))

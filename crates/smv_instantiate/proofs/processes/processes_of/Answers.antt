@@ -3,9 +3,8 @@ use Rattle.std.specs.Prelude.{filter, slice_get}
 use Rattle.std.proofs.lemmas.Option.{slice_get_within}
 use Rattle.smv_instances.specs.Instances.{is_process, process_name}
 use Rattle.smv_instances.proofs.TableLemmas.{length_pairs}
-use Rattle.smv_instantiate.proofs.Members.{in_filter_back, map-append}
+use Rattle.smv_instantiate.proofs.Members.{in_filter_back, map-append, slice_in}
 use Rattle.smv_instantiate.proofs.TypeSteps.{taken_all}
-use Rattle.smv_instantiate.proofs.BodySteps.{slice_in}
 use Rattle.smv_instantiate.proofs.ProcessSteps.{pairs_right, take_at, read_at}
 use Rattle.smv_instantiate.proofs.processes.processes_of.Goals as goal
 
