@@ -17,6 +17,7 @@ use Rattle.kripke_model.specs.Evaluable.{IsEvaluable, AreEvaluable, AreEvaluable
 use Rattle.value_tables.specs.declared.cells.Cell.{Cell}
 use Rattle.value_tables.specs.declared.operands.Table.{Table}
 use Rattle.value_tables.specs.CellLists.{CellItems}
+use Rattle.value_tables.specs.Operators.{IsTableOf}
 use Rattle.value_tables.specs.Cells.{Reads, AreCells, same_reading, any_of, shows}
 use Rattle.std.proofs.lemmas.List.{take-append-drop}
 use Rattle.std.proofs.lemmas.List.Elements.{All-nil}
@@ -117,16 +118,14 @@ not_table s z cells single f h proper (Ok t) a b = record {
 }
 
 -- the table of an operator
-pub binary_table : {E : Type 0} (s z : Store) (op : BinOp) (left right : List Cell) (l r : Bool) (f g : List Bool → Checked (List Value)) → IsTable s left l f → IsTable s right r g → ((bits : List Bool) → IsProper (f bits)) → ((bits : List Bool) → IsProper (g bits)) → (result : Result Table E)
-    → IfOk result (λ t. AreCells z t.cells.items)
-    → IfOk result (λ t. (bits : List Bool) (c d : Checked (List Value)) → IsOperand (λ q. value_of s q bits) left l c → IsOperand (λ q. value_of s q bits) right r d → Reads (λ q. value_of z q bits) t.cells.items (binary op c d))
-    → IfOk result (λ t. t.single ≡ true → (c d : Checked (List Value)) → IsSingle (binary op c d))
+pub binary_table : {E : Type 0} (s z : Store) (op : BinOp) (left right : Table) (f g : List Bool → Checked (List Value)) → IsTable s left.cells.items left.single f → IsTable s right.cells.items right.single g → ((bits : List Bool) → IsProper (f bits)) → ((bits : List Bool) → IsProper (g bits)) → (result : Result Table E)
+    → IfOk result (IsTableOf op left right s z)
     → IfOk result (λ t. IsTable z t.cells.items t.single (λ bits. binary op (f bits) (g bits)))
-binary_table s z op left right l r f g h k ph pk (Err e) a b c = tt
-binary_table s z op left right l r f g h k ph pk (Ok t) a b c = record {
-  regions = a;
-  reads = λ bits. b bits (f bits) (g bits) (operand s left l f h ph bits) (operand s right r g k pk bits);
-  at_most_one = λ e bits. c e (f bits) (g bits);
+binary_table s z op left right f g h k ph pk (Err e) is = tt
+binary_table s z op left right f g h k ph pk (Ok t) is = record {
+  regions = is.cells;
+  reads = λ bits. is.reads bits (f bits) (g bits) (operand s left.cells.items left.single f h ph bits) (operand s right.cells.items right.single g k pk bits);
+  at_most_one = λ e bits. is.single e (f bits) (g bits);
 }
 
 -- the table of another function of the same values

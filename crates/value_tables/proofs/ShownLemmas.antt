@@ -1,5 +1,5 @@
 -- The states that a list of bits shows.
-use Rattle.std.proofs.Common.{◌≡◌, ℕ, zero, suc, ◌+◌, ◌-◌, ◌^◌, ◌<◌, ◌≤◌, min, ◌⊎◌, Bool, true, false, Ok, ◌&&◌, ◌||◌, ltb, leb, eqb, List, [], ◌∷◌, length, get_or, pos, inl, inr, refl, sym, ap, ◌∙◌, arith}
+use Rattle.std.proofs.Common.{◌≡◌, ℕ, zero, suc, ◌+◌, ◌-◌, ◌<◌, ◌≤◌, min, ◌⊎◌, Bool, true, false, Ok, ◌&&◌, ◌||◌, ltb, leb, eqb, List, [], length, get_or, pos, inl, inr, refl, sym, ap, ◌∙◌, arith}
 use Rattle.std.proofs.lemmas.Bool.{lt-ltb, le-ltb, le-leb, lt-leb, eq-eqb, ne_eqb, cases_lt, cases_eq, cases_order}
 use Rattle.std.proofs.lemmas.List.{get_or_past}
 use Rattle.kripke_model.specs.declared.expressions.Value.{Value}

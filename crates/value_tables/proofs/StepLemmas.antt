@@ -37,6 +37,11 @@ pub if_ok : {T E : Type 0} {P Q : T → Type 0} (r : Result T E) → IfOk r P �
 if_ok (Ok t) h f = f t h
 if_ok (Err e) h f = tt
 
+-- the same of three facts
+pub all_ok : {T E : Type 0} {P Q R S : T → Type 0} (r : Result T E) → IfOk r P → IfOk r Q → IfOk r R → ((t : T) → P t → Q t → R t → S t) → IfOk r S
+all_ok (Ok t) h k l f = f t h k l
+all_ok (Err e) h k l f = tt
+
 pub on_ok : {T E P : Type 0} (r : Result T E) → P → OnOk r P
 on_ok (Ok t) h = h
 on_ok (Err e) h = tt

@@ -6,20 +6,21 @@ use Rattle.kripke_model.specs.Evaluation.{Checked, binary}
 use Rattle.bdd_nodes.specs.declared.store.Store.{Store}
 use Rattle.bdd_nodes.specs.Store.{levels_of, value_of}
 use Rattle.value_tables.specs.declared.operands.Table.{Table}
-use Rattle.value_tables.specs.Cells.{Reads}
+use Rattle.value_tables.specs.Cells.{AreCells, Reads}
 use Rattle.value_tables.specs.Tables.{IsOperand, IsSingle}
 use Rattle.value_tables.specs.Work.{Spends, operator_allowance}
 
--- its cells read as the operator's values, wherever those of the operands read as theirs
-abbrev pub ReadsAs : BinOp → Table → Table → Store → Store → Table → Type 0
-ReadsAs op left right old new t = (bits : List Bool) (c d : Checked (List Value))
-    → IsOperand (λ r. value_of old r bits) left.cells.items left.single c
-    → IsOperand (λ r. value_of old r bits) right.cells.items right.single d
-    → Reads (λ r. value_of new r bits) t.cells.items (binary op c d)
-
--- where it says that there is one value at most, there is
-abbrev pub IsSingleAs : BinOp → Table → Type 0
-IsSingleAs op t = t.single ≡ true → (c d : Checked (List Value)) → IsSingle (binary op c d)
+-- the table of an operator: its diagrams are of the store, its cells read as the operator's values
+-- wherever those of the operands read as theirs, and where it says that there is one value at
+-- most, there is
+pub record IsTableOf (op : BinOp) (left right : Table) (old new : Store)
+    (t : Table) : Type 0 where
+  pub cells : AreCells new t.cells.items
+  pub reads : (bits : List Bool) (c d : Checked (List Value))
+      → IsOperand (λ r. value_of old r bits) left.cells.items left.single c
+      → IsOperand (λ r. value_of old r bits) right.cells.items right.single d
+      → Reads (λ r. value_of new r bits) t.cells.items (binary op c d)
+  pub single : t.single ≡ true → (c d : Checked (List Value)) → IsSingle (binary op c d)
 
 -- what it takes of the store
 abbrev pub SpendsFor : Table → Table → Store → Store → Type 0

@@ -8,7 +8,7 @@ ghost use Rattle.kripke_model.specs.Evaluation.{Checked};
 ghost use Rattle.value_tables.specs.Work.{IsWork, Spends};
 ghost use Rattle.value_tables.specs.Weights.{AreOperands};
 ghost use Rattle.value_tables.specs.Cells.{Reads, AreCells};
-ghost use Rattle.value_tables.specs.Operators.{ReadsAs, IsSingleAs, SpendsFor};
+ghost use Rattle.value_tables.specs.Operators.{IsTableOf, SpendsFor};
 ghost use Rattle.value_tables.specs.Tables.{IsOperand, one_tested, IsUnion, IsMember, IsEquality, IsConnective, IsOrder, IsArithmetic};
 
 use crate::cell_lists::CellList;
@@ -51,7 +51,7 @@ fn tested_pair<L: Ledger>(
         → IsOperand (λ r. value_of (store_of engine.old) r bits) right.now.cells.items
         right.now.single d → Reads (λ r. value_of (store_of engine.new) r bits) p.right.items
         (one_tested test d)) }
-    ensures work { IsWork engine.old engine.new steps.old steps.new result }
+    ensures call { IsWork engine.old engine.new steps.old steps.new result }
     ensures few_left { IfOk result (λ p. length p.left.items ≤ length left.now.cells.items + 1) }
     ensures few_right { IfOk result (λ p. length p.right.items ≤ length right.now.cells.items + 1) }
     ensures spends { Spends (5 * length left.now.cells.items + 5 * length right.now.cells.items + 4)
@@ -73,11 +73,9 @@ fn union_of<L: Ledger>(
     requires op { IsUnion op }
     requires left { AreCells (store_of engine.old) left.now.cells.items }
     requires right { AreCells (store_of engine.old) right.now.cells.items }
-    ensures cells { IfOk result (λ t. AreCells (store_of engine.new) t.cells.items) }
-    ensures reads { IfOk result (ReadsAs op left.now right.now (store_of engine.old)
+    ensures table { IfOk result (IsTableOf op left.now right.now (store_of engine.old)
         (store_of engine.new)) }
-    ensures single { IfOk result (IsSingleAs op) }
-    ensures work { IsWork engine.old engine.new steps.old steps.new result }
+    ensures call { IsWork engine.old engine.new steps.old steps.new result }
     ensures spends { SpendsFor left.now right.now (store_of engine.old) (store_of engine.new) }
 {
     let cells = united(alloc, engine, &left.cells, &right.cells, steps)?;
@@ -98,11 +96,9 @@ fn member_of<L: Ledger>(
     requires op { IsMember op }
     requires left { AreCells (store_of engine.old) left.now.cells.items }
     requires right { AreCells (store_of engine.old) right.now.cells.items }
-    ensures cells { IfOk result (λ t. AreCells (store_of engine.new) t.cells.items) }
-    ensures reads { IfOk result (ReadsAs op left.now right.now (store_of engine.old)
+    ensures table { IfOk result (IsTableOf op left.now right.now (store_of engine.old)
         (store_of engine.new)) }
-    ensures single { IfOk result (IsSingleAs op) }
-    ensures work { IsWork engine.old engine.new steps.old steps.new result }
+    ensures call { IsWork engine.old engine.new steps.old steps.new result }
     ensures spends { SpendsFor left.now right.now (store_of engine.old) (store_of engine.new) }
 {
     let one = tested(alloc, engine, left, Test::Any, steps)?;
@@ -120,11 +116,9 @@ fn equality_of<L: Ledger>(
     requires op { IsEquality op }
     requires left { AreCells (store_of engine.old) left.now.cells.items }
     requires right { AreCells (store_of engine.old) right.now.cells.items }
-    ensures cells { IfOk result (λ t. AreCells (store_of engine.new) t.cells.items) }
-    ensures reads { IfOk result (ReadsAs op left.now right.now (store_of engine.old)
+    ensures table { IfOk result (IsTableOf op left.now right.now (store_of engine.old)
         (store_of engine.new)) }
-    ensures single { IfOk result (IsSingleAs op) }
-    ensures work { IsWork engine.old engine.new steps.old steps.new result }
+    ensures call { IsWork engine.old engine.new steps.old steps.new result }
     ensures spends { SpendsFor left.now right.now (store_of engine.old) (store_of engine.new) }
 {
     let pair = tested_pair(alloc, engine, Test::Any, left, right, steps)?;
@@ -142,11 +136,9 @@ fn connective_of<L: Ledger>(
     requires op { IsConnective op }
     requires left { AreCells (store_of engine.old) left.now.cells.items }
     requires right { AreCells (store_of engine.old) right.now.cells.items }
-    ensures cells { IfOk result (λ t. AreCells (store_of engine.new) t.cells.items) }
-    ensures reads { IfOk result (ReadsAs op left.now right.now (store_of engine.old)
+    ensures table { IfOk result (IsTableOf op left.now right.now (store_of engine.old)
         (store_of engine.new)) }
-    ensures single { IfOk result (IsSingleAs op) }
-    ensures work { IsWork engine.old engine.new steps.old steps.new result }
+    ensures call { IsWork engine.old engine.new steps.old steps.new result }
     ensures spends { SpendsFor left.now right.now (store_of engine.old) (store_of engine.new) }
 {
     let pair = tested_pair(alloc, engine, Test::Boolean, left, right, steps)?;
@@ -164,11 +156,9 @@ fn comparison_of<L: Ledger>(
     requires op { IsOrder op }
     requires left { AreCells (store_of engine.old) left.now.cells.items }
     requires right { AreCells (store_of engine.old) right.now.cells.items }
-    ensures cells { IfOk result (λ t. AreCells (store_of engine.new) t.cells.items) }
-    ensures reads { IfOk result (ReadsAs op left.now right.now (store_of engine.old)
+    ensures table { IfOk result (IsTableOf op left.now right.now (store_of engine.old)
         (store_of engine.new)) }
-    ensures single { IfOk result (IsSingleAs op) }
-    ensures work { IsWork engine.old engine.new steps.old steps.new result }
+    ensures call { IsWork engine.old engine.new steps.old steps.new result }
     ensures spends { SpendsFor left.now right.now (store_of engine.old) (store_of engine.new) }
 {
     let pair = tested_pair(alloc, engine, Test::Number, left, right, steps)?;
@@ -186,11 +176,9 @@ fn outcome_of<L: Ledger>(
     requires op { IsArithmetic op }
     requires left { AreCells (store_of engine.old) left.now.cells.items }
     requires right { AreCells (store_of engine.old) right.now.cells.items }
-    ensures cells { IfOk result (λ t. AreCells (store_of engine.new) t.cells.items) }
-    ensures reads { IfOk result (ReadsAs op left.now right.now (store_of engine.old)
+    ensures table { IfOk result (IsTableOf op left.now right.now (store_of engine.old)
         (store_of engine.new)) }
-    ensures single { IfOk result (IsSingleAs op) }
-    ensures work { IsWork engine.old engine.new steps.old steps.new result }
+    ensures call { IsWork engine.old engine.new steps.old steps.new result }
     ensures spends { AreOperands (store_of engine.old) left.now.cells.items left.now.single
         → AreOperands (store_of engine.old) right.now.cells.items right.now.single
         → SpendsFor left.now right.now (store_of engine.old) (store_of engine.new) }
@@ -211,11 +199,9 @@ pub(crate) fn binary_of<L: Ledger>(
 ) -> Result<Table, StoreRefusal>
     requires left { AreCells (store_of engine.old) left.now.cells.items }
     requires right { AreCells (store_of engine.old) right.now.cells.items }
-    ensures cells { IfOk result (λ t. AreCells (store_of engine.new) t.cells.items) }
-    ensures reads { IfOk result (ReadsAs op left.now right.now (store_of engine.old)
+    ensures table { IfOk result (IsTableOf op left.now right.now (store_of engine.old)
         (store_of engine.new)) }
-    ensures single { IfOk result (IsSingleAs op) }
-    ensures work { IsWork engine.old engine.new steps.old steps.new result }
+    ensures call { IsWork engine.old engine.new steps.old steps.new result }
     ensures spends { AreOperands (store_of engine.old) left.now.cells.items left.now.single
         → AreOperands (store_of engine.old) right.now.cells.items right.now.single
         → SpendsFor left.now right.now (store_of engine.old) (store_of engine.new) }

@@ -45,7 +45,7 @@ pub(crate) fn build<L: Ledger>(
     requires laid { LaidOut layout.now model.now (store_of engine.old) }
     ensures table { IfOk result (λ t. IsTable (store_of engine.new) t.cells.items t.single
         (meaning_of layout.now model.now next (term_of expr.now))) }
-    ensures work { IsWork engine.old engine.new steps.old steps.new result }
+    ensures call { IsWork engine.old engine.new steps.old steps.new result }
     ensures spends { Spends (allowance (term_nodes (term_of expr.now))
         (2 ^ levels_of (store_of engine.old))) (store_of engine.old) (store_of engine.new) }
 {
@@ -100,7 +100,7 @@ fn build_elements<L: Ledger>(
     requires laid { LaidOut layout.now model.now (store_of engine.old) }
     ensures table { IfOk result (λ cells. IsSetTable (store_of engine.new) cells.items
         (elements_meaning layout.now model.now next (terms_in elements.now))) }
-    ensures work { IsWork engine.old engine.new steps.old steps.new result }
+    ensures call { IsWork engine.old engine.new steps.old steps.new result }
     ensures spends { Spends (list_allowance (element_nodes (terms_in elements.now))
         (2 ^ levels_of (store_of engine.old))) (store_of engine.old) (store_of engine.new) }
 {
@@ -144,7 +144,7 @@ fn build_arm<L: Ledger>(
     ensures rest { IfOk result (λ r. (bits : List Bool) → value_of (store_of engine.new) r bits
         ≡ (value_of (store_of engine.old) left bits && goes_on
         (guard_of (meaning_of layout.now model.now next (term_of arm.now.guard) bits)))) }
-    ensures work { IsWork engine.old engine.new steps.old steps.new result }
+    ensures call { IsWork engine.old engine.new steps.old steps.new result }
     ensures spends { Spends (list_allowance (term_nodes (term_of arm.now.guard) + term_nodes
         (term_of arm.now.right)) (2 ^ levels_of (store_of engine.old))) (store_of engine.old)
         (store_of engine.new) }
@@ -169,7 +169,7 @@ fn build_arms<L: Ledger>(
     requires laid { LaidOut layout.now model.now (store_of engine.old) }
     ensures table { IfOk result (λ t. IsTable (store_of engine.new) t.cells.items t.single
         (arms_meaning layout.now model.now next (arms_in arms.now))) }
-    ensures work { IsWork engine.old engine.new steps.old steps.new result }
+    ensures call { IsWork engine.old engine.new steps.old steps.new result }
     ensures spends { Spends (allowance (1 + arm_nodes (arms_in arms.now))
         (2 ^ levels_of (store_of engine.old))) (store_of engine.old) (store_of engine.new) }
 {

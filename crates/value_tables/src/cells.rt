@@ -40,7 +40,7 @@ pub(crate) fn add<L: Ledger>(
         ≡ (shows (λ r. value_of (store_of engine.old) r bits) cells.old.items k ||
         (same_reading k reading && value_of (store_of engine.old) region bits))) }
     ensures few { OnOk result (length cells.new.items ≤ length cells.old.items + 1) }
-    ensures work { IsWork engine.old engine.new steps.old steps.new result }
+    ensures call { IsWork engine.old engine.new steps.old steps.new result }
     ensures spends { Spends 1 (store_of engine.old) (store_of engine.new) }
     ensures stays { region ≡ 0 → Spends 0 (store_of engine.old) (store_of engine.new) }
 {

@@ -28,7 +28,7 @@ fn with_fault<L: Ledger>(
     ensures region { IfOk result (λ r. IsRegion (store_of engine.new) r
         (λ bits. value_of (store_of engine.old) faulty bits || (is_fault cell.reading && value_of
         (store_of engine.old) cell.region bits))) }
-    ensures work { IsWork engine.old engine.new steps.old steps.new result }
+    ensures call { IsWork engine.old engine.new steps.old steps.new result }
     ensures spends { Spends 1 (store_of engine.old) (store_of engine.new) }
 {
     match cell.reading {
@@ -46,7 +46,7 @@ pub(crate) fn faulty_of<L: Ledger>(
     requires { All (λ (c : Cells). Has (store_of engine.old) c.region) cells.now }
     ensures region { IfOk result (λ r. IsRegion (store_of engine.new) r
         (λ bits. any_cell (λ q. value_of (store_of engine.old) q bits) is_fault cells.now)) }
-    ensures work { IsWork engine.old engine.new steps.old steps.new result }
+    ensures call { IsWork engine.old engine.new steps.old steps.new result }
     ensures spends { Spends (length cells.now) (store_of engine.old) (store_of engine.new) }
 {
     let mut faulty = Ref::FALSE;
@@ -79,7 +79,7 @@ fn one_more<L: Ledger>(
     ensures two { IfOk result (λ c. IsRegion (store_of engine.new) c.two
         (λ bits. value_of (store_of engine.old) so_far.two bits || (value_of (store_of engine.old)
         so_far.one bits && value_of (store_of engine.old) region bits))) }
-    ensures work { IsWork engine.old engine.new steps.old steps.new result }
+    ensures call { IsWork engine.old engine.new steps.old steps.new result }
     ensures spends { Spends 3 (store_of engine.old) (store_of engine.new) }
 {
     let two = join_both(engine, so_far.two, so_far.one, region, steps)?;
@@ -96,7 +96,7 @@ pub(crate) fn many_of<L: Ledger>(
     requires { All (λ (c : Cells). Has (store_of engine.old) c.region) cells.now }
     ensures region { IfOk result (λ r. IsRegion (store_of engine.new) r
         (λ bits. nat_lt 1 (count_on (λ q. value_of (store_of engine.old) q bits) cells.now))) }
-    ensures work { IsWork engine.old engine.new steps.old steps.new result }
+    ensures call { IsWork engine.old engine.new steps.old steps.new result }
     ensures spends { Spends (3 * length cells.now) (store_of engine.old) (store_of engine.new) }
 {
     let mut so_far = Counted {
@@ -121,7 +121,7 @@ pub(crate) fn matched<L: Ledger>(
     ensures region { IfOk result (λ r. IsRegion (store_of engine.new) r
         (λ bits. any_cell (λ q. value_of (store_of engine.old) q bits) (at_region
         (λ q. value_of (store_of engine.old) q bits) right.now.items) left.now)) }
-    ensures work { IsWork engine.old engine.new steps.old steps.new result }
+    ensures call { IsWork engine.old engine.new steps.old steps.new result }
     ensures spends { Spends (2 * length left.now) (store_of engine.old) (store_of engine.new) }
 {
     let mut hit = Ref::FALSE;

@@ -43,7 +43,7 @@ fn many_in<L: Ledger>(
     ensures region { IfOk result (λ r. IsRegion (store_of engine.new) r
         (λ bits. not table.now.single && nat_lt 1 (count_on
         (λ q. value_of (store_of engine.old) q bits) table.now.cells.items))) }
-    ensures work { IsWork engine.old engine.new steps.old steps.new result }
+    ensures call { IsWork engine.old engine.new steps.old steps.new result }
     ensures spends { Spends (3 * length table.now.cells.items) (store_of engine.old)
         (store_of engine.new) }
 {
@@ -68,7 +68,7 @@ pub(crate) fn tested<L: Ledger>(
         → (table.now.single ≡ true → IsSingle c)
         → Reads (λ r. value_of (store_of engine.new) r bits) out.items (one_tested test c)) }
     ensures few { IfOk result (λ out. length out.items ≤ length table.now.cells.items + 1) }
-    ensures work { IsWork engine.old engine.new steps.old steps.new result }
+    ensures call { IsWork engine.old engine.new steps.old steps.new result }
     ensures spends { Spends (5 * length table.now.cells.items + 2) (store_of engine.old)
         (store_of engine.new) }
 {
@@ -107,7 +107,7 @@ fn add_faults<L: Ledger>(
     ensures few { OnOk result (length out.new.items ≤ length out.old.items + length cells.now) }
     ensures region { IfOk result (λ r. IsRegion (store_of engine.new) r
         (λ bits. any_cell (λ q. value_of (store_of engine.old) q bits) is_fault cells.now)) }
-    ensures work { IsWork engine.old engine.new steps.old steps.new result }
+    ensures call { IsWork engine.old engine.new steps.old steps.new result }
     ensures spends { Spends (3 * length cells.now) (store_of engine.old) (store_of engine.new) }
 {
     spread(engine, cells, Pick::Faults, within, out, steps)?;
@@ -135,7 +135,7 @@ fn add_later_faults<L: Ledger>(
     ensures region { IfOk result (λ r. IsRegion (store_of engine.new) r
         (λ bits. value_of (store_of engine.old) first bits || any_cell
         (λ q. value_of (store_of engine.old) q bits) is_fault right.now)) }
-    ensures work { IsWork engine.old engine.new steps.old steps.new result }
+    ensures call { IsWork engine.old engine.new steps.old steps.new result }
     ensures spends { Spends (3 * length right.now + 2) (store_of engine.old) (store_of engine.new) }
 {
     let sound = outside(engine, first, steps)?;
@@ -172,7 +172,7 @@ pub(crate) fn faults_of<L: Ledger>(
         → Reads (λ r. value_of (store_of engine.old) r bits) right.now d
         → value_of (store_of engine.new) f.region bits ≡ is_failure (both c d)) }
     ensures few { IfOk result (λ f. length f.cells.items ≤ length left.now + length right.now) }
-    ensures work { IsWork engine.old engine.new steps.old steps.new result }
+    ensures call { IsWork engine.old engine.new steps.old steps.new result }
     ensures spends { Spends (3 * length left.now + 3 * length right.now + 2) (store_of engine.old)
         (store_of engine.new) }
 {

@@ -73,7 +73,7 @@ fn sides_of<L: Ledger>(
     ensures yes { IfOk result (λ p. IsRegion (store_of engine.new) p.yes
         (λ bits. value_of (store_of engine.old) hit bits && not (value_of (store_of engine.old)
         faulty bits))) }
-    ensures work { IsWork engine.old engine.new steps.old steps.new result }
+    ensures call { IsWork engine.old engine.new steps.old steps.new result }
     ensures spends { Spends 4 (store_of engine.old) (store_of engine.new) }
 {
     let no = neither(engine, hit, faulty, steps)?;
@@ -103,7 +103,7 @@ fn decided<L: Ledger>(
         && (value_of (store_of engine.old) hit bits
         && not (value_of (store_of engine.old) faults.region bits))))) }
     ensures few { IfOk result (λ t. length t.cells.items ≤ length faults.cells.items + 2) }
-    ensures work { IsWork engine.old engine.new steps.old steps.new result }
+    ensures call { IsWork engine.old engine.new steps.old steps.new result }
     ensures spends { Spends 6 (store_of engine.old) (store_of engine.new) }
 {
     let mut cells = faults.cells;
@@ -135,7 +135,7 @@ fn settled<L: Ledger>(
         → Reads (λ r. value_of (store_of engine.old) r bits) right.now d
         → Reads (λ r. value_of (store_of engine.new) r bits) t.cells.items
         (judged c d (value_of (store_of engine.old) hit bits))) }
-    ensures work { IsWork engine.old engine.new steps.old steps.new result }
+    ensures call { IsWork engine.old engine.new steps.old steps.new result }
     ensures spends { Spends (3 * length left.now + 3 * length right.now + 8) (store_of engine.old)
         (store_of engine.new) }
 {
@@ -160,7 +160,7 @@ pub(crate) fn compared<L: Ledger>(
         → Reads (λ r. value_of (store_of engine.old) r bits) left.now (alone a)
         → Reads (λ r. value_of (store_of engine.old) r bits) right.now.items d
         → Reads (λ r. value_of (store_of engine.new) r bits) t.cells.items (membership a d)) }
-    ensures work { IsWork engine.old engine.new steps.old steps.new result }
+    ensures call { IsWork engine.old engine.new steps.old steps.new result }
     ensures spends { Spends (5 * length left.now + 3 * length right.now.items + 8)
         (store_of engine.old) (store_of engine.new) }
 {
@@ -181,7 +181,7 @@ fn connected<L: Ledger>(
     ensures region { IfOk result (λ r. IsRegion (store_of engine.new) r
         (λ bits. logic op (value_of (store_of engine.old) a bits) (value_of (store_of engine.old) b
         bits))) }
-    ensures work { IsWork engine.old engine.new steps.old steps.new result }
+    ensures call { IsWork engine.old engine.new steps.old steps.new result }
     ensures spends { Spends 2 (store_of engine.old) (store_of engine.new) }
 {
     match op {
@@ -212,7 +212,7 @@ pub(crate) fn combined<L: Ledger>(
         → Reads (λ r. value_of (store_of engine.old) r bits) left.now.items (truths a)
         → Reads (λ r. value_of (store_of engine.old) r bits) right.now.items (truths b)
         → Reads (λ r. value_of (store_of engine.new) r bits) t.cells.items (connective op a b)) }
-    ensures work { IsWork engine.old engine.new steps.old steps.new result }
+    ensures call { IsWork engine.old engine.new steps.old steps.new result }
     ensures spends { Spends (3 * length left.now.items + 3 * length right.now.items + 10)
         (store_of engine.old) (store_of engine.new) }
 {
@@ -235,7 +235,7 @@ fn related<L: Ledger>(
     requires right { All (λ (c : Cells). Has (store_of engine.old) c.region) right.now }
     ensures region { IfOk result (λ r. IsRegion (store_of engine.new) r
         (λ bits. in_order (λ q. value_of (store_of engine.old) q bits) op left.now right.now)) }
-    ensures work { IsWork engine.old engine.new steps.old steps.new result }
+    ensures call { IsWork engine.old engine.new steps.old steps.new result }
     ensures spends { Spends (5 * length left.now + 5 * length right.now) (store_of engine.old)
         (store_of engine.new) }
 {
@@ -264,7 +264,7 @@ pub(crate) fn ordered<L: Ledger>(
         → Reads (λ r. value_of (store_of engine.old) r bits) left.now (numbers a)
         → Reads (λ r. value_of (store_of engine.old) r bits) right.now (numbers b)
         → Reads (λ r. value_of (store_of engine.new) r bits) t.cells.items (comparison op a b)) }
-    ensures work { IsWork engine.old engine.new steps.old steps.new result }
+    ensures call { IsWork engine.old engine.new steps.old steps.new result }
     ensures spends { Spends (8 * length left.now + 8 * length right.now + 8) (store_of engine.old)
         (store_of engine.new) }
 {

@@ -119,7 +119,7 @@ fn join_hits<L: Ledger>(
     requires behind { AreHeld (store_of engine.old) behind.now }
     ensures region { IfOk result (λ r. IsRegion (store_of engine.new) r
         (hits (store_of engine.old) first.now behind.now)) }
-    ensures work { IsWork engine.old engine.new steps.old steps.new result }
+    ensures call { IsWork engine.old engine.new steps.old steps.new result }
     ensures spends { Spends 3 (store_of engine.old) (store_of engine.new) }
 {
     let either = join(engine, first.hit, behind.hit, steps)?;
@@ -143,7 +143,7 @@ fn join_sides<L: Ledger>(
         (λ bits. value_of (store_of engine.old) first.now.greater bits
         || value_of (store_of engine.old) behind.now.greater bits)) }
     ensures hit { IfOk result (λ p. p.hit ≡ hit) }
-    ensures work { IsWork engine.old engine.new steps.old steps.new result }
+    ensures call { IsWork engine.old engine.new steps.old steps.new result }
     ensures spends { Spends 2 (store_of engine.old) (store_of engine.new) }
 {
     let lesser = join(engine, first.lesser, behind.lesser, steps)?;
@@ -166,7 +166,7 @@ fn join_halves<L: Ledger>(
     requires behind { AreHeld (store_of engine.old) behind.now }
     ensures joined { IfOk result (AreJoined (store_of engine.old)
         (store_of engine.new) first.now behind.now) }
-    ensures work { IsWork engine.old engine.new steps.old steps.new result }
+    ensures call { IsWork engine.old engine.new steps.old steps.new result }
     ensures spends { Spends 5 (store_of engine.old) (store_of engine.new) }
 {
     let hit = join_hits(engine, first, behind, steps)?;
@@ -187,7 +187,7 @@ fn pass_marks<L: Ledger>(
     requires sorted { IsSortedBy is_before marks.now }
     ensures passed { IfOk result (ArePassed (store_of engine.old)
         (store_of engine.new) strict marks.now) }
-    ensures work { IsWork engine.old engine.new steps.old steps.new result }
+    ensures call { IsWork engine.old engine.new steps.old steps.new result }
     ensures spends { Spends (5 * (length marks.now - 1)) (store_of engine.old)
         (store_of engine.new) }
 {
@@ -211,7 +211,7 @@ fn pairs_of<L: Ledger>(
     requires sorted { IsSortedBy is_before marks.now }
     ensures region { IfOk result (λ r. IsRegion (store_of engine.new) r
         (λ bits. any_pair (λ q. value_of (store_of engine.old) q bits) strict marks.now)) }
-    ensures work { IsWork engine.old engine.new steps.old steps.new result }
+    ensures call { IsWork engine.old engine.new steps.old steps.new result }
     ensures spends { Spends (5 * length marks.now) (store_of engine.old) (store_of engine.new) }
 {
     if marks.is_empty() {
@@ -236,7 +236,7 @@ pub(crate) fn below<L: Ledger>(
     ensures region { IfOk result (λ r. IsRegion (store_of engine.new) r
         (λ bits. any_below (λ q. value_of (store_of engine.old) q bits) strict lesser.now
         greater.now)) }
-    ensures work { IsWork engine.old engine.new steps.old steps.new result }
+    ensures call { IsWork engine.old engine.new steps.old steps.new result }
     ensures spends { Spends (5 * length lesser.now + 5 * length greater.now) (store_of engine.old)
         (store_of engine.new) }
 {

@@ -40,7 +40,7 @@ fn pair_with<L: Ledger>(
         ≡ (shows (λ r. value_of (store_of engine.old) r bits) out.old.items k || (pairs_to
         (λ r. value_of (store_of engine.old) r bits) op k right.now cell.reading && value_of
         (store_of engine.old) cell.region bits))) }
-    ensures work { IsWork engine.old engine.new steps.old steps.new result }
+    ensures call { IsWork engine.old engine.new steps.old steps.new result }
     ensures thrifty { AreApart (store_of engine.old) right.now
         → OnOk result (Spends (2 * weight (store_of engine.old) cell.region) (store_of engine.old)
         (store_of engine.new)) }
@@ -79,7 +79,7 @@ fn pair_up<L: Ledger>(
         ≡ (shows (λ r. value_of (store_of engine.old) r bits) out.old.items k || any_cell
         (λ r. value_of (store_of engine.old) r bits) (pairs_to
         (λ r. value_of (store_of engine.old) r bits) op k right.now) left.now)) }
-    ensures work { IsWork engine.old engine.new steps.old steps.new result }
+    ensures call { IsWork engine.old engine.new steps.old steps.new result }
     ensures frugal { AreApart (store_of engine.old) right.now
         → Spends (2 * weights (store_of engine.old) left.now + 1) (store_of engine.old)
         (store_of engine.new) }
@@ -108,7 +108,7 @@ pub(crate) fn calculated<L: Ledger>(
         → Reads (λ r. value_of (store_of engine.old) r bits) right.now (alone b)
         → Reads (λ r. value_of (store_of engine.new) r bits) t.cells.items
         (alone (paired op a b))) }
-    ensures work { IsWork engine.old engine.new steps.old steps.new result }
+    ensures call { IsWork engine.old engine.new steps.old steps.new result }
     ensures spends { AreApart (store_of engine.old) left.now
         → AreApart (store_of engine.old) right.now
         → Spends (3 * length left.now + 3 * length right.now + 3 + 2 * 2 ^ levels_of

@@ -21,7 +21,7 @@ pub(crate) fn meet<L: Ledger>(
     requires g { Has (store_of engine.old) g }
     ensures region { IfOk result (λ r. IsRegion (store_of engine.new) r
         (λ bits. value_of (store_of engine.old) f bits && value_of (store_of engine.old) g bits)) }
-    ensures work { IsWork engine.old engine.new steps.old steps.new result }
+    ensures call { IsWork engine.old engine.new steps.old steps.new result }
     ensures spends { Spends 1 (store_of engine.old) (store_of engine.new) }
     // an operation that answers the empty region adds nothing
     ensures stays { IfOk result (λ r. r ≡ 0
@@ -41,7 +41,7 @@ pub(crate) fn join<L: Ledger>(
     requires g { Has (store_of engine.old) g }
     ensures region { IfOk result (λ r. IsRegion (store_of engine.new) r
         (λ bits. value_of (store_of engine.old) f bits || value_of (store_of engine.old) g bits)) }
-    ensures work { IsWork engine.old engine.new steps.old steps.new result }
+    ensures call { IsWork engine.old engine.new steps.old steps.new result }
     ensures spends { Spends 1 (store_of engine.old) (store_of engine.new) }
 {
     engine.or(f, g, steps)
@@ -56,7 +56,7 @@ pub(crate) fn outside<L: Ledger>(
     requires { Has (store_of engine.old) f }
     ensures region { IfOk result (λ r. IsRegion (store_of engine.new) r
         (λ bits. not (value_of (store_of engine.old) f bits))) }
-    ensures work { IsWork engine.old engine.new steps.old steps.new result }
+    ensures call { IsWork engine.old engine.new steps.old steps.new result }
     ensures spends { Spends 1 (store_of engine.old) (store_of engine.new) }
 {
     engine.not(f, steps)
@@ -74,7 +74,7 @@ pub(crate) fn alike<L: Ledger>(
     ensures region { IfOk result (λ r. IsRegion (store_of engine.new) r
         (λ bits. if value_of (store_of engine.old) f bits then value_of (store_of engine.old) g bits
         else not (value_of (store_of engine.old) g bits))) }
-    ensures work { IsWork engine.old engine.new steps.old steps.new result }
+    ensures call { IsWork engine.old engine.new steps.old steps.new result }
     ensures spends { Spends 1 (store_of engine.old) (store_of engine.new) }
 {
     engine.iff(f, g, steps)
@@ -94,7 +94,7 @@ pub(crate) fn join_both<L: Ledger>(
     ensures region { IfOk result (λ r. IsRegion (store_of engine.new) r
         (λ bits. value_of (store_of engine.old) f bits || (value_of (store_of engine.old) g bits &&
         value_of (store_of engine.old) h bits))) }
-    ensures work { IsWork engine.old engine.new steps.old steps.new result }
+    ensures call { IsWork engine.old engine.new steps.old steps.new result }
     ensures spends { Spends 2 (store_of engine.old) (store_of engine.new) }
 {
     let both = meet(engine, g, h, steps)?;
@@ -113,7 +113,7 @@ pub(crate) fn neither<L: Ledger>(
     ensures region { IfOk result (λ r. IsRegion (store_of engine.new) r
         (λ bits. not (value_of (store_of engine.old) f bits || value_of (store_of engine.old) g
         bits))) }
-    ensures work { IsWork engine.old engine.new steps.old steps.new result }
+    ensures call { IsWork engine.old engine.new steps.old steps.new result }
     ensures spends { Spends 2 (store_of engine.old) (store_of engine.new) }
 {
     let either = join(engine, f, g, steps)?;
@@ -132,7 +132,7 @@ pub(crate) fn only<L: Ledger>(
     ensures region { IfOk result (λ r. IsRegion (store_of engine.new) r
         (λ bits. value_of (store_of engine.old) f bits && not (value_of (store_of engine.old) g
         bits))) }
-    ensures work { IsWork engine.old engine.new steps.old steps.new result }
+    ensures call { IsWork engine.old engine.new steps.old steps.new result }
     ensures spends { Spends 2 (store_of engine.old) (store_of engine.new) }
 {
     let rest = outside(engine, g, steps)?;

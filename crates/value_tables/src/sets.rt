@@ -36,7 +36,7 @@ pub(crate) fn united<L: Ledger>(
         → Reads (λ r. value_of (store_of engine.old) r bits) left.now c
         → Reads (λ r. value_of (store_of engine.old) r bits) right.now d
         → Reads (λ r. value_of (store_of engine.new) r bits) out.items (all_values c d)) }
-    ensures work { IsWork engine.old engine.new steps.old steps.new result }
+    ensures call { IsWork engine.old engine.new steps.old steps.new result }
     ensures spends { Spends (5 * length left.now + 5 * length right.now + 3) (store_of engine.old)
         (store_of engine.new) }
 {
@@ -63,7 +63,7 @@ pub(crate) fn negated<L: Ledger>(
         → Reads (λ r. value_of (store_of engine.old) r bits) operand.now.cells.items c → IsProper c
         → (operand.now.single ≡ true → IsSingle c)
         → Reads (λ r. value_of (store_of engine.new) r bits) t.cells.items (negation c)) }
-    ensures work { IsWork engine.old engine.new steps.old steps.new result }
+    ensures call { IsWork engine.old engine.new steps.old steps.new result }
     ensures spends { Spends (7 * length operand.now.cells.items + 4) (store_of engine.old)
         (store_of engine.new) }
 {
@@ -109,7 +109,7 @@ fn choose<L: Ledger>(
         → Reads (λ q. value_of (store_of engine.old) q bits) guard.now.items (truths b)
         → value_of (store_of engine.new) r bits
         ≡ (value_of (store_of engine.old) left bits && goes_on b)) }
-    ensures work { IsWork engine.old engine.new steps.old steps.new result }
+    ensures call { IsWork engine.old engine.new steps.old steps.new result }
     ensures spends { Spends (2 * length guard.now.items + 2 * length right.now + 2)
         (store_of engine.old) (store_of engine.new) }
 {
@@ -146,7 +146,7 @@ pub(crate) fn add_arm<L: Ledger>(
         → IsOperand (λ q. value_of (store_of engine.old) q bits) guard.now.cells.items
         guard.now.single c → value_of (store_of engine.new) r bits
         ≡ (value_of (store_of engine.old) left bits && goes_on (guard_of c))) }
-    ensures work { IsWork engine.old engine.new steps.old steps.new result }
+    ensures call { IsWork engine.old engine.new steps.old steps.new result }
     ensures spends { Spends (7 * length guard.now.cells.items + 2 * length right.now + 6)
         (store_of engine.old) (store_of engine.new) }
 {

@@ -38,7 +38,7 @@ fn put<L: Ledger>(
         ((becomes pick k cell.reading && value_of (store_of engine.old) cell.region bits) &&
         value_of (store_of engine.old) within bits))) }
     ensures few { OnOk result (length out.new.items ≤ length out.old.items + 1) }
-    ensures work { IsWork engine.old engine.new steps.old steps.new result }
+    ensures call { IsWork engine.old engine.new steps.old steps.new result }
     ensures spends { Spends 2 (store_of engine.old) (store_of engine.new) }
     ensures thrifty { OnOk result (Spends (2 * overlap (store_of engine.old) cell.region within)
         (store_of engine.old) (store_of engine.new)) }
@@ -73,7 +73,7 @@ pub(crate) fn spread<L: Ledger>(
         (λ r. value_of (store_of engine.old) r bits) (becomes pick k) cells.now && value_of
         (store_of engine.old) within bits))) }
     ensures few { OnOk result (length out.new.items ≤ length out.old.items + length cells.now) }
-    ensures work { IsWork engine.old engine.new steps.old steps.new result }
+    ensures call { IsWork engine.old engine.new steps.old steps.new result }
     ensures spends { Spends (2 * length cells.now) (store_of engine.old) (store_of engine.new) }
     ensures thrifty { OnOk result (Spends (2 * overlaps (store_of engine.old) cells.now within)
         (store_of engine.old) (store_of engine.new)) }

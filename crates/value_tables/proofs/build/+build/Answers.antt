@@ -60,9 +60,9 @@ build-returns-in_ok-right-in-Binary-clause-table g t c =
     let s = c.build-in-Binary.new.engine.store in
     let z = c.build-in-Binary-2.new.engine.store in
     term_table c.binary_of.new.engine.store lay m c.args.next (Term.Binary c.in-Binary.op a b) (term_of c.args.expr.now) (sym is) c.binary_of.result
-    (binary_table z c.binary_of.new.engine.store c.in-Binary.op _ _ _ _ (meaning_of lay m c.args.next a) (meaning_of lay m c.args.next b)
-    (IsTable-grows s z c.build-in-Binary-2.ensures.work.keeps.engine.grows _ _ (meaning_of lay m c.args.next a) c.in_ok-left-in-Binary.ensures.table) c.in_ok-right-in-Binary.ensures.table
-    (λ bits. eval_proper m a _ _ good.0) (λ bits. eval_proper m b _ _ good.1) c.binary_of.result c.binary_of.ensures.cells c.binary_of.ensures.reads c.binary_of.ensures.single)
+    (binary_table z c.binary_of.new.engine.store c.in-Binary.op c.in_ok-left-in-Binary.left c.in_ok-right-in-Binary.right (meaning_of lay m c.args.next a) (meaning_of lay m c.args.next b)
+    (IsTable-grows s z c.build-in-Binary-2.ensures.call.keeps.engine.grows _ _ (meaning_of lay m c.args.next a) c.in_ok-left-in-Binary.ensures.table) c.in_ok-right-in-Binary.ensures.table
+    (λ bits. eval_proper m a _ _ good.0) (λ bits. eval_proper m b _ _ good.1) c.binary_of.result c.binary_of.ensures.table)
 
 pub build-returns-in-Braces-clause-table : goal.build-returns-in-Braces-clause-table
 build-returns-in-Braces-clause-table g t c =
@@ -105,7 +105,7 @@ build_arms-loop-arm-preserved g t c =
           (c.in_ok-left.ensures.rest bits);
       spends = lists_spend c.args.engine.now.store s c.build_arm.new.engine.store i.keeps.engine.grows (nodes_of_arms (take n arms)) (term_nodes (term_of a.guard) + term_nodes (term_of a.right)) (nodes_of_arms (take (n + 1) arms))
           (arms_step arms n a c.loop-arm-test.true c.arm-item.is) i.spends c.build_arm.ensures.spends;
-      keeps = keeps_join i.keeps c.build_arm.ensures.work.keeps;
+      keeps = keeps_join i.keeps c.build_arm.ensures.call.keeps;
     }
 
 pub build-build-requires-in-Braces : goal.build-build-requires-in-Braces
@@ -138,8 +138,8 @@ build-build_arms-requires g t c =
     let good : AreEvaluableArms c.args.model.now (arms_in c.deref-in-Case.result.now) = subst (λ (x : Term). IsEvaluable c.args.model.now x) e c.requires.evaluable in
     search rules
 
-pub build-returns-in_ok-right-in-Binary-clause-work : goal.build-returns-in_ok-right-in-Binary-clause-work
-build-returns-in_ok-right-in-Binary-clause-work g t c = record { keeps = keeps_join (keeps_join c.build-in-Binary.ensures.work.keeps c.build-in-Binary-2.ensures.work.keeps) c.binary_of.ensures.work.keeps; held = search rules }
+pub build-returns-in_ok-right-in-Binary-clause-call : goal.build-returns-in_ok-right-in-Binary-clause-call
+build-returns-in_ok-right-in-Binary-clause-call g t c = record { keeps = keeps_join (keeps_join c.build-in-Binary.ensures.call.keeps c.build-in-Binary-2.ensures.call.keeps) c.binary_of.ensures.call.keeps; held = search rules }
 
 pub build_arms-loop-arm-init : goal.build_arms-loop-arm-init
 build_arms-loop-arm-init g t c = record {
@@ -163,10 +163,10 @@ build_arms-build_arm-requires g t c =
     let right : IsEvaluable m (term_of a.right) = subst (λ (x : Arm). IsEvaluable m (term_of x.right)) (sym c.arm-item.is) good.1 in
     search rules
 
-pub build_arms-returns-in_err-left-clause-work : goal.build_arms-returns-in_err-left-clause-work
-build_arms-returns-in_err-left-clause-work g t c =
+pub build_arms-returns-in_err-left-clause-call : goal.build_arms-returns-in_err-left-clause-call
+build_arms-returns-in_err-left-clause-call g t c =
     let p = err_from_is_err_and c.from_residual.result c.from_residual.ensures.1 in
-    record { keeps = keeps_join c.loop-arm.invariant.keeps c.build_arm.ensures.work.keeps; held = rw (p.1, p.2) c.in_err-left.ensures.work.held }
+    record { keeps = keeps_join c.loop-arm.invariant.keeps c.build_arm.ensures.call.keeps; held = rw (p.1, p.2) c.in_err-left.ensures.call.held }
 
 pub build_arms-returns-in_err-left-clause-spends : goal.build_arms-returns-in_err-left-clause-spends
 build_arms-returns-in_err-left-clause-spends g t c =
@@ -227,7 +227,7 @@ build_elements-build_elements-requires-2 g t c =
 pub build_elements-united-requires-clause-left : goal.build_elements-united-requires-clause-left
 build_elements-united-requires-clause-left g t c =
     let q = c.build_elements-2.new.engine.store in
-    subst (AreCells q) (sym c.deref.ensures.value) (AreCells-grows c.build_elements.new.engine.store q c.build_elements-2.ensures.work.keeps.engine.grows _ c.in_ok-left.ensures.table.regions)
+    subst (AreCells q) (sym c.deref.ensures.value) (AreCells-grows c.build_elements.new.engine.store q c.build_elements-2.ensures.call.keeps.engine.grows _ c.in_ok-left.ensures.table.regions)
 
 pub build_elements-united-requires-clause-right : goal.build_elements-united-requires-clause-right
 build_elements-united-requires-clause-right g t c = subst (AreCells c.build_elements-2.new.engine.store) (sym c.deref-2.ensures.value) c.in_ok-right.ensures.table.regions
@@ -244,16 +244,16 @@ build_elements-returns-clause-table g t c =
     let f : List Bool → Checked (List Value) = elements_meaning lay m c.args.next (terms_in xs) in
     let h : List Bool → Checked (List Value) = elements_meaning lay m c.args.next (terms_in ys) in
     united_table q c.united.new.engine.store c.deref.result.now c.deref-2.result.now f h (elements_meaning lay m c.args.next (terms_in es))
-    (subst (λ cells. IsSetTable q cells f) (sym c.deref.ensures.value) (IsSetTable-grows p q c.build_elements-2.ensures.work.keeps.engine.grows c.in_ok-left.left.items f c.in_ok-left.ensures.table))
+    (subst (λ cells. IsSetTable q cells f) (sym c.deref.ensures.value) (IsSetTable-grows p q c.build_elements-2.ensures.call.keeps.engine.grows c.in_ok-left.left.items f c.in_ok-left.ensures.table))
     (subst (λ cells. IsSetTable q cells h) (sym c.deref-2.ensures.value) c.in_ok-right.ensures.table)
     (halves_values es xs ys (length es / 2) c.split_at.ensures.front c.split_at.ensures.back lay m c.args.next)
     c.united.result c.united.ensures.cells c.united.ensures.reads
 
-pub build_elements-returns-in_err-right-clause-work : goal.build_elements-returns-in_err-right-clause-work
-build_elements-returns-in_err-right-clause-work g t c = record { keeps = keeps_join c.build_elements.ensures.work.keeps c.build_elements-2.ensures.work.keeps; held = search rules }
+pub build_elements-returns-in_err-right-clause-call : goal.build_elements-returns-in_err-right-clause-call
+build_elements-returns-in_err-right-clause-call g t c = record { keeps = keeps_join c.build_elements.ensures.call.keeps c.build_elements-2.ensures.call.keeps; held = search rules }
 
-pub build_elements-returns-clause-work : goal.build_elements-returns-clause-work
-build_elements-returns-clause-work g t c = record { keeps = keeps_join (keeps_join c.build_elements.ensures.work.keeps c.build_elements-2.ensures.work.keeps) c.united.ensures.work.keeps; held = search rules }
+pub build_elements-returns-clause-call : goal.build_elements-returns-clause-call
+build_elements-returns-clause-call g t c = record { keeps = keeps_join (keeps_join c.build_elements.ensures.call.keeps c.build_elements-2.ensures.call.keeps) c.united.ensures.call.keeps; held = search rules }
 
 pub build_elements-returns-in_err-left-clause-spends : goal.build_elements-returns-in_err-left-clause-spends
 build_elements-returns-in_err-left-clause-spends g t c =
@@ -269,7 +269,7 @@ build_elements-returns-in_err-right-clause-spends g t c =
     let xs = c.split_at.result.0.now in
     let ys = c.split_at.result.1.now in
     let n = halves_nodes es xs ys (length es / 2) c.split_at.ensures.front c.split_at.ensures.back in
-    lists_spend c.args.engine.now.store c.build_elements.new.engine.store c.build_elements-2.new.engine.store c.build_elements.ensures.work.keeps.engine.grows (element_nodes (terms_in xs)) (element_nodes (terms_in ys)) (element_nodes (terms_in es))
+    lists_spend c.args.engine.now.store c.build_elements.new.engine.store c.build_elements-2.new.engine.store c.build_elements.ensures.call.keeps.engine.grows (element_nodes (terms_in xs)) (element_nodes (terms_in ys)) (element_nodes (terms_in es))
     (omega (arith, n)) c.build_elements.ensures.spends c.build_elements-2.ensures.spends
 
 pub build_elements-returns-clause-spends : goal.build_elements-returns-clause-spends
@@ -283,7 +283,7 @@ build_elements-returns-clause-spends g t c =
     let q = c.build_elements-2.new.engine.store in
     let some : 0 < length xs = omega (arith, c.split_at.ensures.front_len, c.requires.some) in
     let behind : 0 < length ys = omega (arith, c.split_at.ensures.back_len, c.requires.some) in
-    halves_spend c.args.engine.now.store p q c.united.new.engine.store c.build_elements.ensures.work.keeps.engine.grows c.build_elements-2.ensures.work.keeps.engine.grows (element_nodes (terms_in xs)) (element_nodes (terms_in ys)) (element_nodes (terms_in es))
+    halves_spend c.args.engine.now.store p q c.united.new.engine.store c.build_elements.ensures.call.keeps.engine.grows c.build_elements-2.ensures.call.keeps.engine.grows (element_nodes (terms_in xs)) (element_nodes (terms_in ys)) (element_nodes (terms_in es))
     (length c.deref.result.now) (length c.deref-2.result.now) (nodes-some xs some) (nodes-some ys behind) (halves_nodes es xs ys (length es / 2) c.split_at.ensures.front c.split_at.ensures.back)
     c.build_elements.ensures.spends c.build_elements-2.ensures.spends c.united.ensures.spends
     (subst (λ (cells : List Cell). length cells ≤ element_nodes (terms_in xs) * 2 ^ levels_of p) (sym c.deref.ensures.value) (set-few p c.in_ok-left.left.items (elements_meaning lay m c.args.next (terms_in xs)) (element_nodes (terms_in xs)) c.in_ok-left.ensures.table
@@ -306,19 +306,19 @@ build_arm-build-requires-2 g t c =
     search rules
 
 pub build_arm-add_arm-requires-clause-guard : goal.build_arm-add_arm-requires-clause-guard
-build_arm-add_arm-requires-clause-guard g t c = AreCells-grows c.build.new.engine.store c.build-2.new.engine.store c.build-2.ensures.work.keeps.engine.grows _ c.in_ok-guard.ensures.table.regions
+build_arm-add_arm-requires-clause-guard g t c = AreCells-grows c.build.new.engine.store c.build-2.new.engine.store c.build-2.ensures.call.keeps.engine.grows _ c.in_ok-guard.ensures.table.regions
 
 pub build_arm-add_arm-requires-clause-right : goal.build_arm-add_arm-requires-clause-right
 build_arm-add_arm-requires-clause-right g t c = subst (AreCells c.build-2.new.engine.store) (sym c.deref.ensures.value) c.in_ok-right.ensures.table.regions
 
 pub build_arm-add_arm-requires-clause-left : goal.build_arm-add_arm-requires-clause-left
 build_arm-add_arm-requires-clause-left g t c =
-    let k = keeps_join c.build.ensures.work.keeps c.build-2.ensures.work.keeps in
+    let k = keeps_join c.build.ensures.call.keeps c.build-2.ensures.call.keeps in
     k.engine.grows.has c.args.left c.requires.left
 
 pub build_arm-add_arm-requires-clause-out : goal.build_arm-add_arm-requires-clause-out
 build_arm-add_arm-requires-clause-out g t c =
-    let k = keeps_join c.build.ensures.work.keeps c.build-2.ensures.work.keeps in
+    let k = keeps_join c.build.ensures.call.keeps c.build-2.ensures.call.keeps in
     AreCells-grows c.args.engine.now.store c.build-2.new.engine.store k.engine.grows c.args.out.now.items c.requires.out
 
 pub build_arm-returns-clause-shows : goal.build_arm-returns-clause-shows
@@ -329,10 +329,10 @@ build_arm-returns-clause-shows g t c =
     let s = c.args.engine.now.store in
     let p = c.build.new.engine.store in
     let q = c.build-2.new.engine.store in
-    let s_q = Grows-then s p q c.build.ensures.work.keeps.engine.grows c.build-2.ensures.work.keeps.engine.grows in
+    let s_q = Grows-then s p q c.build.ensures.call.keeps.engine.grows c.build-2.ensures.call.keeps.engine.grows in
     let f : List Bool → Checked (List Value) = meaning_of lay m c.args.next (term_of a.guard) in
     let d : List Bool → Checked (List Value) = meaning_of lay m c.args.next (term_of a.right) in
-    let table = IsTable-grows p q c.build-2.ensures.work.keeps.engine.grows _ _ f c.in_ok-guard.ensures.table in
+    let table = IsTable-grows p q c.build-2.ensures.call.keeps.engine.grows _ _ f c.in_ok-guard.ensures.table in
     on_ok_weaker c.add_arm.result (λ shown bits k.
     shown bits (f bits) (d bits) (operand q _ _ f table (λ xs. eval_proper m (term_of a.guard) _ _ c.requires.guard) bits)
     (subst (λ xs. Reads (λ r. value_of q r bits) xs (d bits)) (sym c.deref.ensures.value) (c.in_ok-right.ensures.table.reads bits)) k
@@ -347,29 +347,29 @@ build_arm-returns-clause-rest g t c =
     let s = c.args.engine.now.store in
     let p = c.build.new.engine.store in
     let q = c.build-2.new.engine.store in
-    let s_q = Grows-then s p q c.build.ensures.work.keeps.engine.grows c.build-2.ensures.work.keeps.engine.grows in
+    let s_q = Grows-then s p q c.build.ensures.call.keeps.engine.grows c.build-2.ensures.call.keeps.engine.grows in
     let f : List Bool → Checked (List Value) = meaning_of lay m c.args.next (term_of a.guard) in
-    let table = IsTable-grows p q c.build-2.ensures.work.keeps.engine.grows _ _ f c.in_ok-guard.ensures.table in
+    let table = IsTable-grows p q c.build-2.ensures.call.keeps.engine.grows _ _ f c.in_ok-guard.ensures.table in
     if_ok c.add_arm.result c.add_arm.ensures.rest (λ r h bits.
     h bits (f bits) (operand q _ _ f table (λ xs. eval_proper m (term_of a.guard) _ _ c.requires.guard) bits)
     ∙ (λ j. s_q.value c.args.left c.requires.left bits j && goes_on (guard_of (f bits))))
 
-pub build_arm-returns-in_err-right-clause-work : goal.build_arm-returns-in_err-right-clause-work
-build_arm-returns-in_err-right-clause-work g t c = record { keeps = keeps_join c.build.ensures.work.keeps c.build-2.ensures.work.keeps; held = search rules }
+pub build_arm-returns-in_err-right-clause-call : goal.build_arm-returns-in_err-right-clause-call
+build_arm-returns-in_err-right-clause-call g t c = record { keeps = keeps_join c.build.ensures.call.keeps c.build-2.ensures.call.keeps; held = search rules }
 
-pub build_arm-returns-clause-work : goal.build_arm-returns-clause-work
-build_arm-returns-clause-work g t c = record { keeps = keeps_join (keeps_join c.build.ensures.work.keeps c.build-2.ensures.work.keeps) c.add_arm.ensures.work.keeps; held = search rules }
+pub build_arm-returns-clause-call : goal.build_arm-returns-clause-call
+build_arm-returns-clause-call g t c = record { keeps = keeps_join (keeps_join c.build.ensures.call.keeps c.build-2.ensures.call.keeps) c.add_arm.ensures.call.keeps; held = search rules }
 
 pub build_arm-returns-in_err-guard-clause-spends : goal.build_arm-returns-in_err-guard-clause-spends
 build_arm-returns-in_err-guard-clause-spends g t c =
     let a : Arm = c.args.arm.now in
     let p = c.build.new.engine.store in
-    arm_guard c.args.engine.now.store p p c.build.ensures.work.keeps.engine.grows (Grows-same p) (term_nodes (term_of a.guard)) (term_nodes (term_of a.right)) (term_nodes-some (term_of a.guard)) (term_nodes-some (term_of a.right)) c.build.ensures.spends
+    arm_guard c.args.engine.now.store p p c.build.ensures.call.keeps.engine.grows (Grows-same p) (term_nodes (term_of a.guard)) (term_nodes (term_of a.right)) (term_nodes-some (term_of a.guard)) (term_nodes-some (term_of a.right)) c.build.ensures.spends
 
 pub build_arm-returns-in_err-right-clause-spends : goal.build_arm-returns-in_err-right-clause-spends
 build_arm-returns-in_err-right-clause-spends g t c =
     let a : Arm = c.args.arm.now in
-    arm_right c.args.engine.now.store c.build.new.engine.store c.build-2.new.engine.store c.build.ensures.work.keeps.engine.grows c.build-2.ensures.work.keeps.engine.grows (term_nodes (term_of a.guard)) (term_nodes (term_of a.right))
+    arm_right c.args.engine.now.store c.build.new.engine.store c.build-2.new.engine.store c.build.ensures.call.keeps.engine.grows c.build-2.ensures.call.keeps.engine.grows (term_nodes (term_of a.guard)) (term_nodes (term_of a.right))
     (term_nodes-some (term_of a.guard)) (term_nodes-some (term_of a.right)) c.build.ensures.spends c.build-2.ensures.spends
 
 pub build_arm-returns-clause-spends : goal.build_arm-returns-clause-spends
@@ -381,7 +381,7 @@ build_arm-returns-clause-spends g t c =
     let q = c.build-2.new.engine.store in
     let f : List Bool → Checked (List Value) = meaning_of lay m c.args.next (term_of a.guard) in
     let d : List Bool → Checked (List Value) = meaning_of lay m c.args.next (term_of a.right) in
-    arm_spends c.args.engine.now.store p q c.build.ensures.work.keeps.engine.grows c.build-2.ensures.work.keeps.engine.grows (term_nodes (term_of a.guard)) (term_nodes (term_of a.right))
+    arm_spends c.args.engine.now.store p q c.build.ensures.call.keeps.engine.grows c.build-2.ensures.call.keeps.engine.grows (term_nodes (term_of a.guard)) (term_nodes (term_of a.right))
     (term_nodes-some (term_of a.guard)) (term_nodes-some (term_of a.right)) c.build.ensures.spends c.build-2.ensures.spends
     c.add_arm.new.engine.store (length c.in_ok-guard.guard.cells.items) (length c.deref.result.now)
     (table-few p c.in_ok-guard.guard.cells.items _ f (term_nodes (term_of a.guard)) c.in_ok-guard.ensures.table (λ bits. eval_amount m (term_of a.guard) (state_shown lay c.args.next bits) (state_shown lay true bits)))
@@ -426,7 +426,7 @@ build-returns-in_ok-operand-in-Not-clause-spends g t c =
     let is : term_of c.args.expr.now ≡ Term.Not e = ap term_of c.in-Not.is ∙ ap (λ (x : Expr). Term.Not (term_of x)) (sym c.deref-in-Not.ensures) in
     let s = c.args.engine.now.store in
     let b = c.build-in-Not.new.engine.store in
-    not_spends s b c.negated.new.engine.store c.build-in-Not.ensures.work.keeps.engine.grows (term_nodes e) (term_nodes (term_of c.args.expr.now)) (length c.in_ok-operand-in-Not.operand.cells.items) (ap term_nodes is)
+    not_spends s b c.negated.new.engine.store c.build-in-Not.ensures.call.keeps.engine.grows (term_nodes e) (term_nodes (term_of c.args.expr.now)) (length c.in_ok-operand-in-Not.operand.cells.items) (ap term_nodes is)
     c.build-in-Not.ensures.spends c.negated.ensures.spends
     (table-few b c.in_ok-operand-in-Not.operand.cells.items _ (meaning_of lay m c.args.next e) (term_nodes e) c.in_ok-operand-in-Not.ensures.table (λ bits. eval_amount m e (state_shown lay c.args.next bits) (state_shown lay true bits)))
 
@@ -444,8 +444,8 @@ build-returns-in_ok-right-in-Binary-clause-spends g t c =
     let h : List Bool → Checked (List Value) = meaning_of lay m c.args.next b in
     let left = c.in_ok-left-in-Binary.left in
     let right = c.in_ok-right-in-Binary.right in
-    let there = IsTable-grows s z c.build-in-Binary-2.ensures.work.keeps.engine.grows left.cells.items left.single f c.in_ok-left-in-Binary.ensures.table in
-    binary_spends c.args.engine.now.store s z c.binary_of.new.engine.store c.build-in-Binary.ensures.work.keeps.engine.grows c.build-in-Binary-2.ensures.work.keeps.engine.grows (term_nodes a) (term_nodes b) (term_nodes (term_of c.args.expr.now))
+    let there = IsTable-grows s z c.build-in-Binary-2.ensures.call.keeps.engine.grows left.cells.items left.single f c.in_ok-left-in-Binary.ensures.table in
+    binary_spends c.args.engine.now.store s z c.binary_of.new.engine.store c.build-in-Binary.ensures.call.keeps.engine.grows c.build-in-Binary-2.ensures.call.keeps.engine.grows (term_nodes a) (term_nodes b) (term_nodes (term_of c.args.expr.now))
     (length left.cells.items) (length right.cells.items) (ap term_nodes is) c.build-in-Binary.ensures.spends c.build-in-Binary-2.ensures.spends
     (c.binary_of.ensures.spends
     (record { result = λ bits. (f bits, operand z left.cells.items left.single f there (λ xs. eval_proper m a _ _ good.0) bits) })
@@ -496,7 +496,7 @@ build-returns-in_err-right-in-Binary-clause-spends g t c =
     let a : Term = term_of c.deref-in-Binary.result.now in
     let b : Term = term_of c.deref-in-Binary-2.result.now in
     let is : term_of c.args.expr.now ≡ Term.Binary c.in-Binary.op a b = ap term_of c.in-Binary.is ∙ (λ i. Term.Binary c.in-Binary.op (term_of (sym c.deref-in-Binary.ensures i)) (term_of (sym c.deref-in-Binary-2.ensures i))) in
-    both_spend c.args.engine.now.store c.build-in-Binary.new.engine.store c.build-in-Binary-2.new.engine.store c.build-in-Binary.ensures.work.keeps.engine.grows (term_nodes a) (term_nodes b) (term_nodes (term_of c.args.expr.now)) (ap term_nodes is)
+    both_spend c.args.engine.now.store c.build-in-Binary.new.engine.store c.build-in-Binary-2.new.engine.store c.build-in-Binary.ensures.call.keeps.engine.grows (term_nodes a) (term_nodes b) (term_nodes (term_of c.args.expr.now)) (ap term_nodes is)
     c.build-in-Binary.ensures.spends c.build-in-Binary-2.ensures.spends
 
 pub build-returns-in_err-cells-in-Braces-2-clause-spends : goal.build-returns-in_err-cells-in-Braces-2-clause-spends
@@ -509,14 +509,14 @@ build_arms-returns-in_err-add-clause-spends g t c =
     arms_spend c.args.engine.now.store c.loop-arm.engine.store c.add.new.engine.store c.loop-arm.invariant.keeps.engine.grows (nodes_of_arms (take c.loop-arm.arm-index c.args.arms.now)) (arm_nodes (arms_in c.args.arms.now))
     (sym (arms_all c.args.arms.now c.loop-arm.arm-index c.loop-arm-test.false)) c.loop-arm.invariant.spends c.add.ensures.spends
 
-pub build-returns-in_err-right-in-Binary-clause-work : goal.build-returns-in_err-right-in-Binary-clause-work
-build-returns-in_err-right-in-Binary-clause-work g t c = record { keeps = keeps_join c.build-in-Binary.ensures.work.keeps c.build-in-Binary-2.ensures.work.keeps; held = search rules }
+pub build-returns-in_err-right-in-Binary-clause-call : goal.build-returns-in_err-right-in-Binary-clause-call
+build-returns-in_err-right-in-Binary-clause-call g t c = record { keeps = keeps_join c.build-in-Binary.ensures.call.keeps c.build-in-Binary-2.ensures.call.keeps; held = search rules }
 
-pub build-returns-in_ok-operand-in-Not-clause-work : goal.build-returns-in_ok-operand-in-Not-clause-work
-build-returns-in_ok-operand-in-Not-clause-work g t c = record { keeps = keeps_join c.build-in-Not.ensures.work.keeps c.negated.ensures.work.keeps; held = search rules }
+pub build-returns-in_ok-operand-in-Not-clause-call : goal.build-returns-in_ok-operand-in-Not-clause-call
+build-returns-in_ok-operand-in-Not-clause-call g t c = record { keeps = keeps_join c.build-in-Not.ensures.call.keeps c.negated.ensures.call.keeps; held = search rules }
 
-pub build_arms-returns-in_err-add-clause-work : goal.build_arms-returns-in_err-add-clause-work
-build_arms-returns-in_err-add-clause-work g t c = record { keeps = keeps_join c.loop-arm.invariant.keeps c.add.ensures.work.keeps; held = search rules }
+pub build_arms-returns-in_err-add-clause-call : goal.build_arms-returns-in_err-add-clause-call
+build_arms-returns-in_err-add-clause-call g t c = record { keeps = keeps_join c.loop-arm.invariant.keeps c.add.ensures.call.keeps; held = search rules }
 
-pub build_arms-returns-clause-work : goal.build_arms-returns-clause-work
-build_arms-returns-clause-work g t c = record { keeps = keeps_join c.loop-arm.invariant.keeps c.add.ensures.work.keeps; held = search rules }
+pub build_arms-returns-clause-call : goal.build_arms-returns-clause-call
+build_arms-returns-clause-call g t c = record { keeps = keeps_join c.loop-arm.invariant.keeps c.add.ensures.call.keeps; held = search rules }

@@ -22,7 +22,7 @@ returns-in_ok-joined-in-Some-clause-cells g c =
     let is : cell ≡ get_or cells place cell = c.index-deref-place.is ∙ ap (λ (xs : List Cell). get_or xs place cell) c.deref.ensures.value in
     let region = subst (λ (x : Cell). IsRegion z joined (λ bits. value_of s x.region bits || value_of s c.args.region bits)) (sym c.index-deref-place.is) c.in_ok-joined-in-Some.ensures.region in
     subst (AreCells z) (sym (c.set_region.ensures ∙ with_region-set cells place joined cell is))
-    (AreCells-enlarge s z c.join.ensures.work.keeps.engine.grows cells place cell c.args.reading c.args.region joined c.requires.cells c.requires.region (sym c.in-Some.ensures) is region)
+    (AreCells-enlarge s z c.join.ensures.call.keeps.engine.grows cells place cell c.args.reading c.args.region joined c.requires.cells c.requires.region (sym c.in-Some.ensures) is region)
 
 pub returns-in_ok-joined-in-Some-clause-shows : goal.returns-in_ok-joined-in-Some-clause-shows
 returns-in_ok-joined-in-Some-clause-shows g c =
@@ -36,7 +36,7 @@ returns-in_ok-joined-in-Some-clause-shows g c =
     let region = subst (λ (x : Cell). IsRegion z joined (λ bits. value_of s x.region bits || value_of s c.args.region bits)) (sym c.index-deref-place.is) c.in_ok-joined-in-Some.ensures.region in
     λ bits k.
     ap (λ (xs : List Cell). shows (λ r. value_of z r bits) xs k) (c.set_region.ensures ∙ with_region-set cells place joined cell is)
-    ∙ shows-enlarge s z c.join.ensures.work.keeps.engine.grows cells place cell c.args.reading c.args.region joined c.requires.cells c.requires.region (sym c.in-Some.ensures) is region bits k
+    ∙ shows-enlarge s z c.join.ensures.call.keeps.engine.grows cells place cell c.args.reading c.args.region joined c.requires.cells c.requires.region (sym c.in-Some.ensures) is region bits k
 
 pub returns-in_ok-joined-in-Some-clause-few : goal.returns-in_ok-joined-in-Some-clause-few
 returns-in_ok-joined-in-Some-clause-few g c =

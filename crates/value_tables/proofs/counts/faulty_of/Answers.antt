@@ -27,7 +27,7 @@ loop-cell-preserved g c =
     let e = c.in_ok-faulty.ensures in
     record {
       region = IsRegion-more s a b i.keeps.engine.grows c.args.cells.now c.loop-cell.cell-index c.cell-item.result c.loop-cell-test.true c.cell-item.is c.requires (λ bits. is_fault) c.loop-cell.faulty c.in_ok-faulty.faulty i.region e.region.has e.region.value;
-      keeps = Keeps-then c.args.engine.now c.loop-cell.engine c.with_fault.new.engine c.args.steps.now c.loop-cell.steps c.with_fault.new.steps i.keeps c.with_fault.ensures.work.keeps;
+      keeps = Keeps-then c.args.engine.now c.loop-cell.engine c.with_fault.new.engine c.args.steps.now c.loop-cell.steps c.with_fault.new.steps i.keeps c.with_fault.ensures.call.keeps;
       spends = Spends-then s a b c.loop-cell.cell-index 1 (c.loop-cell.cell-index + 1) i.keeps.engine.grows.levels (omega arith) i.spends c.with_fault.ensures.spends;
     }
 

@@ -31,7 +31,7 @@ loop-cell-preserved g c =
     record {
       one = one_more s a b i.keeps.engine.grows c.args.cells.now c.loop-cell.cell-index c.cell-item.result c.loop-cell-test.true c.cell-item.is c.requires c.loop-cell.so_far.one c.loop-cell.so_far.two i.one c.in_ok-so_far.so_far.one e.one;
       two = two_more s a b i.keeps.engine.grows c.args.cells.now c.loop-cell.cell-index c.cell-item.result c.loop-cell-test.true c.cell-item.is c.requires c.loop-cell.so_far.one c.loop-cell.so_far.two i.one i.two c.in_ok-so_far.so_far.two e.two;
-      keeps = Keeps-then c.args.engine.now c.loop-cell.engine c.one_more.new.engine c.args.steps.now c.loop-cell.steps c.one_more.new.steps i.keeps c.one_more.ensures.work.keeps;
+      keeps = Keeps-then c.args.engine.now c.loop-cell.engine c.one_more.new.engine c.args.steps.now c.loop-cell.steps c.one_more.new.steps i.keeps c.one_more.ensures.call.keeps;
       spends = Spends-then s a b (3 * c.loop-cell.cell-index) 3 (3 * (c.loop-cell.cell-index + 1)) i.keeps.engine.grows.levels (omega arith) i.spends c.one_more.ensures.spends;
     }
 

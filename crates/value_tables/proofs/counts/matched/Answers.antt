@@ -32,7 +32,7 @@ loop-cell-preserved g c =
     record {
       region = IsRegion-more s a b i.keeps.engine.grows c.args.left.now c.loop-cell.cell-index c.cell-item.result c.loop-cell-test.true c.cell-item.is c.requires.left (λ bits. at_region (λ q. value_of s q bits) c.args.right.now.items) c.loop-cell.hit c.in_ok-hit.hit i.region e.region.has
           (λ bits. e.region.value bits ∙ (λ j. value_of a c.loop-cell.hit bits || (region_at-grows s a i.keeps.engine.grows c.args.right.now.items c.requires.right c.cell-item.result.reading c.region_of-equal.result c.region_of-equal.ensures bits j && value_of a c.cell-item.result.region bits)));
-      keeps = Keeps-then c.args.engine.now c.loop-cell.engine c.join_both.new.engine c.args.steps.now c.loop-cell.steps c.join_both.new.steps i.keeps c.join_both.ensures.work.keeps;
+      keeps = Keeps-then c.args.engine.now c.loop-cell.engine c.join_both.new.engine c.args.steps.now c.loop-cell.steps c.join_both.new.steps i.keeps c.join_both.ensures.call.keeps;
       spends = Spends-then s a b (2 * c.loop-cell.cell-index) 2 (2 * (c.loop-cell.cell-index + 1)) i.keeps.engine.grows.levels (omega arith) i.spends c.join_both.ensures.spends;
     }
 

@@ -15,7 +15,7 @@ returns-clause-reads g c =
     let b = c.outside.new.engine.store in
     let d = c.spread.new.engine.store in
     let cells = c.args.table.now.cells.items in
-    let to_b = Grows-then s a b c.many_in.ensures.work.keeps.engine.grows c.outside.ensures.work.keeps.engine.grows in
+    let to_b = Grows-then s a b c.many_in.ensures.call.keeps.engine.grows c.outside.ensures.call.keeps.engine.grows in
     λ bits r h proper flag. record {
       each = λ k. tested_each (λ q. value_of s q bits) cells r c.requires.once h proper c.args.table.now.single flag c.args.test k _ _ _ _ _ _ _
           (c.in_ok-add.ensures.shows bits k)
@@ -23,15 +23,15 @@ returns-clause-reads g c =
           (ap (λ xs. shows (λ q. value_of b q bits) xs k) c.new-out.ensures.items)
           (ap (any_cell (λ q. value_of b q bits) (becomes (Pick.Tested c.args.test) k)) c.deref.ensures.value ∙ any_cell-grows s b to_b cells c.requires.has bits (becomes (Pick.Tested c.args.test) k))
           (c.in_ok-one.ensures.region.value bits)
-          ((Grows-then a b d c.outside.ensures.work.keeps.engine.grows c.spread.ensures.work.keeps.engine.grows).value c.in_ok-many.many c.in_ok-many.ensures.region.has bits)
+          ((Grows-then a b d c.outside.ensures.call.keeps.engine.grows c.spread.ensures.call.keeps.engine.grows).value c.in_ok-many.many c.in_ok-many.ensures.region.has bits)
           (c.in_ok-many.ensures.region.value bits);
     }
 
-pub returns-in_err-add-clause-work : goal.returns-in_err-add-clause-work
-returns-in_err-add-clause-work g c = record { keeps = keeps_join (keeps_join (keeps_join c.many_in.ensures.work.keeps c.outside.ensures.work.keeps) c.spread.ensures.work.keeps) c.add.ensures.work.keeps; held = search rules }
+pub returns-in_err-add-clause-call : goal.returns-in_err-add-clause-call
+returns-in_err-add-clause-call g c = record { keeps = keeps_join (keeps_join (keeps_join c.many_in.ensures.call.keeps c.outside.ensures.call.keeps) c.spread.ensures.call.keeps) c.add.ensures.call.keeps; held = search rules }
 
-pub returns-clause-work : goal.returns-clause-work
-returns-clause-work g c = record { keeps = keeps_join (keeps_join (keeps_join c.many_in.ensures.work.keeps c.outside.ensures.work.keeps) c.spread.ensures.work.keeps) c.add.ensures.work.keeps; held = search rules }
+pub returns-clause-call : goal.returns-clause-call
+returns-clause-call g c = record { keeps = keeps_join (keeps_join (keeps_join c.many_in.ensures.call.keeps c.outside.ensures.call.keeps) c.spread.ensures.call.keeps) c.add.ensures.call.keeps; held = search rules }
 
-pub returns-in_err-spread-clause-work : goal.returns-in_err-spread-clause-work
-returns-in_err-spread-clause-work g c = record { keeps = keeps_join (keeps_join c.many_in.ensures.work.keeps c.outside.ensures.work.keeps) c.spread.ensures.work.keeps; held = search rules }
+pub returns-in_err-spread-clause-call : goal.returns-in_err-spread-clause-call
+returns-in_err-spread-clause-call g c = record { keeps = keeps_join (keeps_join c.many_in.ensures.call.keeps c.outside.ensures.call.keeps) c.spread.ensures.call.keeps; held = search rules }

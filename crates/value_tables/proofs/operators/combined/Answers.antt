@@ -24,18 +24,18 @@ connected-requires-clause-b g c =
 pub settled-requires-clause-left : goal.settled-requires-clause-left
 settled-requires-clause-left g c =
     let m = c.connected.new.engine.store in
-    subst (AreCells m) (sym c.deref.ensures.value) (AreCells-grows c.args.engine.now.store m c.connected.ensures.work.keeps.engine.grows c.args.left.now.items c.requires.left)
+    subst (AreCells m) (sym c.deref.ensures.value) (AreCells-grows c.args.engine.now.store m c.connected.ensures.call.keeps.engine.grows c.args.left.now.items c.requires.left)
 
 pub settled-requires-clause-right : goal.settled-requires-clause-right
 settled-requires-clause-right g c =
     let m = c.connected.new.engine.store in
-    subst (AreCells m) (sym c.deref-2.ensures.value) (AreCells-grows c.args.engine.now.store m c.connected.ensures.work.keeps.engine.grows c.args.right.now.items c.requires.right)
+    subst (AreCells m) (sym c.deref-2.ensures.value) (AreCells-grows c.args.engine.now.store m c.connected.ensures.call.keeps.engine.grows c.args.right.now.items c.requires.right)
 
 pub returns-clause-reads : goal.returns-clause-reads
 returns-clause-reads g c =
     let s = c.args.engine.now.store in
     let m = c.connected.new.engine.store in
-    let grows = c.connected.ensures.work.keeps.engine.grows in
+    let grows = c.connected.ensures.call.keeps.engine.grows in
     let left = c.args.left.now.items in
     let right = c.args.right.now.items in
     if_ok c.settled.result c.settled.ensures.reads (λ t reads bits a b x y.
@@ -47,8 +47,8 @@ returns-clause-reads g c =
     (subst (λ xs. Reads (λ q. value_of m q bits) xs (truths a)) (sym c.deref.ensures.value) (reads_grows s m grows left c.requires.left.has bits (truths a) x))
     (subst (λ xs. Reads (λ q. value_of m q bits) xs (truths b)) (sym c.deref-2.ensures.value) (reads_grows s m grows right c.requires.right.has bits (truths b) y))))
 
-pub returns-clause-work : goal.returns-clause-work
-returns-clause-work g c = record { keeps = keeps_join c.connected.ensures.work.keeps c.settled.ensures.work.keeps; held = search rules }
+pub returns-clause-call : goal.returns-clause-call
+returns-clause-call g c = record { keeps = keeps_join c.connected.ensures.call.keeps c.settled.ensures.call.keeps; held = search rules }
 
 pub returns-in_err-hit-clause-spends : goal.returns-in_err-hit-clause-spends
 returns-in_err-hit-clause-spends g c = Spends-more c.args.engine.now.store c.connected.new.engine.store 2 _ (omega arith) c.connected.ensures.spends
@@ -57,5 +57,5 @@ pub returns-clause-spends : goal.returns-clause-spends
 returns-clause-spends g c =
     let l = ap length c.deref.ensures.value in
     let r = ap length c.deref-2.ensures.value in
-    Spends-then c.args.engine.now.store c.connected.new.engine.store c.settled.new.engine.store 2 (3 * length c.deref.result.now + 3 * length c.deref-2.result.now + 8) _ c.connected.ensures.work.keeps.engine.grows.levels
+    Spends-then c.args.engine.now.store c.connected.new.engine.store c.settled.new.engine.store 2 (3 * length c.deref.result.now + 3 * length c.deref-2.result.now + 8) _ c.connected.ensures.call.keeps.engine.grows.levels
     (omega (arith, l, r)) c.connected.ensures.spends c.settled.ensures.spends

@@ -6,7 +6,7 @@ use Rattle.value_tables.proofs.orders.join_hits.Goals as goal
 
 pub returns-clause-region : goal.returns-clause-region
 returns-clause-region g c =
-    let e = c.join.ensures.work.keeps.engine.grows in
+    let e = c.join.ensures.call.keeps.engine.grows in
     if_ok c.join_both.result c.join_both.ensures.region (λ r h. record {
       has = h.has;
       value = λ bits. h.value bits ∙ (λ i. c.in_ok-either.ensures.region.value bits i
@@ -14,8 +14,8 @@ returns-clause-region g c =
           && e.value c.args.behind.now.greater c.requires.behind.greater bits i));
     })
 
-pub returns-clause-work : goal.returns-clause-work
-returns-clause-work g c = record { keeps = keeps_join c.join.ensures.work.keeps c.join_both.ensures.work.keeps; held = search rules }
+pub returns-clause-call : goal.returns-clause-call
+returns-clause-call g c = record { keeps = keeps_join c.join.ensures.call.keeps c.join_both.ensures.call.keeps; held = search rules }
 
 pub returns-in_err-either-clause-spends : goal.returns-in_err-either-clause-spends
 returns-in_err-either-clause-spends g c =
@@ -24,5 +24,5 @@ returns-in_err-either-clause-spends g c =
 
 pub returns-clause-spends : goal.returns-clause-spends
 returns-clause-spends g c = Spends-then c.args.engine.now.store c.join.new.engine.store
-    c.join_both.new.engine.store 1 2 3 c.join.ensures.work.keeps.engine.grows.levels
+    c.join_both.new.engine.store 1 2 3 c.join.ensures.call.keeps.engine.grows.levels
     (omega arith) c.join.ensures.spends c.join_both.ensures.spends

@@ -1,5 +1,4 @@
-use Rattle.std.proofs.Common.{◌||◌, ◌∙◌, arith}
-use Rattle.value_tables.proofs.RegionLemmas.{keeps_join, Spends-then, IsRegion-grows}
+use Rattle.std.proofs.Common.{arith}
 use Rattle.value_tables.proofs.WeightLemmas.{Spends-more}
 use Rattle.value_tables.proofs.orders.join_sides.Goals as goal
 

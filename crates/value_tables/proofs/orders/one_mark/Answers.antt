@@ -1,4 +1,4 @@
-use Rattle.std.proofs.Common.{not, cond, sym, ap, ◌∙◌}
+use Rattle.std.proofs.Common.{not, cond, ap, ◌∙◌}
 use Rattle.value_tables.proofs.OrderLemmas.{alone_passed}
 use Rattle.value_tables.proofs.orders.one_mark.Goals as goal
 

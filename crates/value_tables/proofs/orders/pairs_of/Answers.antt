@@ -1,4 +1,4 @@
-use Rattle.std.proofs.Common.{◌*◌, ◌≡◌, length, arith, rules}
+use Rattle.std.proofs.Common.{◌≡◌, length, rules}
 use Rattle.value_tables.proofs.OrderLemmas.{no_pairs}
 use Rattle.value_tables.proofs.orders.pairs_of.Goals as goal
 

@@ -40,7 +40,7 @@ loop-cell-preserved g c =
     record {
       cells = e.cells;
       shows = λ bits k. pairs_step s a i.keeps.engine.grows c.args.left.now c.args.right.now c.requires.left c.requires.right c.args.op k bits c.loop-cell.cell-index c.cell-item.result c.loop-cell-test.true c.cell-item.is _ _ _ (i.shows bits k) (e.shows bits k);
-      keeps = Keeps-then c.args.engine.now c.loop-cell.engine c.pair_with.new.engine c.args.steps.now c.loop-cell.steps c.pair_with.new.steps i.keeps c.pair_with.ensures.work.keeps;
+      keeps = Keeps-then c.args.engine.now c.loop-cell.engine c.pair_with.new.engine c.args.steps.now c.loop-cell.steps c.pair_with.new.steps i.keeps c.pair_with.ensures.call.keeps;
       thrifty = λ apart. Spends-then s a b (2 * weights s (take c.loop-cell.cell-index c.args.left.now)) (2 * weight a c.cell-item.result.region) (2 * weights s (take (c.loop-cell.cell-index + 1) c.args.left.now)) i.keeps.engine.grows.levels
           (omega (arith, weights_more s a i.keeps.engine.grows c.args.left.now c.loop-cell.cell-index c.cell-item.result c.loop-cell-test.true c.cell-item.is c.requires.left)) (i.thrifty apart)
           (e.thrifty (AreApart-grows s a i.keeps.engine.grows c.args.right.now c.requires.right apart));

@@ -11,16 +11,16 @@ use Rattle.value_tables.proofs.StepLemmas.{if_ok}
 use Rattle.value_tables.proofs.sets.add_arm.Goals as goal
 
 pub choose-requires-clause-right : goal.choose-requires-clause-right
-choose-requires-clause-right g c = AreCells-grows c.args.engine.now.store c.tested.new.engine.store c.tested.ensures.work.keeps.engine.grows c.args.right.now c.requires.right
+choose-requires-clause-right g c = AreCells-grows c.args.engine.now.store c.tested.new.engine.store c.tested.ensures.call.keeps.engine.grows c.args.right.now c.requires.right
 
 pub choose-requires-clause-out : goal.choose-requires-clause-out
-choose-requires-clause-out g c = AreCells-grows c.args.engine.now.store c.tested.new.engine.store c.tested.ensures.work.keeps.engine.grows c.args.out.now.items c.requires.out
+choose-requires-clause-out g c = AreCells-grows c.args.engine.now.store c.tested.new.engine.store c.tested.ensures.call.keeps.engine.grows c.args.out.now.items c.requires.out
 
 pub returns-clause-shows : goal.returns-clause-shows
 returns-clause-shows g c =
     let s = c.args.engine.now.store in
     let t = c.tested.new.engine.store in
-    let grows = c.tested.ensures.work.keeps.engine.grows in
+    let grows = c.tested.ensures.call.keeps.engine.grows in
     on_ok_weaker c.choose.result (λ shown bits r d x y k.
     shown bits (guard_of r) d
     (reads_as _ _ (one_tested Test.Boolean r) (truths (guard_of r)) (boolean_tested r) (c.in_ok-boolean.ensures.reads bits r x.reads x.proper x.few))
@@ -30,13 +30,13 @@ returns-clause-shows g c =
 
 pub returns-clause-rest : goal.returns-clause-rest
 returns-clause-rest g c =
-    let grows = c.tested.ensures.work.keeps.engine.grows in
+    let grows = c.tested.ensures.call.keeps.engine.grows in
     if_ok c.choose.result c.choose.ensures.rest (λ r h bits b x.
     h bits (guard_of b) (reads_as _ _ (one_tested Test.Boolean b) (truths (guard_of b)) (boolean_tested b) (c.in_ok-boolean.ensures.reads bits b x.reads x.proper x.few))
     ∙ (λ j. grows.value c.args.left c.requires.left bits j && goes_on (guard_of b)))
 
-pub returns-clause-work : goal.returns-clause-work
-returns-clause-work g c = record { keeps = keeps_join c.tested.ensures.work.keeps c.choose.ensures.work.keeps; held = search rules }
+pub returns-clause-call : goal.returns-clause-call
+returns-clause-call g c = record { keeps = keeps_join c.tested.ensures.call.keeps c.choose.ensures.call.keeps; held = search rules }
 
 pub returns-in_err-boolean-clause-spends : goal.returns-in_err-boolean-clause-spends
 returns-in_err-boolean-clause-spends g c =
@@ -47,5 +47,5 @@ pub returns-clause-spends : goal.returns-clause-spends
 returns-clause-spends g c =
     let n = length c.args.guard.now.cells.items in
     let r = length c.args.right.now in
-    Spends-then c.args.engine.now.store c.tested.new.engine.store c.choose.new.engine.store (5 * n + 2) (2 * length c.in_ok-boolean.boolean.items + 2 * r + 2) (7 * n + 2 * r + 6) c.tested.ensures.work.keeps.engine.grows.levels
+    Spends-then c.args.engine.now.store c.tested.new.engine.store c.choose.new.engine.store (5 * n + 2) (2 * length c.in_ok-boolean.boolean.items + 2 * r + 2) (7 * n + 2 * r + 6) c.tested.ensures.call.keeps.engine.grows.levels
     (omega (arith, c.in_ok-boolean.ensures.few)) c.tested.ensures.spends c.choose.ensures.spends

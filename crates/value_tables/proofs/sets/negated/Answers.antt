@@ -21,13 +21,13 @@ returns-clause-reads g c =
 pub returns-clause-spends : goal.returns-clause-spends
 returns-clause-spends g c =
     let l = ap length c.deref.ensures.value in
-    Spends-then c.args.engine.now.store c.tested.new.engine.store c.spread.new.engine.store (5 * length c.args.operand.now.cells.items + 2) (2 * length c.deref.result.now) _ c.tested.ensures.work.keeps.engine.grows.levels
+    Spends-then c.args.engine.now.store c.tested.new.engine.store c.spread.new.engine.store (5 * length c.args.operand.now.cells.items + 2) (2 * length c.deref.result.now) _ c.tested.ensures.call.keeps.engine.grows.levels
     (omega (arith, l, c.in_ok-boolean.ensures.few)) c.tested.ensures.spends c.spread.ensures.spends
 
 pub returns-in_err-spread-clause-spends : goal.returns-in_err-spread-clause-spends
 returns-in_err-spread-clause-spends g c =
     let l = ap length c.deref.ensures.value in
-    Spends-then c.args.engine.now.store c.tested.new.engine.store c.spread.new.engine.store (5 * length c.args.operand.now.cells.items + 2) (2 * length c.deref.result.now) _ c.tested.ensures.work.keeps.engine.grows.levels
+    Spends-then c.args.engine.now.store c.tested.new.engine.store c.spread.new.engine.store (5 * length c.args.operand.now.cells.items + 2) (2 * length c.deref.result.now) _ c.tested.ensures.call.keeps.engine.grows.levels
     (omega (arith, l, c.in_ok-boolean.ensures.few)) c.tested.ensures.spends c.spread.ensures.spends
 
 pub returns-in_err-boolean-clause-spends : goal.returns-in_err-boolean-clause-spends
@@ -35,8 +35,8 @@ returns-in_err-boolean-clause-spends g c =
     let n = length c.args.operand.now.cells.items in
     Spends-more c.args.engine.now.store c.tested.new.engine.store (5 * n + 2) (7 * n + 4) (omega arith) c.tested.ensures.spends
 
-pub returns-in_err-spread-clause-work : goal.returns-in_err-spread-clause-work
-returns-in_err-spread-clause-work g c = record { keeps = keeps_join c.tested.ensures.work.keeps c.spread.ensures.work.keeps; held = search rules }
+pub returns-in_err-spread-clause-call : goal.returns-in_err-spread-clause-call
+returns-in_err-spread-clause-call g c = record { keeps = keeps_join c.tested.ensures.call.keeps c.spread.ensures.call.keeps; held = search rules }
 
-pub returns-clause-work : goal.returns-clause-work
-returns-clause-work g c = record { keeps = keeps_join c.tested.ensures.work.keeps c.spread.ensures.work.keeps; held = search rules }
+pub returns-clause-call : goal.returns-clause-call
+returns-clause-call g c = record { keeps = keeps_join c.tested.ensures.call.keeps c.spread.ensures.call.keeps; held = search rules }

@@ -39,7 +39,7 @@ loop-cell-preserved g c =
       cells = e.cells;
       shows = λ bits k. spread_step s a i.keeps.engine.grows c.args.cells.now c.loop-cell.cell-index c.cell-item.result c.loop-cell-test.true c.cell-item.is c.requires.cells c.args.within c.requires.within _ _ _ (becomes c.args.pick k) bits (i.shows bits k) (e.shows bits k);
       few = omega (arith, e.few);
-      keeps = Keeps-then c.args.engine.now c.loop-cell.engine c.put.new.engine c.args.steps.now c.loop-cell.steps c.put.new.steps i.keeps c.put.ensures.work.keeps;
+      keeps = Keeps-then c.args.engine.now c.loop-cell.engine c.put.new.engine c.args.steps.now c.loop-cell.steps c.put.new.steps i.keeps c.put.ensures.call.keeps;
       thrifty = Spends-then s a b (2 * overlaps s (take c.loop-cell.cell-index c.args.cells.now) c.args.within) (2 * overlap a c.cell-item.result.region c.args.within) (2 * overlaps s (take (c.loop-cell.cell-index + 1) c.args.cells.now) c.args.within) i.keeps.engine.grows.levels
           (omega (arith, overlaps_more s a i.keeps.engine.grows c.args.cells.now c.loop-cell.cell-index c.cell-item.result c.loop-cell-test.true c.cell-item.is c.requires.cells c.args.within c.requires.within)) i.thrifty e.thrifty;
       spends = Spends-then s a b (2 * c.loop-cell.cell-index) 2 (2 * (c.loop-cell.cell-index + 1)) i.keeps.engine.grows.levels (omega arith) i.spends c.put.ensures.spends;

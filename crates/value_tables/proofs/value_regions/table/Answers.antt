@@ -34,5 +34,5 @@ returns-clause-few g c =
     let m = c.args.model.now in
     let e = term_of c.args.expr.now in
     let cells : List Cell = c.in_ok-table.table.cells.items in
-    rows_few cells _ _ (term_nodes e) (levels_of c.args.engine.now.store) (levels_of s) (c.in-Ok.ensures.rows ∙ ap rows_in c.deref.ensures.value) (c.in-Ok.ensures.faults ∙ ap faults_in c.deref.ensures.value) c.build.ensures.work.keeps.engine.grows.levels
+    rows_few cells _ _ (term_nodes e) (levels_of c.args.engine.now.store) (levels_of s) (c.in-Ok.ensures.rows ∙ ap rows_in c.deref.ensures.value) (c.in-Ok.ensures.faults ∙ ap faults_in c.deref.ensures.value) c.build.ensures.call.keeps.engine.grows.levels
     (table-few s cells c.in_ok-table.table.single (meaning_of lay m false e) (term_nodes e) c.in_ok-table.ensures.table (λ bits. eval_amount m e (state_shown lay false bits) (state_shown lay true bits)))

@@ -11,14 +11,14 @@ use Rattle.value_tables.proofs.BinaryLemmas.{one_truth}
 use Rattle.value_tables.proofs.SelectorLemmas.{two_truths}
 use Rattle.value_tables.proofs.variables.running.Goals as goal
 
-pub returns-in_err-add-clause-work : goal.returns-in_err-add-clause-work
-returns-in_err-add-clause-work g c = record { keeps = keeps_join (keeps_join (keeps_engine c.args.steps.now c.selected.ensures.work.keeps.engine) c.outside.ensures.work.keeps) c.add.ensures.work.keeps; held = search rules }
+pub returns-in_err-add-clause-call : goal.returns-in_err-add-clause-call
+returns-in_err-add-clause-call g c = record { keeps = keeps_join (keeps_join (keeps_engine c.args.steps.now c.selected.ensures.call.keeps.engine) c.outside.ensures.call.keeps) c.add.ensures.call.keeps; held = search rules }
 
-pub returns-in_err-add-2-clause-work : goal.returns-in_err-add-2-clause-work
-returns-in_err-add-2-clause-work g c = record { keeps = keeps_join (keeps_join (keeps_join (keeps_engine c.args.steps.now c.selected.ensures.work.keeps.engine) c.outside.ensures.work.keeps) c.add.ensures.work.keeps) c.add-2.ensures.work.keeps; held = search rules }
+pub returns-in_err-add-2-clause-call : goal.returns-in_err-add-2-clause-call
+returns-in_err-add-2-clause-call g c = record { keeps = keeps_join (keeps_join (keeps_join (keeps_engine c.args.steps.now c.selected.ensures.call.keeps.engine) c.outside.ensures.call.keeps) c.add.ensures.call.keeps) c.add-2.ensures.call.keeps; held = search rules }
 
-pub returns-clause-work : goal.returns-clause-work
-returns-clause-work g c = record { keeps = keeps_join (keeps_join (keeps_join (keeps_engine c.args.steps.now c.selected.ensures.work.keeps.engine) c.outside.ensures.work.keeps) c.add.ensures.work.keeps) c.add-2.ensures.work.keeps; held = search rules }
+pub returns-clause-call : goal.returns-clause-call
+returns-clause-call g c = record { keeps = keeps_join (keeps_join (keeps_join (keeps_engine c.args.steps.now c.selected.ensures.call.keeps.engine) c.outside.ensures.call.keeps) c.add.ensures.call.keeps) c.add-2.ensures.call.keeps; held = search rules }
 
 pub returns-clause-table : goal.returns-clause-table
 returns-clause-table g c =
@@ -34,8 +34,8 @@ returns-clause-table g c =
       reads = λ bits.
           let named : Bool = same (value_in (state_shown lay c.args.next bits) 0) (Number (pos c.args.p)) in
           let at : value_of a here bits ≡ named = c.in_ok-here.ensures.region.value bits in
-          let still : value_of b here bits ≡ named = c.outside.ensures.work.keeps.engine.grows.value here c.in_ok-here.ensures.region.has bits ∙ at in
-          let rest : value_of d elsewhere bits ≡ not named = c.add.ensures.work.keeps.engine.grows.value elsewhere c.in_ok-elsewhere.ensures.region.has bits ∙ c.in_ok-elsewhere.ensures.region.value bits ∙ ap not at in
+          let still : value_of b here bits ≡ named = c.outside.ensures.call.keeps.engine.grows.value here c.in_ok-here.ensures.region.has bits ∙ at in
+          let rest : value_of d elsewhere bits ≡ not named = c.add.ensures.call.keeps.engine.grows.value elsewhere c.in_ok-elsewhere.ensures.region.has bits ∙ c.in_ok-elsewhere.ensures.region.value bits ∙ ap not at in
           record {
             each = λ k.
                 c.in_ok-add-2.ensures.shows bits k
@@ -47,22 +47,22 @@ returns-clause-table g c =
       at_most_one = λ e bits. one_truth (runs c.args.model.now (state_shown lay c.args.next bits) c.args.p);
     }
 
-pub returns-in_err-elsewhere-clause-work : goal.returns-in_err-elsewhere-clause-work
-returns-in_err-elsewhere-clause-work g c = record { keeps = keeps_join (keeps_engine c.args.steps.now c.selected.ensures.work.keeps.engine) c.outside.ensures.work.keeps; held = search rules }
+pub returns-in_err-elsewhere-clause-call : goal.returns-in_err-elsewhere-clause-call
+returns-in_err-elsewhere-clause-call g c = record { keeps = keeps_join (keeps_engine c.args.steps.now c.selected.ensures.call.keeps.engine) c.outside.ensures.call.keeps; held = search rules }
 
 pub returns-in_err-here-clause-spends : goal.returns-in_err-here-clause-spends
 returns-in_err-here-clause-spends g c = Spends-more c.args.engine.now.store c.selected.new.engine.store 1 4 (omega arith) c.selected.ensures.spends
 
 pub returns-in_err-elsewhere-clause-spends : goal.returns-in_err-elsewhere-clause-spends
-returns-in_err-elsewhere-clause-spends g c = Spends-then c.args.engine.now.store c.selected.new.engine.store c.outside.new.engine.store 1 1 4 c.selected.ensures.work.keeps.engine.grows.levels (omega arith) c.selected.ensures.spends c.outside.ensures.spends
+returns-in_err-elsewhere-clause-spends g c = Spends-then c.args.engine.now.store c.selected.new.engine.store c.outside.new.engine.store 1 1 4 c.selected.ensures.call.keeps.engine.grows.levels (omega arith) c.selected.ensures.spends c.outside.ensures.spends
 
 pub returns-in_err-add-clause-spends : goal.returns-in_err-add-clause-spends
 returns-in_err-add-clause-spends g c =
     let s = c.args.engine.now.store in
     let a = c.selected.new.engine.store in
     let b = c.outside.new.engine.store in
-    let first = c.selected.ensures.work.keeps.engine.grows.levels in
-    Spends-then s b c.add.new.engine.store 2 1 4 (c.outside.ensures.work.keeps.engine.grows.levels ∙ first) (omega arith) (Spends-then s a b 1 1 2 first (omega arith) c.selected.ensures.spends c.outside.ensures.spends) c.add.ensures.spends
+    let first = c.selected.ensures.call.keeps.engine.grows.levels in
+    Spends-then s b c.add.new.engine.store 2 1 4 (c.outside.ensures.call.keeps.engine.grows.levels ∙ first) (omega arith) (Spends-then s a b 1 1 2 first (omega arith) c.selected.ensures.spends c.outside.ensures.spends) c.add.ensures.spends
 
 pub returns-in_err-add-2-clause-spends : goal.returns-in_err-add-2-clause-spends
 returns-in_err-add-2-clause-spends g c =
@@ -70,9 +70,9 @@ returns-in_err-add-2-clause-spends g c =
     let a = c.selected.new.engine.store in
     let b = c.outside.new.engine.store in
     let d = c.add.new.engine.store in
-    let first = c.selected.ensures.work.keeps.engine.grows.levels in
-    let second = c.outside.ensures.work.keeps.engine.grows.levels ∙ first in
-    Spends-then s d c.add-2.new.engine.store 3 1 4 (c.add.ensures.work.keeps.engine.grows.levels ∙ second) (omega arith)
+    let first = c.selected.ensures.call.keeps.engine.grows.levels in
+    let second = c.outside.ensures.call.keeps.engine.grows.levels ∙ first in
+    Spends-then s d c.add-2.new.engine.store 3 1 4 (c.add.ensures.call.keeps.engine.grows.levels ∙ second) (omega arith)
     (Spends-then s b d 2 1 3 second (omega arith) (Spends-then s a b 1 1 2 first (omega arith) c.selected.ensures.spends c.outside.ensures.spends) c.add.ensures.spends) c.add-2.ensures.spends
 
 pub returns-clause-spends : goal.returns-clause-spends
@@ -81,7 +81,7 @@ returns-clause-spends g c =
     let a = c.selected.new.engine.store in
     let b = c.outside.new.engine.store in
     let d = c.add.new.engine.store in
-    let first = c.selected.ensures.work.keeps.engine.grows.levels in
-    let second = c.outside.ensures.work.keeps.engine.grows.levels ∙ first in
-    Spends-then s d c.add-2.new.engine.store 3 1 4 (c.add.ensures.work.keeps.engine.grows.levels ∙ second) (omega arith)
+    let first = c.selected.ensures.call.keeps.engine.grows.levels in
+    let second = c.outside.ensures.call.keeps.engine.grows.levels ∙ first in
+    Spends-then s d c.add-2.new.engine.store 3 1 4 (c.add.ensures.call.keeps.engine.grows.levels ∙ second) (omega arith)
     (Spends-then s b d 2 1 3 second (omega arith) (Spends-then s a b 1 1 2 first (omega arith) c.selected.ensures.spends c.outside.ensures.spends) c.add.ensures.spends) c.add-2.ensures.spends
