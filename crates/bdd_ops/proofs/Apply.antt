@@ -13,6 +13,7 @@ use Rattle.bdd_ops.specs.declared.operation.Operation.{Operation}
 use Rattle.bdd_ops.specs.declared.operation.Operation.TheVariants.{Not, And, Or, Iff, Ite}
 use Rattle.bdd_ops.specs.Operation.{IsOpen, combine, operation_of, highest_of, weight_of, top_of, with_operands, part_of, SomeOperand}
 use Rattle.bdd_ops.specs.Result as store
+use Rattle.bdd_ops.specs.Kept.{IsRegion}
 use Rattle.bdd_ops.proofs.Parts.{part_of-le, part_of-less, part_of-deeper, highest_of-with, top_of-with, weight_of-with, top_of-bound, top_of-inside, top_of-grows, operation_of-grows}
 use Rattle.bdd_ops.proofs.Results.{IsResult-made}
 
@@ -124,11 +125,14 @@ false-stays s level low high r node e = by (cases_eq low high)
     by (inl same) = let f = node.equal same in (omega arith, omega arith)
     by (inr other) = absurd (omega (arith, (node_of-has s.nodes.keys r _ (node.node other)).1))
 
--- the answer's value, by the operands' values before the call
-pub value-before : {E : Type 0} (old new : Store) → Grows old new → (k : Operation) → store.HasOperands old k → (r : Result ℕ E) → IfOk r (store.IsResult new k)
-    → IfOk r (λ x. (bits : List Bool) → value_of new.nodes.keys x bits ≡ operation_of old.nodes.keys k bits)
-value-before old new g k operands (Ok x) h = λ bits. h.value bits ∙ operation_of-grows old.levels old.nodes.keys new.nodes.keys old.good g.triples k operands bits
-value-before old new g k operands (Err e) h = tt
+-- the answer, by the operands' values before the call
+pub region-before : {E : Type 0} (old new : Store) → Grows old new → (k : Operation) → store.HasOperands old k → (r : Result ℕ E) → IfOk r (store.IsResult new k)
+    → IfOk r (λ x. IsRegion new x (λ bits. operation_of old.nodes.keys k bits))
+region-before old new g k operands (Ok x) h = record {
+  has = h.has;
+  value = λ bits. h.value bits ∙ operation_of-grows old.levels old.nodes.keys new.nodes.keys old.good g.triples k operands bits;
+}
+region-before old new g k operands (Err e) h = tt
 
 -- the bound by all levels
 pub count-whole : (levels top before after : ℕ) → after + 1 ≤ before + 2 ^ (levels - top) → after ≤ before + 2 ^ levels

@@ -1,5 +1,5 @@
 -- Lemmas on the exchange of neighbouring levels.
-use Rattle.std.proofs.Common.{◌≡◌, ◌≢◌, ℕ, ◌+◌, ◌-◌, ◌*◌, ◌%◌, ◌^◌, ◌<◌, ◌≤◌, inl, inr, Bool, true, false, cond, if◌then◌else◌, List, Some, length, slice_index_or, sym, ap, subst, ◌∙◌, arith}
+use Rattle.std.proofs.Common.{◌≡◌, ◌≢◌, ℕ, ◌+◌, ◌-◌, ◌*◌, ◌%◌, ◌^◌, ◌<◌, ◌≤◌, inl, inr, Bool, true, false, cond, if◌then◌else◌, List, Some, length, slice_index_or, Result, Ok, Err, IfOk, sym, ap, subst, ◌∙◌, arith}
 use Rattle.bdd_nodes.specs.declared.triple.Triple.{Triple}
 use Rattle.bdd_nodes.specs.declared.store.Store.{Store}
 use Rattle.bdd_nodes.specs.Table.{IsGoodNode}
@@ -8,6 +8,7 @@ use Rattle.bdd_nodes.proofs.Tables.{node_of-has}
 use Rattle.bdd_nodes.proofs.Canonical.{level_of-node}
 use Rattle.bdd_ops.specs.declared.key.Key.TheVariants.{Rename}
 use Rattle.bdd_ops.specs.Answer.{with_bit, exchanged, IsAnswer}
+use Rattle.bdd_ops.specs.Kept.{IsRegion}
 use Rattle.bdd_ops.specs.Independence.{DependsOnParity, DependsOnMoved}
 use Rattle.bdd_quantify.specs.Exchange.{neighbour_of}
 use Rattle.bdd_quantify.proofs.Counts.{half}
@@ -152,3 +153,8 @@ both-within s new g even f t a after h i =
     let one = half s.levels (level_of s f) (level_of s t.low) (omega (arith, level.0, (child s even f t a false).deeper)) level.1 in
     let two = half s.levels (level_of s f) (level_of s t.high) (omega (arith, level.0, high.deeper)) level.1 in
     omega (arith, h, i, same, one, two)
+
+-- the answer of the recursion, by the diagram before the call
+pub renamed_region : {E : Type 0} (old new : Store) → Grows old new → (lists : List (List ℕ)) (f : ℕ) (even : Bool) → Has old f → (r : Result ℕ E) → IfOk r (IsAnswer new lists (Rename f even)) → IfOk r (λ x. IsRegion new x (λ bits. value_of old f (exchanged bits)))
+renamed_region old new g lists f even there (Ok x) h = record { has = h.has; value = λ bits. h.value bits ∙ g.value f there (exchanged bits) }
+renamed_region old new g lists f even there (Err e) h = tt

@@ -4,10 +4,11 @@ use Rattle.bdd_nodes.specs.declared.store.Store.{Store}
 use Rattle.bdd_nodes.specs.Store.{triples, levels_of, Has, level_of, value_of, Grows, IsNodeOf}
 use Rattle.bdd_ops.specs.Answer.{list_at, some_choice}
 use Rattle.bdd_ops.specs.declared.operand.Cofactors.{Cofactors}
+use Rattle.bdd_ops.specs.Kept.{IsRegion}
 use Rattle.bdd_quantify.specs.Product.{IsProduct, IsEntry}
 use Rattle.bdd_ops.proofs.Choices.{IsAway, Rises}
 use Rattle.bdd_quantify.proofs.Counts.{count-one, count-low, count-both}
-use Rattle.bdd_quantify.proofs.Products.{IsProduct-past, IsProduct-grows, AreSides, AreSides-grows, sides-inside, sides-low, sides-high, IsProduct-union, IsProduct-node, exists-before}
+use Rattle.bdd_quantify.proofs.Products.{IsProduct-past, IsProduct-grows, AreSides, AreSides-grows, sides-inside, sides-low, sides-high, IsProduct-union, IsProduct-node, product-before, exists-before}
 
 -- the list stands at the place
 abbrev pub HasList : Option ℕ → List ℕ → List (List ℕ) → Type 0
@@ -32,9 +33,9 @@ entry s lists ls f g r (Some p) e h = record {
 
 -- the conjunction, where no named level is left
 pub past_result : {E : Type 0} (old new : Store) → Grows old new → (ls : List ℕ) (f g level : ℕ) → Has old f → Has old g → level ≡ min (level_of old f) (level_of old g) → ((k : ℕ) → k < length ls → slice_index_or ls k 0 < level)
-    → (r : Result ℕ E) → IfOk r (λ x. (bits : List Bool) → value_of new x bits ≡ (value_of old f bits && value_of old g bits)) → IfOk r (Has new) → IfOk r (IsProduct new ls f g)
-past_result old new w ls f g level hf hg top past (Ok r) value has = IsProduct-past old new w ls f g level r hf hg top past has value
-past_result old new w ls f g level hf hg top past (Err e) value has = tt
+    → (r : Result ℕ E) → IfOk r (λ x. IsRegion new x (λ bits. value_of old f bits && value_of old g bits)) → IfOk r (IsProduct new ls f g)
+past_result old new w ls f g level hf hg top past (Ok r) h = IsProduct-past old new w ls f g level r hf hg top past h.has h.value
+past_result old new w ls f g level hf hg top past (Err e) h = tt
 
 -- what joins both sides is the product
 pub joined : (old new : Store) → Grows old new → (f g : ℕ) (n : Cofactors) → AreSides old f g n → (ls : List ℕ) → Rises ls → (low high r : ℕ) → IsProduct old ls n.low.0 n.low.1 low → IsProduct old ls n.high.0 n.high.1 high → Has new r
@@ -75,9 +76,13 @@ module _ (s : Store) (f g : ℕ) (n : Cofactors) (a : AreSides s f g n) where
       count-both (levels_of s) (min (level_of s f) (level_of s g)) (min (level_of s n.low.0) (level_of s n.low.1)) top (length (triples s)) between after last
       low-under (omega (arith, a.top, high.deep_x, high.deep_y)) inside h i1 j
 
-pub exists_result : {E : Type 0} (old new : Store) → Grows old new → (ls : List ℕ) (f : ℕ) → Has old f → (r : Result ℕ E) → IfOk r (IsProduct new ls f 1) → IfOk r (λ x. (bits : List Bool) → value_of new x bits ≡ some_choice (value_of old f) ls bits)
-exists_result old new w ls f hf (Ok r) h = exists-before old new w ls f r hf h
-exists_result old new w ls f hf (Err e) h = tt
+pub exists_region : {E : Type 0} (old new : Store) → Grows old new → (ls : List ℕ) (f : ℕ) → Has old f → (r : Result ℕ E) → IfOk r (IsProduct new ls f 1) → IfOk r (λ x. IsRegion new x (λ bits. some_choice (value_of old f) ls bits))
+exists_region old new w ls f hf (Ok r) h = record { has = h.has; value = exists-before old new w ls f r hf h }
+exists_region old new w ls f hf (Err e) h = tt
+
+pub product_region : {E : Type 0} (old new : Store) → Grows old new → (ls : List ℕ) (f g : ℕ) → Has old f → Has old g → (r : Result ℕ E) → IfOk r (IsProduct new ls f g) → IfOk r (λ x. IsRegion new x (λ bits. some_choice (λ bs. value_of old f bs && value_of old g bs) ls bits))
+product_region old new w ls f g hf hg (Ok r) h = record { has = h.has; value = product-before old new w ls f g r hf hg h }
+product_region old new w ls f g hf hg (Err e) h = tt
 
 -- a count that stays or rises to at most its last value never falls
 pub never_falls : (b : Bool) (old new last : ℕ) → new ≡ (if b then old else min (old + 1) last) → old ≤ last → old ≤ new
