@@ -1,9 +1,9 @@
 -- What an entry is asked, read off the claims of a formula's nodes.
-use Rattle.std.proofs.Common.{◌≡◌, Result, Ok, Err, inl, inr, ℕ, ◌+◌, ◌-◌, ◌<◌, ◌≤◌, Bool, true, false, List, [], ◌∷◌, length, get_or, Option, Some, None, refl, sym, ◌∙◌, ap, subst, arith}
+use Rattle.std.proofs.Common.{◌≡◌, Result, ℕ, ◌-◌, ◌<◌, ◌≤◌, Bool, true, false, List, length, get_or, Option, sym, ◌∙◌, ap, subst, arith}
 use Rattle.std.specs.Prelude.{IfOk}
 use Rattle.kripke_model.specs.declared.expressions.PathOp.{PathOp}
 use Rattle.kripke_model.specs.Ctl.{Ctl}
-use Rattle.kripke_model.specs.Signs.{node_count, rule_of, until_rule}
+use Rattle.kripke_model.specs.Signs.{node_count, rule_of}
 use Rattle.kripke_model.specs.System.{System}
 use Rattle.path_laws.specs.StateSet.{StateSet}
 use Rattle.region_sets.specs.declared.pins.Pin.{Pin}
@@ -23,9 +23,9 @@ use Rattle.proof_lines.specs.declared.frames.Frame.{Frame}
 use Rattle.claim_sets.specs.Claimed.{AreClaims, ClaimView, IsClaim, asked_by, claims_of, claims_slots, demand_in, side_of, signed, view_at}
 use Rattle.claim_sets.specs.ConstraintClaims.{constraint_list}
 use Rattle.proof_lines.specs.Frames.{IsFrame, IsFrameOf, absent_pin}
-use Rattle.claim_sets.specs.Claimed.{AreBefore, AsksBefore}
+use Rattle.claim_sets.specs.Claimed.{AreBefore}
 use Rattle.proof_lines.specs.Tested.{AreTested}
-use Rattle.claim_sets.proofs.ClaimLists.{claims_before, claims_length, demand_is}
+use Rattle.claim_sets.proofs.ClaimLists.{claims_before, demand_is}
 use Rattle.claim_sets.proofs.ClaimPins.{claim_live, if_ok, side_live}
 use Rattle.proof_lines.proofs.Counting.{none_tested}
 use Rattle.proof_lines.proofs.Framed.{absent_same}

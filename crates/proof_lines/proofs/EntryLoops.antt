@@ -1,6 +1,6 @@
 -- Entries whose lines are tested in turn.
-use Rattle.std.proofs.Common.{◌≡◌, Result, Ok, Err, ℕ, zero, suc, ◌+◌, ◌-◌, ◌<◌, ◌≤◌, Bool, true, false, List, [], ◌∷◌, ◌++◌, length, map, get_or, drop, Some, refl, sym, ◌∙◌, ap, subst, arith}
-use Rattle.std.specs.Prelude.{IfOk, Option, option_map, slice_get}
+use Rattle.std.proofs.Common.{◌≡◌, Result, Ok, ℕ, zero, suc, ◌+◌, ◌-◌, ◌<◌, ◌≤◌, Bool, true, false, List, [], ◌∷◌, ◌++◌, length, map, get_or, drop, Some, refl, sym, ◌∙◌, ap, subst, arith}
+use Rattle.std.specs.Prelude.{IfOk, option_map}
 use Rattle.std.specs.Option.{option_and_then}
 use Rattle.std.specs.Global.{Vec}
 use Rattle.kripke_model.specs.Ctl.{Ctl, formula_of}
@@ -23,7 +23,6 @@ use Rattle.proof_form.specs.Form.{Entry, FreeEntry, FreePart, entries_sets, map_
 use Rattle.proof_form.specs.Meaning.{entry_of, free_avoided, free_demand, free_entry_lines, free_proof, free_visited, listed_of}
 use Rattle.proof_form.specs.Shape.{constraint_formula}
 use Rattle.claim_sets.specs.declared.claims.Claim.{Claim}
-use Rattle.claim_sets.specs.declared.constraint_pins.Constraints.{Constraints}
 use Rattle.claim_sets.specs.declared.constraint_pins.Constraints.TheVariants as constraints
 use Rattle.proof_lines.specs.declared.frames.Frame.{Frame}
 use Rattle.claim_sets.specs.Claimed.{AreClaims, claims_of, claims_slots}

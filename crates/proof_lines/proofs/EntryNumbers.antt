@@ -1,5 +1,5 @@
 -- Entries in shape name nodes of their formulas.
-use Rattle.std.proofs.Common.{◌≡◌, ◌⊎◌, inl, inr, ℕ, zero, suc, ◌+◌, ◌-◌, ◌<◌, ◌≤◌, Bool, true, false, ◌==◌, List, [], ◌∷◌, length, get_or, Option, Some, None, refl, sym, ◌∙◌, ap, subst, arith}
+use Rattle.std.proofs.Common.{◌≡◌, ◌⊎◌, inl, inr, ℕ, zero, suc, ◌-◌, ◌<◌, ◌≤◌, Bool, true, false, ◌==◌, List, [], ◌∷◌, length, get_or, Option, Some, None, refl, sym, ◌∙◌, ap, subst, arith}
 use Rattle.std.specs.Prelude.{All, IsSomeAnd, if◌then◌else◌, option_map, slice_get}
 use Rattle.std.specs.Option.{option_and_then}
 use Rattle.std.specs.Global.{Vec}
@@ -11,7 +11,6 @@ use Rattle.kripke_model.specs.System.{System, Condition}
 use Rattle.kripke_model.specs.Term.{Term}
 use Rattle.region_sets.specs.Sets.{Sets}
 use Rattle.fair_rules.specs.Claims as claims
-use Rattle.fair_rules.specs.Nodes.{node_at}
 use Rattle.fair_rules.proofs.LeafSets.{formula_is_leaf}
 use Rattle.proof_form.specs.Form.{Entry, FreeEntry}
 use Rattle.proof_form.specs.Shape.{HasConstraintRule, HasRule, constraint_formula, kind_of, rule_for}

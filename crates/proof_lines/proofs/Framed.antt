@@ -1,7 +1,6 @@
 -- What the lines of entries are tested with, later, and the sets of arguments that aren't there.
-use Rattle.std.proofs.Common.{◌≡◌, ℕ, ◌+◌, ◌<◌, true, List, [], ◌∷◌, length, get_or, refl, sym, ◌∙◌, ap, subst, arith}
+use Rattle.std.proofs.Common.{◌≡◌, ℕ, true, List, [], ◌∷◌, get_or, refl, sym, ◌∙◌, ap, subst}
 use Rattle.std.specs.Global.{Vec}
-use Rattle.kripke_model.specs.Ctl.{Ctl}
 use Rattle.kripke_model.specs.Signs.{ProofRule}
 use Rattle.kripke_model.specs.Step.{IsState}
 use Rattle.kripke_model.specs.System.{System, Condition}

@@ -9,7 +9,6 @@ use Rattle.region_sets.specs.Sets.{Sets, IsLive, In, region}
 use Rattle.fair_rules.specs.Claims as claims
 use Rattle.fair_rules.specs.Claims.{join_layers}
 use Rattle.fair_rules.specs.SetLists.{nothing}
-use Rattle.claim_sets.specs.declared.claims.Asks.{Asks}
 use Rattle.claim_sets.specs.declared.claims.Asks.TheVariants as asks
 use Rattle.proof_lines.specs.declared.frames.Frame.{Frame}
 use Rattle.claim_sets.specs.ConstraintClaims.{IsGiven, constraint_list}

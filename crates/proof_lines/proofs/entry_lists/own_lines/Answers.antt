@@ -1,4 +1,4 @@
-use Rattle.std.proofs.Common.{ap, ◌+◌, ◌≤◌, arith, sym, subst}
+use Rattle.std.proofs.Common.{ap, arith, sym, subst}
 use Rattle.region_sets.specs.Ranks.{AreLive, slots}
 use Rattle.region_sets.proofs.Changes.{stays_live}
 use Rattle.proof_form.specs.Form.{rule_sets}

@@ -1,4 +1,4 @@
-use Rattle.std.proofs.Common.{length, ◌+◌, ◌≤◌, true, false, [], get_or, sym, ◌∙◌, ap, subst, arith}
+use Rattle.std.proofs.Common.{length, true, false, [], get_or, sym, ◌∙◌, ap, subst, arith}
 use Rattle.fair_rules.specs.SetLists.{set_at}
 use Rattle.region_sets.specs.Sets.{region}
 use Rattle.region_sets.specs.Ranks.{AreLive, list_regions, regions, slots}
