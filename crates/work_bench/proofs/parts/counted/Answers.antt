@@ -1,7 +1,7 @@
 use Rattle.std.proofs.Common.{◌∙◌, sym, subst}
 use Rattle.kripke_model.specs.Reading.{term_of}
 use Rattle.kripke_model.specs.System.{System}
-use Rattle.trans_parts.specs.Leaves.{IsLeafOrConstant}
+use Rattle.item_parts.specs.Leaves.{IsLeafOrConstant}
 use Rattle.work_bench.proofs.parts.counted.Goals as goal
 
 pub preimage-requires : goal.preimage-requires
