@@ -4,7 +4,7 @@ use Rattle.std.specs.Option.{option_map_or}
 use Rattle.std.proofs.lemmas.Option.{none-some}
 use Rattle.bdd_nodes.specs.declared.triple.Triple.{Triple}
 use Rattle.bdd_nodes.specs.declared.store.Store.{Store}
-use Rattle.bdd_nodes.specs.Store.{Grows}
+use Rattle.bdd_nodes.specs.Store.{makes_of, Grows}
 use Rattle.bdd_nodes.specs.Table.{node_of, level_of, Has, child_of, next_of, walk, value_of, IsGoodNode, IsGood, IsGrowth}
 
 -- the triple at a place
@@ -234,10 +234,11 @@ value_of-end table bits (suc zero) has e = value_of-true table bits
 value_of-end table bits (suc (suc i)) has e = absurd (none-some (node_of-some table (suc (suc i)) has (omega arith)).0 (sym e ∙ (node_of-some table (suc (suc i)) has (omega arith)).1))
 
 -- growth of the table alone is growth of the store
-pub Grows-table : (old new : Store) → new.levels ≡ old.levels → new.limit ≡ old.limit → IsGrowth old.nodes.keys new.nodes.keys → Grows old new
-Grows-table old new levels limit g = record {
+pub Grows-table : (old new : Store) → new.levels ≡ old.levels → new.limit ≡ old.limit → makes_of old ≤ makes_of new → IsGrowth old.nodes.keys new.nodes.keys → Grows old new
+Grows-table old new levels limit makes g = record {
   levels = levels;
   limit = limit;
+  makes = makes;
   triples = g;
   has = Has-grows old.nodes.keys new.nodes.keys g;
   node = node_of-grows old.nodes.keys new.nodes.keys g;
@@ -246,8 +247,8 @@ Grows-table old new levels limit g = record {
 }
 
 pub Grows-same : (s : Store) → Grows s s
-Grows-same s = Grows-table s s refl refl (IsGrowth-same s.nodes.keys)
+Grows-same s = Grows-table s s refl refl (omega arith) (IsGrowth-same s.nodes.keys)
 
 -- growth in turn
 pub Grows-then : (a b c : Store) → Grows a b → Grows b c → Grows a c
-Grows-then a b c g h = Grows-table a c (h.levels ∙ g.levels) (h.limit ∙ g.limit) (IsGrowth-then a.nodes.keys b.nodes.keys c.nodes.keys g.triples h.triples)
+Grows-then a b c g h = Grows-table a c (h.levels ∙ g.levels) (h.limit ∙ g.limit) (omega (arith, g.makes, h.makes)) (IsGrowth-then a.nodes.keys b.nodes.keys c.nodes.keys g.triples h.triples)

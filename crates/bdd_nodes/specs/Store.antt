@@ -1,9 +1,10 @@
 -- What contracts see of a store.
-use Rattle.std.specs.Prelude.{◌≡◌, ◌≢◌, ℕ, Bool, List, length, Option, Some}
+use Rattle.std.specs.Prelude.{◌≡◌, ◌≢◌, ℕ, ◌≤◌, Bool, List, length, Option, Some}
 use Rattle.bdd_nodes.specs.declared.triple.Triple.{Triple}
 use Rattle.bdd_nodes.specs.declared.store.Store.{Store}
 use Rattle.bdd_nodes.specs.Table as table
 use Rattle.bdd_nodes.specs.Size as size
+use Rattle.bdd_nodes.specs.Makes.{number_of}
 
 -- the number of levels
 abbrev pub levels_of : Store → ℕ
@@ -16,6 +17,10 @@ limit_of s = s.limit
 -- the triples, in the order of their numbers
 abbrev pub triples : Store → List Triple
 triples s = s.nodes.keys
+
+-- how often `make` was called on the store
+abbrev pub makes_of : Store → ℕ
+makes_of s = number_of s.makes
 
 -- the store has the number
 abbrev pub Has : Store → ℕ → Type 0
@@ -45,10 +50,11 @@ triple level low high = record { level = level; low = low; high = high }
 abbrev pub IsAbsent : Store → ℕ → ℕ → ℕ → Type 0
 IsAbsent s level low high = (r : ℕ) → node_of s r ≢ Some (triple level low high)
 
--- nothing but new triples at the end, so that each earlier number keeps its triple, its level and its meaning
+-- nothing but new triples at the end, so that each earlier number keeps its triple, its level and its meaning, and no call of `make` is forgotten
 pub record Grows (old new : Store) : Type 0 where
   pub levels : levels_of new ≡ levels_of old
   pub limit : limit_of new ≡ limit_of old
+  pub makes : makes_of old ≤ makes_of new
   pub triples : table.IsGrowth (triples old) (triples new)
   pub has : (r : ℕ) → Has old r → Has new r
   pub node : (r : ℕ) → Has old r → node_of new r ≡ node_of old r

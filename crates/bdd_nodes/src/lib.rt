@@ -3,6 +3,7 @@
 #![tactic(auto)]
 
 pub mod laws;
+mod makes;
 mod reference;
 mod refusal;
 mod steps;

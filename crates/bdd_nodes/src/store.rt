@@ -1,6 +1,7 @@
 ghost use Rattle.std.specs.Prelude.{◌≡◌, ◌≢◌, ℕ, ◌+◌, ◌<◌, ◌≤◌, ◌^◌, ◌↔◌, ◌∷◌, ◌++◌, length, IsTrue, IsNone, IfOk, IfErr, OnOk, OnErr};
 ghost use Rattle.bdd_nodes.specs.Table.{IsGood};
 
+use crate::makes::Makes;
 use crate::{Held, Ref, StoreRefusal, Triple};
 use indexmap::IndexSet;
 use std::alloc::{AllocError, Global};
@@ -11,6 +12,7 @@ pub struct Store {
     levels: u32,
     limit: u32,
     nodes: IndexSet<Triple>,
+    makes: Makes,
     pub ghost few_levels: { levels ≤ 256 },
     pub ghost low_limit: { limit < 2 ^ 31 },
     pub ghost within_limit: { length nodes.keys ≤ limit },
@@ -19,7 +21,7 @@ pub struct Store {
 }
 
 impl Store {
-    ghost use Rattle.bdd_nodes.specs.Store.{levels_of, limit_of, triples, Has, level_of, node_of, value_of, triple, IsAbsent, Grows, IsNodeOf, IsFullFor};
+    ghost use Rattle.bdd_nodes.specs.Store.{levels_of, limit_of, triples, makes_of, Has, level_of, node_of, value_of, triple, IsAbsent, Grows, IsNodeOf, IsFullFor};
     ghost use Rattle.bdd_nodes.specs.Refusal.{IsFull, IsRefusalOf};
     ghost use Rattle.std.specs.Prelude.{[]};
 
@@ -31,6 +33,7 @@ impl Store {
         ensures levels { IfOk result (λ s. levels_of s ≡ levels) }
         ensures limit { IfOk result (λ s. limit_of s ≡ limit) }
         ensures empty { IfOk result (λ s. triples s ≡ []) }
+        ensures makes { IfOk result (λ s. makes_of s ≡ 0) }
     {
         Store::with_room(alloc, levels, limit, 0)
     }
@@ -42,11 +45,13 @@ impl Store {
         ensures levels { IfOk result (λ s. levels_of s ≡ levels) }
         ensures limit { IfOk result (λ s. limit_of s ≡ limit) }
         ensures empty { IfOk result (λ s. triples s ≡ []) }
+        ensures makes { IfOk result (λ s. makes_of s ≡ 0) }
     {
         Ok(Store {
             levels,
             limit,
             nodes: IndexSet::with_capacity(alloc, room as usize)?,
+            makes: Makes::none(),
         })
     }
 
@@ -117,7 +122,8 @@ impl Store {
     /// The diagram that is `high` where the level's bit is set and else `low`; both lie at deeper
     /// levels or are constants. Equal children give that child, and a triple that is there gives
     /// its diagram. `Full` comes where a new triple is wanted and the table holds `limit` triples,
-    /// and `Memory` where it finds no memory; both leave the table as it was.
+    /// and `Memory` where it finds no memory; both leave the table as it was. Each call is counted,
+    /// whatever comes of it, and no other call is: the count is there for contracts alone.
     pub fn make(&mut self, level: u32, low: Ref, high: Ref) -> Result<Ref, StoreRefusal>
         requires level { level < levels_of self.old }
         requires low { Has self.old low }
@@ -139,7 +145,9 @@ impl Store {
         ensures err { OnErr result (triples self.new ≡ triples self.old) }
         ensures one_more { length (triples self.new) ≤ length (triples self.old) + 1 }
         ensures grows { Grows self.old self.new }
+        ensures makes { makes_of self.new ≡ makes_of self.old + 1 }
     {
+        self.makes.raise();
         if low == high {
             return Ok(low);
         }

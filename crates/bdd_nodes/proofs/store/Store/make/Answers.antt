@@ -6,8 +6,8 @@ use Rattle.bdd_nodes.proofs.Tables.{Grows-table}
 use Rattle.bdd_nodes.proofs.Inserts.{IsGood-insert_answer, IsGrowth-insert, IsNodeOf-at, absent-node, same_by_fields, found-node, stored-node, insert-there, insert-absent, never-equal}
 use Rattle.bdd_nodes.proofs.store.Store.make.Goals as goal
 
-pub invariant_of-self-clause-good : goal.invariant_of-self-clause-good
-invariant_of-self-clause-good c =
+pub invariant_of-self-then-len-self-clause-good : goal.invariant_of-self-then-len-self-clause-good
+invariant_of-self-then-len-self-clause-good c =
     let t : Triple = c.decision-triple.result in
     let f = c.if-eq.false in
     let q = c.requires in
@@ -99,7 +99,7 @@ returns-in-Ok-clause-added c =
 
 pub returns-in-Ok-clause-grows : goal.returns-in-Ok-clause-grows
 returns-in-Ok-clause-grows c =
-    Grows-table c.args.self.now _ refl refl (subst (IsGrowth c.args.self.now.nodes.keys) (sym c.in-Ok.ensures.keys) (IsGrowth-insert c.args.self.now.nodes.keys c.decision-triple.result))
+    Grows-table c.args.self.now _ refl refl (omega (arith, c.raise.ensures)) (subst (IsGrowth c.args.self.now.nodes.keys) (sym c.in-Ok.ensures.keys) (IsGrowth-insert c.args.self.now.nodes.keys c.decision-triple.result))
 
 pub returns-in-Some-clause-there : goal.returns-in-Some-clause-there
 returns-in-Some-clause-there c =
