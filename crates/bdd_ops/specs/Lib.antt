@@ -9,3 +9,4 @@ pub mod Engine
 pub mod Kept
 pub mod Noted
 pub mod Calls
+pub mod Makes

@@ -14,3 +14,9 @@ pub returns-clause-cost : goal.returns-clause-cost
 returns-clause-cost g c = λ same last room.
     let s = c.args.self.now.store in
     steps-and s.levels s.nodes.keys s.good c.args.f c.args.g c.args.self.now.memo.cap c.requires.f c.requires.g _ _ room (c.operate.ensures.cost same last)
+
+pub returns-clause-makes : goal.returns-clause-makes
+returns-clause-makes g c = λ same last room.
+    let s = c.args.self.now.store in
+    let steps = steps-and s.levels s.nodes.keys s.good c.args.f c.args.g c.args.self.now.memo.cap c.requires.f c.requires.g _ _ room (c.operate.ensures.cost same last) in
+    omega (arith, steps, c.operate.ensures.makes)
