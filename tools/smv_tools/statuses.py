@@ -13,6 +13,8 @@ PROOF_REFUSED = 7
 NOTHING = 70
 # The check has to be run as one.
 AS_ONE = 75
+# The words are none of the tools' commands.
+NO_COMMAND = 127
 
 DECIDED = (CLEAR, FAILED, UNDECIDED)
 # Of these the program's answer is one line, and no report.

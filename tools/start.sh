@@ -1,0 +1,139 @@
+# What ./smv does with its words. To be sourced, with `here`, the folder of ./smv, and `tools`, that of these files.
+# Where it is installed the program stands beside ./smv; in the repository it is a build of the sources (builds.sh).
+
+NO_PROGRAM=70
+OUTPUT_FAILED=4
+USAGE=5
+AS_ONE=75
+NO_COMMAND=127
+
+if [ -f "$tools/builds.sh" ]; then
+  . "$tools/builds.sh"
+  . "$tools/tried.sh"
+fi
+. "$tools/running.sh"
+. "$tools/checking.sh"
+
+tell() {
+  echo "smv: $1" >&2
+}
+
+stop() {
+  tell "$1"
+  exit "$NO_PROGRAM"
+}
+
+# The interpreter for the tools: Debian's, since its libraries are there, or else the one of the path.
+# tool WORD..: runs a module of the tools; NO_COMMAND where there is no Python.
+tool() {
+  local python=${SMV_PYTHON:-/usr/bin/python3}
+  command -v "$python" >/dev/null || python=python3
+  command -v "$python" >/dev/null || return "$NO_COMMAND"
+  SMV_PROGRAM=${built-} SMV_BUILD=${name-} PYTHONPATH=$tools${PYTHONPATH:+:$PYTHONPATH} PYTHONDONTWRITEBYTECODE=${installed:+1} \
+    "$python" -P -m "$@"
+}
+
+# find_program: sets `built`, the program's path, and `name`, its build's; `name` is empty where only `rt try` can run it.
+find_program() {
+  installed=
+  if [ ! -f "$tools/builds.sh" ]; then
+    installed=yes
+    built=$here/smv_run
+    name=$(sed -n 's/^build //p' "$tools/version" 2>/dev/null)
+    [ -x "$built" ] || stop "there is no program $built"
+    return
+  fi
+  name=$(standing_build)
+  if [ -z "$name" ]; then
+    command -v rt >/dev/null || stop "rt, the command of the Rattle toolchain, isn't on the path, and no build stands"
+    "$tools/build-unproved"
+    [ $? -ne 1 ] || exit "$NO_PROGRAM"
+    name=$(standing_build)
+  fi
+  built=$out/$name
+}
+
+# Whether the build is proved, on standard error: once for each build, and not with SMV_QUIET.
+tell_build() {
+  local told=$out/.told-$name
+  [ -z "${SMV_QUIET-}" ] && [ -z "$installed" ] || return 0
+  if [ -z "$name" ]; then
+    tell "this program is not proved, and is slow: rt try builds and runs it"
+  elif [ ! -e "$told" ]; then
+    rm -f "$out"/.told-* && : >"$told"
+    case $name in
+      proved-*) tell "this build is proved" ;;
+      *) tell "this build is not proved (./smv --proved .. proves it first)" ;;
+    esac
+  fi
+}
+
+# The version, the commit, and whether the build is proved.
+version() {
+  local proved="not proved"
+  if [ -f "$tools/version" ]; then
+    sed '/^build /d' "$tools/version"
+  else
+    echo "smv $(cat "$tools/VERSION")"
+    echo "commit $(git -C "$here" describe --always --dirty --abbrev=12 2>/dev/null || echo unknown)"
+  fi
+  case $name in proved-*) proved=proved ;; esac
+  echo "program ${name:-none}, $proved"
+}
+
+# Whether a word asks for the help of the command.
+asks_help() {
+  local word
+  for word in "$@"; do
+    case $word in
+      --) return 1 ;;
+      --help | -h) return 0 ;;
+    esac
+  done
+  return 1
+}
+
+# show_help [WORD]: the help, or the program's usage where there is no Python.
+show_help() {
+  local status
+  installed=
+  tool smv_tools help ${1+"$1"}
+  status=$?
+  [ "$status" -eq "$NO_COMMAND" ] || exit "$status"
+  tell "help needs python3, so here is the usage of the program alone"
+  find_program
+  "$built"
+  exit 0
+}
+
+# run_tool WORD..: runs a command of the tools, and ends; comes back where they have no such command.
+run_tool() {
+  local status
+  tool smv_tools "$@"
+  status=$?
+  [ "$status" -eq "$NO_COMMAND" ] || exit "$status"
+}
+
+main() {
+  local status
+  case ${1-} in
+    help) show_help "${@:2:1}" ;;
+    --help | -h) show_help ;;
+    check | recheck | replay | delay | strong | gen) ! asks_help "${@:2}" || show_help "$1" ;;
+  esac
+  [ "${1-} ${2-}" != "--verbose --proved" ] || set -- --proved --verbose "${@:3}"
+  if [ "${1-}" = --proved ]; then
+    shift
+    [ -f "$tools/builds.sh" ] || stop "--proved proves the sources, and only the program is installed"
+    command -v rt >/dev/null || stop "rt, the command of the Rattle toolchain, isn't on the path"
+    "$tools/build-proved" || exit "$NO_PROGRAM"
+  fi
+  find_program
+  case ${1-} in
+    --version) version && exit 0 ;;
+    check | recheck | replay | delay | strong | gen | --verbose | "") ;;
+    *) [ -z "$name" ] || run_tool "$@" ;;
+  esac
+  tell_build
+  run_words "$@"
+}
