@@ -66,6 +66,38 @@ class Sections:
         text = f"VAR {name} : {{{', '.join(rest)}}};\nASSIGN {name} := {rest[0]};"
         return [text_section("VAR", text, node.line, node.first().before)]
 
+    def take_assign(self, node: Node) -> list[Node]:
+        """An array's elements that are assigned at once, one by one."""
+        parts = []
+        for part in node.parts:
+            spread = isinstance(part, Node) and part.kind == "assignment" and part.parts[2].kind == "elements"
+            parts += self.one_by_one(part) if spread else [part]
+        node.parts = parts
+        return [node]
+
+    def one_by_one(self, node: Node) -> list[Node]:
+        path = node.parts[0].nodes()[0]
+        found = self.scope.type_of(self.module, path)
+        ends = self.scope.bounds(*found) if found and found[1].word == "array" else None
+        values = node.parts[2].nodes()
+        if not ends or ends[1] - ends[0] + 1 != len(values):
+            return [node]
+        made = []
+        for number, value in zip(range(ends[0], ends[1] + 1), values):
+            other = copied(node)
+            inner = other.parts[0].nodes()[0]
+            inner.parts += [Token("sign", "[", node.line), Node("number", [Token("number", str(number), node.line)]),
+                            Token("sign", "]", node.line)]
+            other.parts[2] = copied(value)
+            other.parts[2].first().before = " "
+            other.first().before = node.first().before if not made else "\n  "
+            made.append(other)
+        self.changes.tell(node.line, f"`{plain(node)}` is {len(made)} assignments")
+        return [part for other in made for part in self.spread(other)]
+
+    def spread(self, node: Node) -> list[Node]:
+        return self.one_by_one(node) if node.parts[2].kind == "elements" else [node]
+
     # ---- specifications and constraints
 
     def take_spec(self, node: Node) -> list[Node]:

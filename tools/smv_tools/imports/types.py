@@ -76,10 +76,15 @@ class Types:
         if all(len(node.parts) == 1 for node in kind.nodes()):
             return []
         values = [value for node in kind.nodes() for value in element_values(node)]
-        if None in values:
-            self.keep(kind, "negative numbers and ranges beside names")
-            return []
         old, first, name = plain(kind), kind.first(), member.parts[0].text
+        if all(isinstance(value, str) or value is not None and value >= 0 for value in values):
+            text = f"{{{', '.join(map(str, values))}}}"
+            kind.parts, kind.word = [Token("text", text, first.line, first.before)], "enumeration, written"
+            self.changes.tell(first.line, f"`{old}` is `{text}`")
+            return []
+        if not all(isinstance(value, int) for value in values):
+            self.keep(kind, "negative numbers beside names")
+            return []
         low, high = min(values), max(values)
         kind.parts, kind.word = [Token("text", f"{low}..{high}", first.line, first.before)], "range, written"
         if len(set(values)) == high - low + 1:
@@ -145,11 +150,11 @@ def element(kind: Node) -> Node:
     return element(kind.parts[-1]) if kind.word == "array" else kind
 
 
-def element_values(node: Node) -> list[int | None]:
+def element_values(node: Node) -> list[int | str | None]:
     if node.kind == "span":
         low, high = element_values(node.parts[0])[0], element_values(node.parts[2])[0]
-        return list(range(low, high + 1)) if None not in (low, high) else [None]
+        return list(range(low, high + 1)) if isinstance(low, int) and isinstance(high, int) else [None]
     text = "".join(part.text for part in node.parts)
-    return [int(text) if text.lstrip("-").isdigit() else None]
+    return [int(text) if text.lstrip("-").isdigit() else text]
 
 
