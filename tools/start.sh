@@ -114,12 +114,19 @@ run_tool() {
   [ "$status" -eq "$NO_COMMAND" ] || exit "$status"
 }
 
+# run_script WORD..: runs the script of this name in place of this one.
+run_script() {
+  [ -n "$name" ] || stop "$1 needs a build of the program, and none could be made"
+  tell_build
+  exec "$tools/$1" "$built" "${@:2}"
+}
+
 main() {
   local status
   case ${1-} in
     help) show_help "${@:2:1}" ;;
     --help | -h) show_help ;;
-    check | recheck | replay | delay | strong | gen) ! asks_help "${@:2}" || show_help "$1" ;;
+    check | recheck | replay | delay | strong | gen | explain | trace) ! asks_help "${@:2}" || show_help "$1" ;;
   esac
   [ "${1-} ${2-}" != "--verbose --proved" ] || set -- --proved --verbose "${@:3}"
   if [ "${1-}" = --proved ]; then
@@ -132,6 +139,7 @@ main() {
   case ${1-} in
     --version) version && exit 0 ;;
     check | recheck | replay | delay | strong | gen | --verbose | "") ;;
+    explain | trace) run_script "$@" ;;
     *) [ -z "$name" ] || run_tool "$@" ;;
   esac
   tell_build

@@ -111,12 +111,10 @@ PROGRAM_COMMANDS = (
 
 TOOL_COMMANDS = (
     Command(
-        "explain", "check a model, and explain its refusal: the place, the rule, what to write", (MODEL,),
-        (NODES, Option("--one", "", "tell the first mistake alone")),
-        "Puts what `check` puts. Where the model is refused, the line follows with a caret below the token that is wrong, the "
-        "rule, and what to write instead; then the mistakes behind it, where the rest can be read once the first is mended. "
-        "An unknown verdict is explained too.",
-        "smv explain examples/refused/e8_unknown_name.smv", "explain",
+        "explain", "check a model, and explain its refusal: the line, the rule, what to write", (MODEL,), (NODES,),
+        "Puts what `check` puts. Where the model is refused, the line of the file follows, then the rule that it breaks and "
+        "what to write instead.",
+        "smv explain examples/refused/e8_unknown_name.smv", needs=(),
     ),
     Command(
         "trace", "show the path of a false specification as a table, a waveform or a picture",
@@ -125,7 +123,7 @@ TOOL_COMMANDS = (
          Option("--vcd", "OUT", "write a waveform for GTKWave and the like", "file"),
          Option("--svg", "OUT", "write a timing diagram", "file")),
         "J is the number of the specification; without it the first false one is shown.",
-        "smv trace examples/peterson.smv 3", "trace",
+        "smv trace examples/peterson.smv 3", needs=(),
     ),
     Command(
         "help", "all commands, or one of them", (Operand("WORD", "command", optional=True),), (),
