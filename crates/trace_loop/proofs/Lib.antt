@@ -9,6 +9,7 @@ pub mod Suffixes
 pub mod MemberPlaces
 pub mod Falsified
 pub mod Walks
+pub mod Leading
 pub mod Filled
 pub mod Descending
 pub mod Dues

@@ -6,3 +6,4 @@ pub mod Tours
 pub mod Descents
 pub mod Traces
 pub mod Places
+pub mod Above

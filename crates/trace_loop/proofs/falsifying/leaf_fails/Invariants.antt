@@ -1,0 +1,9 @@
+use Rattle.std.proofs.Common.{ℕ, ◌<◌, ◌≤◌}
+use Rattle.kripke_model.specs.Ctl.{Ctl}
+use Rattle.kripke_model.specs.Path.{at}
+use Rattle.kripke_model.specs.Reading.{term_of}
+use Rattle.trace_loop.specs.Above.{FalsifiesBelow}
+use Rattle.trace_loop.proofs.falsifying.leaf_fails.Given as goal
+
+abbrev pub invariant-loop-i : goal.invariant-loop-i
+invariant-loop-i l = (k : ℕ) → l.fn.starts.first ≤ k → k < l.i → FalsifiesBelow l.model (at l.lasso) l.above (Ctl.Leaf (term_of l.expr)) k → ⊥
