@@ -72,4 +72,5 @@ def main(words):
             print(f"{bits} bits: " + ", ".join(row), flush=True)
 
 
-main(sys.argv[1:])
+if __name__ == "__main__":
+    main(sys.argv[1:])
