@@ -3,6 +3,7 @@ pub mod Sinking
 pub mod Courses
 pub mod Legs
 pub mod Meeting
+pub mod Folding
 pub mod Closing
 pub mod Touring
 pub mod Suffixes

@@ -3,6 +3,7 @@ pub mod Trails
 pub mod Loops
 pub mod Rounds
 pub mod Tours
+pub mod Folds
 pub mod Descents
 pub mod Traces
 pub mod Places
