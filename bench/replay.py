@@ -4,7 +4,8 @@ each takes of the one before.
 
   bench/replay.py [LEAST MOST]    paths of 2^LEAST to 2^MOST states; 7 to 10 without words
 
-Where the cost is linear in the length of the path, each ratio is near 2; where it is quadratic, near 4. What a replay of the
+Where the cost is linear in the length of the path, each ratio is near 2; where it is quadratic, near 4. Of the levels of
+operators without an AG between, twice as many take four times as much, as each part asks all operators above it. What a replay of the
 same path takes for a formula of one leaf is taken off. Runs the build that ./smv would run, under valgrind's callgrind, which
 counts the same instructions at each call. Needs valgrind.
 """
@@ -15,8 +16,11 @@ import tempfile
 
 from paths import build, instructions
 
-# The most operators in each other that a specification may have, less what stands below them.
-DEEPEST = 1_000
+
+def levels(count):
+    """A formula in which each part stands below the operators of all before it, and no AG between."""
+    return "AG " + "(q -> (AX q & " * count + "AX q" + "))" * count
+
 
 QUESTIONS = {
     "AG p": "AG q",
@@ -25,7 +29,8 @@ QUESTIONS = {
     "AG A[p U q]": "AG A[q U !q]",
     "AG (p -> AX p)": "AG (q -> AX q)",
     "64 AG": "AG (q & " * 64 + "q" + ")" * 64,
-    "64 operators": "(q -> (q & " * 32 + "q" + "))" * 32,
+    "24 levels": levels(24),
+    "48 levels": levels(48),
 }
 
 
@@ -43,7 +48,7 @@ def counter(bits, spec):
 def path(bits):
     lines = ["trace 1"]
     for number in range(2**bits):
-        lines += [f"state {number}", *(f"  b{i} = {number >> i & 1}" for i in range(bits) if not number or (number ^ number - 1) >> i & 1)]
+        lines += [f"state {number}", *(f"  b{i} = {number >> i & 1}" for i in range(bits))]
     return "\n".join([*lines, "loop 0", ""])
 
 
@@ -57,12 +62,11 @@ def cost(program, room, bits, spec):
 def main(words):
     least, most = (int(words[0]), int(words[1])) if words else (7, 10)
     program, before = build(), {}
-    deep = {**QUESTIONS, f"{DEEPEST} operators": "(q -> (q & " * (DEEPEST // 2) + "q" + "))" * (DEEPEST // 2)}
     print(f"{os.path.basename(program).split('-')[0]} build; millions of instructions above those of one leaf, and times the row above")
     with tempfile.TemporaryDirectory() as room:
         for bits in range(least, most + 1):
             leaf, row = cost(program, room, bits, "q"), []
-            for name, spec in deep.items():
+            for name, spec in QUESTIONS.items():
                 count = cost(program, room, bits, spec) - leaf
                 row.append(f"{name} {count / 1e6:,.1f}" + (f" ({count / before[name]:.1f})" if name in before else ""))
                 before[name] = count
