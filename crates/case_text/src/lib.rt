@@ -10,3 +10,4 @@ pub mod fault;
 pub mod notation;
 pub mod running;
 pub mod section;
+pub mod telling;

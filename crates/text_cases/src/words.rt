@@ -1,6 +1,7 @@
 //! The command that the words of a command line are.
 
 use case_text::fault::Fault;
+use case_text::telling::Telling;
 use command_words::{Command, Job, Source, SpecPairs, Work, read_words};
 use std::alloc::{AllocError, Global};
 
@@ -22,70 +23,77 @@ fn words_of(alloc: Global, text: &str) -> Result<Vec<String>, AllocError> {
 }
 
 /// Adds where a model comes from.
-fn tell_source(source: &Source<'_>, answer: &mut String) -> Result<(), AllocError> {
+fn tell_source(source: &Source<'_>, answer: &mut Telling) {
     match source {
-        Source::File(name) => answer.push_str(name)?,
-        Source::Ring(n) => write!(answer, "ring of {n}")?,
+        Source::File(name) => answer.add(name),
+        Source::Ring(n) => write!(answer, "ring of {n}"),
     }
-    Ok(())
 }
 
 /// Adds the pairs of specifications, a word for each.
-fn tell_pairs(pairs: &SpecPairs, answer: &mut String) -> Result<(), AllocError> {
+fn tell_pairs(pairs: &SpecPairs, answer: &mut Telling) {
     for place in 0..pairs.len() {
         let (p, q) = pairs.get(place);
-        write!(answer, " {p}:{q}")?;
+        write!(answer, " {p}:{q}");
     }
-    Ok(())
 }
 
-/// Adds what work is asked for: its job, where its model comes from, the limit on nodes, and the
-/// proof file that is named.
-fn tell_work(work: &Work<'_>, answer: &mut String) -> Result<(), AllocError> {
-    match work.job {
-        Job::Decide { proofs } => {
-            answer.push_str("check ")?;
-            tell_source(&work.source, answer)?;
-            write!(answer, " {}", work.limit)?;
-            if let Some(name) = proofs {
-                write!(answer, " proof {name}")?;
-            }
-        }
-        Job::Recheck { proofs } => {
-            answer.push_str("recheck ")?;
-            tell_source(&work.source, answer)?;
-            write!(answer, " {proofs} {}", work.limit)?;
-        }
-        Job::Delay { from, to } => {
-            answer.push_str("delay ")?;
-            tell_source(&work.source, answer)?;
-            write!(answer, " from {from} to {to} {}", work.limit)?;
-        }
-        Job::Replay { trace } => {
-            answer.push_str("replay ")?;
-            tell_source(&work.source, answer)?;
-            write!(answer, " {trace} {}", work.limit)?;
-        }
-        Job::Strong { pairs } => {
-            answer.push_str("strong ")?;
-            tell_source(&work.source, answer)?;
-            tell_pairs(&pairs, answer)?;
-            write!(answer, " {}", work.limit)?;
-        }
+fn job_word(job: &Job<'_>) -> &'static str {
+    match job {
+        Job::Decide { .. } => "check ",
+        Job::Recheck { .. } => "recheck ",
+        Job::Delay { .. } => "delay ",
+        Job::Replay { .. } => "replay ",
+        Job::Strong { .. } => "strong ",
     }
-    Ok(())
+}
+
+/// Adds what the job needs beside a model.
+fn tell_needs(job: &Job<'_>, answer: &mut Telling) {
+    match job {
+        Job::Decide { .. } => {}
+        Job::Recheck { proofs } => write!(answer, " {proofs}"),
+        Job::Delay { from, to } => write!(answer, " from {from} to {to}"),
+        Job::Replay { trace } => write!(answer, " {trace}"),
+        Job::Strong { pairs } => tell_pairs(pairs, answer),
+    }
+}
+
+/// Adds what work is asked for: its job, where its model comes from, what the job needs beside it, the limit on nodes,
+/// and the file that the proofs are saved in.
+fn tell_work(work: &Work<'_>, answer: &mut Telling) {
+    answer.add(job_word(&work.job));
+    tell_source(&work.source, answer);
+    tell_needs(&work.job, answer);
+    write!(answer, " {}", work.limit);
+    if let Job::Decide { proofs: Some(name) } = &work.job {
+        write!(answer, " proof {name}");
+    }
+}
+
+fn tell_command(command: &Command<'_>, answer: &mut Telling) {
+    match command {
+        Command::Usage => answer.add("usage"),
+        Command::Print(n) => write!(answer, "print ring of {n}"),
+        Command::Do(work) => tell_work(work, answer),
+    }
+}
+
+/// The command that words are is told.
+fn tell_read(alloc: Global, words: &[String], answer: &mut Telling) {
+    match read_words(alloc, words) {
+        Ok(command) => tell_command(&command, answer),
+        Err(error) => answer.fail(Fault::Memory(error)),
+    }
 }
 
 /// Adds the command that the words of a text are.
-pub fn tell_words(alloc: Global, text: &[u8], answer: &mut String) -> Result<(), Fault> {
+pub fn tell_words(alloc: Global, text: &[u8], answer: &mut Telling) {
     let Ok(text) = str::from_utf8(text) else {
-        return Err(Fault::NoText);
+        return answer.fail(Fault::NoText);
     };
-    let words = words_of(alloc, text)?;
-    match read_words(alloc, &words)? {
-        Command::Usage => answer.push_str("usage")?,
-        Command::Print(n) => write!(answer, "print ring of {n}")?,
-        Command::Do(work) => tell_work(&work, answer)?,
+    match words_of(alloc, text) {
+        Ok(words) => tell_read(alloc, &words, answer),
+        Err(error) => answer.fail(Fault::Memory(error)),
     }
-    Ok(())
 }
