@@ -10,6 +10,7 @@ use crate::refusals::push_refusal;
 use crate::texts::text_of;
 use case_text::asking::Answer;
 use case_text::fault::Fault;
+use case_text::telling::Telling;
 use smv_instantiate::flatten;
 use smv_lexer::lex;
 use smv_parser::{Program, parse};
@@ -29,12 +30,7 @@ fn text_asked(alloc: Global, text: &str, question: &Question<'_>) -> Result<Stri
 }
 
 /// Adds what is found of a program.
-fn push_answer(
-    alloc: Global,
-    program: &Program,
-    question: &Question<'_>,
-    answer: &mut String,
-) -> Result<(), Fault>
+fn push_answer(alloc: Global, program: &Program, question: &Question<'_>, answer: &mut Telling)
     requires { IsParsed (programs.program program.now) }
 {
     match question.asked {
@@ -47,21 +43,23 @@ fn push_answer(
 }
 
 /// Adds what is found of a text, or that it is no program.
-fn push_found(
-    alloc: Global,
-    text: &str,
-    question: &Question<'_>,
-    answer: &mut String,
-) -> Result<(), Fault> {
-    let Ok(tokens) = lex(alloc, text.as_bytes()) else {
-        answer.push_str("no tokens")?;
-        return Ok(());
-    };
-    let Ok(program) = parse(alloc, &tokens) else {
-        answer.push_str("no program")?;
-        return Ok(());
-    };
-    push_answer(alloc, &program, question, answer)
+fn push_found(alloc: Global, text: &str, question: &Question<'_>, answer: &mut Telling) {
+    match lex(alloc, text.as_bytes()) {
+        Ok(tokens) => match parse(alloc, &tokens) {
+            Ok(program) => push_answer(alloc, &program, question, answer),
+            Err(_) => answer.add("no program"),
+        },
+        Err(_) => answer.add("no tokens"),
+    }
+}
+
+/// Adds what is found of a question.
+fn push_asked(alloc: Global, text: &str, question: &str, answer: &mut Telling) {
+    let question = read_question(question);
+    match text_asked(alloc, text, &question) {
+        Ok(text) => push_found(alloc, text.as_str(), &question, answer),
+        Err(fault) => answer.fail(fault),
+    }
 }
 
 impl Answer for FlatAnswers {
@@ -74,8 +72,9 @@ impl Answer for FlatAnswers {
     ) -> Result<(), Fault> {
         let text = str::from_utf8(text).map_err(|_| Fault::NoText)?;
         let question = str::from_utf8(question).map_err(|_| Fault::NoText)?;
-        let question = read_question(question);
-        let text = text_asked(alloc, text, &question)?;
-        push_found(alloc, text.as_str(), &question, answer)
+        let mut told = Telling::new(alloc);
+        push_asked(alloc, text, question, &mut told);
+        answer.push_str(told.text()?.as_str())?;
+        Ok(())
     }
 }

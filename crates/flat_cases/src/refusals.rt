@@ -1,6 +1,7 @@
 //! Why a text has no flat model, in the words of the program's reports.
 
 use case_text::fault::Fault;
+use case_text::telling::Telling;
 use kripke_model::refusals::{FlatRefusal, Which};
 use std::alloc::AllocError;
 
@@ -18,37 +19,39 @@ fn limit_word(which: Which) -> &'static str {
     }
 }
 
-/// Adds the number of a refusal, and its line.
-fn push_on_line(answer: &mut String, number: &str, line: u32) -> Result<(), Fault> {
-    write!(answer, "{number} line {line}")?;
-    Ok(())
+/// The number and the line of a refusal that has no more than these.
+fn number_and_line(refusal: FlatRefusal) -> Option<(u32, u32)> {
+    match refusal {
+        FlatRefusal::DuplicateName { line } => Some((7, line)),
+        FlatRefusal::UnknownName { line } => Some((8, line)),
+        FlatRefusal::RecursiveModule { line } => Some((9, line)),
+        FlatRefusal::ArgumentCount { line } => Some((10, line)),
+        FlatRefusal::CircularDefine { line } => Some((11, line)),
+        FlatRefusal::NameIsConstant { line } => Some((12, line)),
+        FlatRefusal::BadIndex { line } => Some((13, line)),
+        FlatRefusal::BadType { line } => Some((14, line)),
+        FlatRefusal::NotAssignable { line } => Some((15, line)),
+        _ => None,
+    }
 }
 
-/// Adds a refusal: its number, its line, and of a limit the word and what was counted.
-pub fn push_refusal(answer: &mut String, refusal: FlatRefusal) -> Result<(), Fault> {
+/// Adds a refusal that has more than a line, or less.
+fn push_other(answer: &mut Telling, refusal: FlatRefusal) {
     match refusal {
-        FlatRefusal::NoMain => {
-            answer.push_str("E6")?;
-            Ok(())
-        }
-        FlatRefusal::DuplicateName { line } => push_on_line(answer, "E7", line),
-        FlatRefusal::UnknownName { line } => push_on_line(answer, "E8", line),
-        FlatRefusal::RecursiveModule { line } => push_on_line(answer, "E9", line),
-        FlatRefusal::ArgumentCount { line } => push_on_line(answer, "E10", line),
-        FlatRefusal::CircularDefine { line } => push_on_line(answer, "E11", line),
-        FlatRefusal::NameIsConstant { line } => push_on_line(answer, "E12", line),
-        FlatRefusal::BadIndex { line } => push_on_line(answer, "E13", line),
-        FlatRefusal::BadType { line } => push_on_line(answer, "E14", line),
-        FlatRefusal::NotAssignable { line } => push_on_line(answer, "E15", line),
         FlatRefusal::Limit {
             line,
             which,
             counted,
-        } => {
-            let word = limit_word(which);
-            write!(answer, "E16 line {line} {word} {counted}")?;
-            Ok(())
-        }
-        FlatRefusal::Memory => Err(Fault::Memory(AllocError)),
+        } => write!(answer, "E16 line {line} {} {counted}", limit_word(which)),
+        FlatRefusal::Memory => answer.fail(Fault::Memory(AllocError)),
+        _ => answer.add("E6"),
+    }
+}
+
+/// Adds a refusal: its number, its line, and of a limit the word and what was counted.
+pub fn push_refusal(answer: &mut Telling, refusal: FlatRefusal) {
+    match number_and_line(refusal) {
+        Some((number, line)) => write!(answer, "E{number} line {line}"),
+        None => push_other(answer, refusal),
     }
 }

@@ -6,70 +6,84 @@
 //! | `@0..9{PART}` | the part, once for each of these numbers; in it `#` is the number, and `#'` the one after it |
 
 use case_text::fault::Fault;
-use std::alloc::{AllocError, Global};
+use case_text::telling::Telling;
+use std::alloc::Global;
 
-/// The text with the filling in the place of each `?`, or at its end.
-fn filled(alloc: Global, text: &str, filling: &str) -> Result<String, AllocError> {
-    let mut whole = String::new(alloc);
+/// Adds the text with the filling in the place of each `?`, or at its end.
+fn fill(text: &str, filling: &str, whole: &mut Telling) {
     let mut pieces = text.split('?');
-    if let Some(first) = pieces.next() {
-        whole.push_str(first)?;
-    }
+    whole.add(pieces.next().unwrap_or(""));
     if !text.contains('?') {
-        whole.push_str(filling)?;
+        whole.add(filling);
     }
     for piece in pieces {
-        whole.push_str(filling)?;
-        whole.push_str(piece)?;
+        whole.add(filling);
+        whole.add(piece);
     }
-    Ok(whole)
 }
 
 /// Adds the part with the number in the place of `#`, and the next one in that of `#'`.
-fn push_part(part: &str, number: u32, whole: &mut String) -> Result<(), AllocError> {
+fn push_part(part: &str, number: u32, whole: &mut Telling) {
     let next = number.saturating_add(1);
     let mut pieces = part.split('#');
-    if let Some(first) = pieces.next() {
-        whole.push_str(first)?;
-    }
+    whole.add(pieces.next().unwrap_or(""));
     for piece in pieces {
         match piece.strip_prefix('\'') {
-            Some(rest) => write!(whole, "{next}{rest}")?,
-            None => write!(whole, "{number}{piece}")?,
+            Some(rest) => write!(whole, "{next}{rest}"),
+            None => write!(whole, "{number}{piece}"),
         }
     }
-    Ok(())
+}
+
+/// The numbers of `FIRST..LAST`.
+fn range_of(numbers: &str) -> Option<(u32, u32)> {
+    let (first, last) = numbers.split_once("..")?;
+    Some((first.parse::<u32>().ok()?, last.parse::<u32>().ok()?))
+}
+
+fn push_parts(numbers: &str, part: &str, whole: &mut Telling) {
+    match range_of(numbers) {
+        Some((first, last)) => {
+            for number in first..=last {
+                push_part(part, number, whole);
+            }
+        }
+        None => whole.fail(Fault::NoNumber),
+    }
+}
+
+/// The numbers of `FIRST..LAST{PART}` with the part, and what stands behind it.
+fn part_of(piece: &str) -> Option<(&str, &str, &str)> {
+    let (numbers, rest) = piece.split_once('{')?;
+    let (part, rest) = rest.split_once('}')?;
+    Some((numbers, part, rest))
 }
 
 /// Adds what `FIRST..LAST{PART}` stands for, and what stands behind it.
-fn push_counted(piece: &str, whole: &mut String) -> Result<(), Fault> {
-    let (numbers, rest) = piece.split_once('{').ok_or(Fault::Unasked)?;
-    let (part, rest) = rest.split_once('}').ok_or(Fault::Unasked)?;
-    let (first, last) = numbers.split_once("..").ok_or(Fault::NoNumber)?;
-    let first = first.parse::<u32>().map_err(|_| Fault::NoNumber)?;
-    let last = last.parse::<u32>().map_err(|_| Fault::NoNumber)?;
-    for number in first..=last {
-        push_part(part, number, whole)?;
+fn push_counted(piece: &str, whole: &mut Telling) {
+    match part_of(piece) {
+        Some((numbers, part, rest)) => {
+            push_parts(numbers, part, whole);
+            whole.add(rest);
+        }
+        None => whole.fail(Fault::Unasked),
     }
-    whole.push_str(rest)?;
-    Ok(())
 }
 
 /// The text with each counted part written out.
 fn counted(alloc: Global, text: &str) -> Result<String, Fault> {
-    let mut whole = String::new(alloc);
+    let mut whole = Telling::new(alloc);
     let mut pieces = text.split('@');
-    if let Some(first) = pieces.next() {
-        whole.push_str(first)?;
-    }
+    whole.add(pieces.next().unwrap_or(""));
     for piece in pieces {
-        push_counted(piece, &mut whole)?;
+        push_counted(piece, &mut whole);
     }
-    Ok(whole)
+    whole.text()
 }
 
 /// The text of a question: what is written, filled with this.
 pub fn text_of(alloc: Global, text: &str, filling: &str) -> Result<String, Fault> {
-    let whole = filled(alloc, text, filling)?;
-    counted(alloc, whole.as_str())
+    let mut whole = Telling::new(alloc);
+    fill(text, filling, &mut whole);
+    counted(alloc, whole.text()?.as_str())
 }

@@ -1,31 +1,29 @@
 //! Answers that are lists.
 
-use std::alloc::AllocError;
+use case_text::telling::Telling;
 
 /// Adds what stands between a word and those before it.
-pub fn push_gap(answer: &mut String, gap: &str) -> Result<(), AllocError> {
-    if answer.is_empty() {
-        return Ok(());
+pub fn push_gap(answer: &mut Telling, gap: &str) {
+    if !answer.is_empty() {
+        answer.add(gap);
     }
-    answer.push_str(gap)
 }
 
 /// Adds a word, behind a space unless it is the first.
-pub fn push_word(answer: &mut String, word: &str) -> Result<(), AllocError> {
-    push_gap(answer, " ")?;
-    answer.push_str(word)
+pub fn push_word(answer: &mut Telling, word: &str) {
+    push_gap(answer, " ");
+    answer.add(word);
 }
 
 /// Adds a number, behind a space unless it is the first.
-pub fn push_number(answer: &mut String, number: usize) -> Result<(), AllocError> {
-    push_gap(answer, " ")?;
-    write!(answer, "{number}")
+pub fn push_number(answer: &mut Telling, number: usize) {
+    push_gap(answer, " ");
+    write!(answer, "{number}");
 }
 
 /// Adds a dash where nothing is listed.
-pub fn push_none(answer: &mut String) -> Result<(), AllocError> {
+pub fn push_none(answer: &mut Telling) {
     if answer.is_empty() {
-        answer.push('-')?;
+        answer.add("-");
     }
-    Ok(())
 }
