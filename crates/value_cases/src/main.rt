@@ -13,18 +13,18 @@ use crate::outcomes::tell_value;
 use case_text::asking::{Answer, Asking};
 use case_text::fault::Fault;
 use case_text::running::run_cases;
+use case_text::telling::Telling;
 use std::alloc::Global;
 
 /// Adds the formulas of a text's specifications, or the static rule that it breaks.
-fn tell_rules(alloc: Global, text: &[u8], answer: &mut String) -> Result<(), Fault> {
+fn tell_rules(alloc: Global, text: &[u8], answer: &mut Telling) {
     match model_of(alloc, text) {
         Some(Ok(model)) => {
-            answer.push_str("accepted")?;
-            tell_formulas(model.formulas(), answer)?;
-            Ok(())
+            answer.add("accepted");
+            tell_formulas(model.formulas(), answer);
         }
         Some(Err(refusal)) => tell_refusal(refusal, answer),
-        None => Err(Fault::Unasked),
+        None => answer.fail(Fault::Unasked),
     }
 }
 
@@ -39,10 +39,14 @@ impl Answer for Values {
         question: &[u8],
         answer: &mut String,
     ) -> Result<(), Fault> {
+        let mut told = Telling::new(alloc);
         if model.is_empty() {
-            return tell_rules(alloc, question, answer);
+            tell_rules(alloc, question, &mut told);
+        } else {
+            tell_value(alloc, model, question, &mut told);
         }
-        tell_value(alloc, model, question, answer)
+        answer.push_str(told.text()?.as_str())?;
+        Ok(())
     }
 }
 

@@ -6,6 +6,7 @@ ghost use Rattle.kripke_model.specs.Evaluable.{IsEvaluable};
 
 use crate::models::model_of;
 use case_text::fault::Fault;
+use case_text::telling::Telling;
 use kripke_model::expressions::{Expr, Outcome, Value};
 use kripke_model::models::{Item, Part, Ruled};
 use kripke_model::states::State;
@@ -63,49 +64,54 @@ fn condition_outcome(alloc: Global, model: &Ruled) -> Result<Outcome, Fault> {
     }
 }
 
-fn tell_one(model: &Ruled, value: Value, answer: &mut String) -> Result<(), Fault> {
+fn tell_one(model: &Ruled, value: Value, answer: &mut Telling) {
     match value {
-        Value::Number(number) => write!(answer, "{number}")?,
-        Value::Symbol(place) => {
-            let name = model.symbols().get(place as usize).ok_or(Fault::Unasked)?;
-            answer.push_str(name.as_str())?;
-        }
+        Value::Number(number) => write!(answer, "{number}"),
+        Value::Symbol(place) => match model.symbols().get(place as usize) {
+            Some(name) => answer.add(name.as_str()),
+            None => answer.fail(Fault::Unasked),
+        },
     }
-    Ok(())
 }
 
-/// Adds the values, with a space between two, or the kind of the fault.
-fn tell_outcome(model: &Ruled, outcome: &Outcome, answer: &mut String) -> Result<(), Fault> {
-    match outcome {
-        Outcome::Fault(kind) => write!(answer, "{kind:?}")?,
-        Outcome::Values(values) => {
-            for (index, value) in values.iter().enumerate() {
-                if index > 0 {
-                    answer.push(' ')?;
-                }
-                tell_one(model, *value, answer)?;
-            }
+fn tell_values(model: &Ruled, values: &[Value], answer: &mut Telling) {
+    for (index, value) in values.iter().enumerate() {
+        if index > 0 {
+            answer.add(" ");
         }
+        tell_one(model, *value, answer);
     }
-    Ok(())
+}
+
+/// Adds what the one condition of a model comes to: the values, with a space between two, or the kind of the fault.
+fn tell_outcome(alloc: Global, model: &Ruled, answer: &mut Telling) {
+    match condition_outcome(alloc, model) {
+        Ok(Outcome::Values(values)) => tell_values(model, &values, answer),
+        Ok(Outcome::Fault(kind)) => write!(answer, "{kind:?}"),
+        Err(fault) => answer.fail(fault),
+    }
+}
+
+/// The text with the expression as one more condition of its last module.
+fn with_condition(alloc: Global, text: &[u8], expr: &[u8]) -> Result<Vec<u8>, AllocError> {
+    let mut whole = text.to_vec(alloc)?;
+    whole.extend_from_slice(b"TRANS ")?;
+    whole.extend_from_slice(expr)?;
+    Ok(whole)
 }
 
 /// Adds what an expression comes to in the model of a text. It is read as a condition of the text's last module, which
 /// is `main`.
-pub fn tell_value(
-    alloc: Global,
-    text: &[u8],
-    expr: &[u8],
-    answer: &mut String,
-) -> Result<(), Fault> {
-    let mut whole = text.to_vec(alloc)?;
-    whole.extend_from_slice(b"TRANS ")?;
-    whole.extend_from_slice(expr)?;
-    match model_of(alloc, &whole) {
-        Some(Ok(model)) => {
-            let outcome = condition_outcome(alloc, &model)?;
-            tell_outcome(&model, &outcome, answer)
-        }
-        _ => Err(Fault::Unasked),
+pub fn tell_value(alloc: Global, text: &[u8], expr: &[u8], answer: &mut Telling) {
+    match with_condition(alloc, text, expr) {
+        Ok(whole) => tell_read(alloc, &whole, answer),
+        Err(error) => answer.fail(Fault::Memory(error)),
+    }
+}
+
+fn tell_read(alloc: Global, text: &[u8], answer: &mut Telling) {
+    match model_of(alloc, text) {
+        Some(Ok(model)) => tell_outcome(alloc, &model, answer),
+        _ => answer.fail(Fault::Unasked),
     }
 }
