@@ -139,7 +139,7 @@ main() {
   case ${1-} in
     --version) version && exit 0 ;;
     check | recheck | replay | delay | strong | gen | --verbose | "") ;;
-    explain | trace) run_script "$@" ;;
+    trace) run_script "$@" ;;
     *) [ -z "$name" ] || run_tool "$@" ;;
   esac
   tell_build

@@ -8,7 +8,7 @@ import importlib.util
 from dataclasses import dataclass, field
 from functools import cache
 
-PACKAGES = ("failures", "imports", "probes", "order")
+PACKAGES = ("explaining", "failures", "imports", "probes", "order")
 
 
 @dataclass(frozen=True)
@@ -110,12 +110,6 @@ PROGRAM_COMMANDS = (
 )
 
 TOOL_COMMANDS = (
-    Command(
-        "explain", "check a model, and explain its refusal: the line, the rule, what to write", (MODEL,), (NODES,),
-        "Puts what `check` puts. Where the model is refused, the line of the file follows, then the rule that it breaks and "
-        "what to write instead.",
-        "smv explain examples/refused/e8_unknown_name.smv", needs=(),
-    ),
     Command(
         "trace", "show the path of a false specification as a table, a waveform or a picture",
         (MODEL, Operand("J", "number", optional=True)),

@@ -1,0 +1,85 @@
+"""What is wrong where the program refuses a text: the very place, and what to write."""
+from __future__ import annotations
+
+from collections.abc import Callable
+
+from ..model import Model, Unreadable
+from ..refusals import Refusal
+from ..source import MOST_BYTES, Source
+from ..tokens import LexFault, tokens_of
+from . import characters, comments, evaluated, named, operators, sections, shapes, static
+from .marks import Finding, Mark
+from .places import Ask, Place, cut_place
+
+# Sections are tried first, then what can be misread, then operators.
+SYNTAX_FORMS = (*sections.FORMS, *operators.FORMS, *shapes.FORMS, sections.by_import)
+
+
+def byte_fault(source: Source, _: Refusal, __: Ask) -> Finding:
+    try:
+        tokens_of(source)
+    except LexFault as fault:
+        if fault.code == "E2":
+            return Finding([Mark(fault.at, fault.behind)])
+        found = comments.comment_form(source, fault.at) or characters.byte_form(Place.of(source, fault.at), fault.at)
+        return found or Finding([Mark(fault.at, fault.behind)])
+    return Finding()
+
+
+def syntax_fault(source: Source, refusal: Refusal, ask: Ask) -> Finding:
+    token = cut_place(ask, source, refusal)
+    place = Place.of(source, token.at if token else len(source.text))
+    if token is not None:
+        comment = comments.comment_form(source, token.at)
+        if comment is not None:
+            return comment
+    for form in SYNTAX_FORMS:
+        found = form(place) if not place.ends or form in AT_END else None
+        if found is not None:
+            return found
+    if token is None:
+        return Finding([], ["The file ends inside a section."])
+    wanted = [f"Here {place.wanted} could stand, and not `{token.text}`."] if place.wanted else []
+    return Finding([Mark(token.at, token.behind)], wanted)
+
+
+# The forms that speak of the end of a file.
+AT_END = (shapes.missing_esac, shapes.missing_bracket, shapes.missing_semicolon)
+
+
+def depth_fault(source: Source, refusal: Refusal, ask: Ask) -> Finding:
+    token = cut_place(ask, source, refusal)
+    if token is None:
+        return Finding()
+    return Finding([Mark(token.at, token.behind)], ["Up to here the expression is 257 deep."])
+
+
+# Of each code what tells the place, from the text.
+OF_TEXT: dict[str, Callable[[Source, Refusal, Ask], Finding]] = {
+    "E1": byte_fault, "E2": byte_fault, "E4": syntax_fault, "E5": depth_fault,
+}
+# From the modules as they are written, where the model need not be one.
+OF_MODULES = {"E6": named.no_main, "E7": named.twice, "E8": named.unknown_module, "E9": named.recursive, "E10": named.arguments,
+              "E14": named.reversed_range, "E16": static.limit}
+# From the model.
+OF_MODEL = {"E8": named.unknown, "E11": named.circular, "E12": named.constant, "E13": named.index, "E15": named.left_side,
+            "E17": static.twice, "E18": static.beside, "E19": static.circle, "E20": static.next_stands, "E21": static.operates,
+            "E22": static.bits, "E23": evaluated.fault}
+
+
+def finding_of(source: Source, refusal: Refusal, ask: Ask) -> Finding:
+    """What is told of the refusal; a finding without a place where it can't be found."""
+    if len(source.data) > MOST_BYTES:
+        return Finding()
+    if refusal.code in OF_TEXT:
+        return OF_TEXT[refusal.code](source, refusal, ask)
+    try:
+        if refusal.code in OF_MODULES:
+            found = OF_MODULES[refusal.code](source, refusal)
+            if found is not None:
+                return found
+        if refusal.code in OF_MODEL:
+            return OF_MODEL[refusal.code](Model.of(source), refusal) or Finding()
+    except (Unreadable, RecursionError):
+        pass
+    return Finding()
