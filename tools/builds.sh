@@ -29,9 +29,14 @@ kit_folder() {
   dirname "$(dirname "$(readlink -f "$(command -v rt)")")"
 }
 
-# What `rt version` prints: the text of a file of the kit, since a start of rt takes longer than all the rest here.
+# What `rt version` prints: the text of a file of the kit, since a start of rt takes longer than all the rest here. Where there
+# is no rt, that of the kit that made the last build.
 kit_version() {
-  cat "$(kit_folder)/KIT-ID" 2>/dev/null || rt version
+  if command -v rt >/dev/null; then
+    cat "$(kit_folder)/KIT-ID" 2>/dev/null || rt version
+  else
+    cat "$out/kit" 2>/dev/null
+  fi
 }
 
 # sum_of PART..: the checksum of these folders of the program's crates, with their lines and the kit.
@@ -73,7 +78,7 @@ standing_build() {
 # It gets its name when it is whole.
 keep_build() {
   local other
-  mkdir -p "$out" && cp "$2" "$out/.new-$$" && chmod +x "$out/.new-$$" && mv "$out/.new-$$" "$out/$1" || return 1
+  mkdir -p "$out" && kit_version >"$out/kit" && cp "$2" "$out/.new-$$" && chmod +x "$out/.new-$$" && mv "$out/.new-$$" "$out/$1" || return 1
   for other in "$out/${1%%-*}"-*; do
     [ "$other" = "$out/$1" ] || rm -f "$other"
   done

@@ -7,7 +7,9 @@ USAGE=5
 AS_ONE=75
 NO_COMMAND=127
 
+installed=yes
 if [ -f "$tools/builds.sh" ]; then
+  installed=
   . "$tools/builds.sh"
   . "$tools/tried.sh"
 fi
@@ -35,9 +37,7 @@ tool() {
 
 # find_program: sets `built`, the program's path, and `name`, its build's; `name` is empty where only `rt try` can run it.
 find_program() {
-  installed=
-  if [ ! -f "$tools/builds.sh" ]; then
-    installed=yes
+  if [ -n "$installed" ]; then
     built=$here/smv_run
     name=$(sed -n 's/^build //p' "$tools/version" 2>/dev/null)
     [ -x "$built" ] || stop "there is no program $built"
@@ -55,8 +55,9 @@ find_program() {
 
 # Whether the build is proved, on standard error: once for each build, and not with SMV_QUIET.
 tell_build() {
-  local told=$out/.told-$name
+  local told
   [ -z "${SMV_QUIET-}" ] && [ -z "$installed" ] || return 0
+  told=$out/.told-$name
   if [ -z "$name" ]; then
     tell "this program is not proved, and is slow: rt try builds and runs it"
   elif [ ! -e "$told" ]; then
@@ -96,7 +97,6 @@ asks_help() {
 # show_help [WORD]: the help, or the program's usage where there is no Python.
 show_help() {
   local status
-  installed=
   tool smv_tools help ${1+"$1"}
   status=$?
   [ "$status" -eq "$NO_COMMAND" ] || exit "$status"
@@ -131,7 +131,7 @@ main() {
   [ "${1-} ${2-}" != "--verbose --proved" ] || set -- --proved --verbose "${@:3}"
   if [ "${1-}" = --proved ]; then
     shift
-    [ -f "$tools/builds.sh" ] || stop "--proved proves the sources, and only the program is installed"
+    [ -z "$installed" ] || stop "--proved proves the sources, and only the program is installed"
     command -v rt >/dev/null || stop "rt, the command of the Rattle toolchain, isn't on the path"
     "$tools/build-proved" || exit "$NO_PROGRAM"
   fi

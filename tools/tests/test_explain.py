@@ -6,13 +6,14 @@ from pathlib import Path
 
 import pytest
 from conftest import EXAMPLES, TOP, Smv
-from hypothesis import given
+from hypothesis import given, settings
 from hypothesis import strategies as st
 
 from smv_tools.explaining.lexing import loose_tokens
 from smv_tools.explaining.marks import Edit, before_edits, edited
 from smv_tools.explaining.places import Place, cut_place
-from smv_tools.explaining.rounds import Asked
+from smv_tools.explaining.rounds import Asked, mistakes_of
+from smv_tools.explaining.shown import text_of
 from smv_tools.program import Program
 from smv_tools.reading import SyntaxFault, program_of
 from smv_tools.source import Source, printable
@@ -26,8 +27,11 @@ WRITE = re.compile(r"^-- write: (.*)$", re.M)
 HAVE_TOKENS, HAVE_LINES = 40, 30
 
 
-def told(smv: Smv, path: Path | str) -> str:
-    return smv("explain", str(path)).stdout
+def told(program: Program, path: Path) -> str:
+    """What is told of a model that is refused."""
+    source, refusal = Source.load(str(path)), program.check(str(path)).refusal
+    assert refusal is not None
+    return text_of(source, mistakes_of(source, refusal, Asked(program, [])))
 
 
 def test_enough_mistakes() -> None:
@@ -36,11 +40,11 @@ def test_enough_mistakes() -> None:
 
 
 @pytest.mark.parametrize("path", MISTAKES, ids=lambda it: it.stem)
-def test_the_very_token_and_the_very_line(path: Path, smv: Smv) -> None:
-    """The place, the mark below the token, the line to write, and that the program takes the text with these lines."""
+def test_the_very_token_and_the_very_line(path: Path, program: Program) -> None:
+    """The place, the mark below the token, the line to write, and that the program takes the text with it."""
     text, source = path.read_text(), Source.load(str(path))
     line, column = map(int, PLACE.findall(text)[0])
-    put = told(smv, path).splitlines()
+    put = told(program, path).splitlines()
     assert f"{path}, line {line}, column {column}:" in put
     row = next(k for k, it in enumerate(put) if it.startswith(f"> {line:>5} | "))
     shown, below = put[row].partition("| ")[2], put[row + 1].partition("| ")[2]
@@ -52,11 +56,7 @@ def test_the_very_token_and_the_very_line(path: Path, smv: Smv) -> None:
     written = [it.partition("| ")[2] for it in put[put.index("Write:"):] if "| " in it] if "Write:" in put else []
     for it in wanted:
         assert it in written
-
-
-@pytest.mark.parametrize("path", [it for it in MISTAKES if WRITE.search(it.read_text())], ids=lambda it: it.stem)
-def test_the_program_takes_what_is_written(path: Path, smv: Smv) -> None:
-    assert told(smv, path).splitlines()[-2].startswith("With th")
+    assert bool(wanted) == put[-2].startswith("With th")
 
 
 def test_all_mistakes_at_once(smv: Smv, tmp_path: Path) -> None:
@@ -66,15 +66,15 @@ def test_all_mistakes_at_once(smv: Smv, tmp_path: Path) -> None:
     put = smv("explain", str(model))
     assert put.returncode == 3 and put.stdout.startswith("refused E1 line 8\n")
     places = re.findall(r", line (\d+), column (\d+):", put.stdout)
-    assert places == [("8", "12"), ("4", "3"), ("6", "11"), ("7", "1"), ("7", "15"), ("7", "21"), ("8", "18")]
+    assert places == [("8", "12"), ("4", "3"), ("6", "11"), ("7", "1"), ("7", "15"), ("7", "20"), ("8", "18")]
     assert "With these 7 changes the model is taken." in put.stdout
 
 
-def test_faults_are_told_with_what_matters(smv: Smv, tmp_path: Path) -> None:
+def test_faults_are_told_with_what_matters(program: Program, tmp_path: Path) -> None:
     model = tmp_path / "fault.smv"
     model.write_text("MODULE main\nVAR\n  other : boolean;\n  x : boolean;\n  n : 2..5;\nASSIGN\n"
                      "  next(n) := case x : 2; esac;\nSPEC AF n = 2\n")
-    put = told(smv, model)
+    put = told(program, model)
     assert "No arm of the `case` is 1 here, so its value is 1; `n` has 2 to 5." in put
     assert "So it is where x = 0." in put and "other" not in put.split("E23, a fault.")[1]
 
@@ -121,6 +121,7 @@ def test_rejected_traces(smv: Smv, tmp_path: Path) -> None:
 
 # ---- places and edits
 
+@settings(max_examples=25)
 @given(st.sampled_from(TEXTS), st.data())
 def test_the_reader_fails_where_the_program_does(program: Program, data_of: bytes, data: st.DataObject) -> None:
     """A token is taken away, doubled or exchanged: the place that the program's answers give is that of the reader."""

@@ -5,7 +5,7 @@ import re
 
 from ..tokens import KEYWORDS
 from .marks import Edit, Finding, Mark
-from .places import Place
+from .places import Place, uncommented
 
 SIGNS = {
     "≠": "!=", "≤": "<=", "≥": ">=", "∧": "&", "∨": "|", "¬": "!", "→": "->", "⇒": "->", "↔": "<->", "⇔": "<->", "∈": "in",
@@ -92,10 +92,10 @@ def other_name(place: Place, offset: int) -> Finding | None:
     old = found[0]
     new = re.sub(r"[$#@\\]+", "_", old).strip("-")
     new = new.lstrip("_") + "_" * (len(new) - len(new.lstrip("_")))
-    while new in KEYWORDS or not new[0].isalpha() or re.search(rf"(?<!{WORD}){re.escape(new)}(?!{WORD})", text):
+    while new in KEYWORDS or not new[0].isalpha() or new in place.words - {new.strip("_")}:
         new = new + "_" if new[0].isalpha() else "n" + new
-    places = re.finditer(rf"(?<!{WORD}){re.escape(old)}(?!{WORD})", text)
-    edits = [Edit(it.start(), it.end(), new) for it in places if "--" not in place.source.before(it.start())]
+    places = re.finditer(rf"(?<!{WORD}){re.escape(old)}(?!{WORD})", uncommented(text))
+    edits = [Edit(it.start(), it.end(), new) for it in places]
     sentence = f"A name begins with a letter and has letters, digits, `_` and `-`: `{old}` can be `{new}`."
     return Finding([Mark(offset, offset + 1)], [sentence], edits)
 

@@ -32,7 +32,7 @@ def comment_around(source: Source, offset: int) -> tuple[int, int, str] | None:
     line_end = source.text.find("\n", offset)
     line_end = len(source.text) if line_end < 0 else line_end
     for sign, close in ENDS.items():
-        begin = source.text.rfind(sign, 0, offset + 1)
+        begin = source.text.rfind(sign, 0, offset + len(sign))
         end = source.text.find(close, begin + len(sign)) if begin >= 0 else -1
         if end >= offset - 1 and end >= 0 or begin >= line_begin and end >= 0:
             return begin, end + len(close), sign

@@ -9,7 +9,7 @@ from ..source import MOST_BYTES, Source
 from ..tokens import LexFault, tokens_of
 from . import characters, comments, evaluated, named, operators, sections, shapes, static
 from .marks import Finding, Mark
-from .places import Ask, Place, cut_place
+from .places import HEADS, Ask, Place, cut_place
 
 # Sections are tried first, then what can be misread, then operators.
 SYNTAX_FORMS = (*sections.FORMS, *operators.FORMS, *shapes.FORMS, sections.by_import)
@@ -29,6 +29,9 @@ def byte_fault(source: Source, _: Refusal, __: Ask) -> Finding:
 def syntax_fault(source: Source, refusal: Refusal, ask: Ask) -> Finding:
     token = cut_place(ask, source, refusal)
     place = Place.of(source, token.at if token else len(source.text))
+    if place.text(-1) in HEADS and place.is_name(-1):
+        # Behind declarations the word is read as a name.
+        place = Place(source, place.tokens, place.at - 1)
     if token is not None:
         comment = comments.comment_form(source, token.at)
         if comment is not None:

@@ -1,6 +1,7 @@
 """The token that can't follow: told by the program, of which front parts of the text are asked."""
 from __future__ import annotations
 
+import re
 from collections.abc import Callable, Sequence
 from dataclasses import dataclass
 from functools import cached_property
@@ -82,8 +83,13 @@ class Place:
 
     @cached_property
     def section(self) -> int:
-        """The token that begins the section of this one."""
-        return next((k for k in range(min(self.at, len(self.tokens) - 1), -1, -1) if self.tokens[k].text in HEADS), 0)
+        """The token that begins the section before this one, or that this one stands in."""
+        return next((k for k in range(self.at - 1, -1, -1) if self.tokens[k].text in HEADS), 0)
+
+    @cached_property
+    def words(self) -> set[str]:
+        """The texts of all tokens, and the names that these would be with signs of other tools."""
+        return {it.text for it in self.tokens} | set(re.findall(r"[\w$#@\\-]+", uncommented(self.source.text), re.A))
 
     # ---- what is told
 
@@ -108,6 +114,11 @@ class Place:
         """The place behind the operand that begins at so many tokens behind this one."""
         behind = end_of_operand(self.tokens, self.at + distance, level)
         return None if behind is None else self.tokens[behind - 1].behind
+
+
+def uncommented(text: str) -> str:
+    """The text with spaces in place of comments."""
+    return re.sub(r"--[^\n]*", lambda found: " " * len(found[0]), text)
 
 
 HEADS = frozenset("MODULE VAR ASSIGN DEFINE INIT INVAR TRANS SPEC FAIRNESS".split()) | frozenset(

@@ -96,7 +96,7 @@ def asked(place: Place) -> Finding | None:
 
 def by_import(place: Place) -> Finding | None:
     """The whole section as `import` writes it: LTL that is CTL, bounded operators, functions."""
-    begin = place.section
+    begin = place.at if place.text() in HEADS else place.section
     first, behind = place.tokens[begin].at, section_end(place, begin)
     old = place.source.text[first:behind]
     if place.tokens[begin].text in ("VAR", "MODULE", "ASSIGN", "DEFINE"):

@@ -1,8 +1,6 @@
 """Punctuation that is missing or too much where a token can't follow (E4), and reserved words as names."""
 from __future__ import annotations
 
-import re
-
 from ..tokens import KEYWORDS, SECTIONS
 from .marks import Edit, Finding, Mark
 from .places import HEADS, Place
@@ -48,7 +46,7 @@ def reserved(place: Place) -> Finding | None:
     if word not in KEYWORDS or word in ("TRUE", "FALSE") or not (declares or inside or place.wanted.startswith("a name")):
         return None
     new, count = f"{word}1", 1
-    while re.search(rf"\b{new}\b", place.source.text):
+    while new in place.words:
         count += 1
         new = f"{word}{count}"
     edits = [place.replace(0, new)]

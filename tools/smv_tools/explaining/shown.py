@@ -66,7 +66,7 @@ def place_rows(source: Source, line: int | None, finding: Finding, around: int) 
 def heading(source: Source, mistake: Mistake) -> str:
     line = mistake.refusal.line
     marks = mistake.finding.marks
-    if marks and (line is None or source.line_at(marks[0].first) == line):
+    if marks:
         return f"{source.path}, line {source.line_at(marks[0].first)}, column {source.column_at(marks[0].first)}:"
     return f"{source.path}, line {line}:" if line else f"{source.path}:"
 
