@@ -91,9 +91,33 @@ alone() {
   shift
   mkdir -p "$out" && touch "$out/$kind.lock" || return 2
   (
-    command -v flock >/dev/null && flock 9
+    if command -v flock >/dev/null && ! flock -n 9; then
+      tell "another call is at it: this one waits, and takes what that makes"
+      flock 9
+    fi
     "$@"
   ) 9>"$out/$kind.lock"
+}
+
+# ticking WHAT COMMAND..: runs the command. On a terminal a line tells for how many seconds it has run; the line is taken away.
+ticking() {
+  local what=$1 status ticker= begun=$SECONDS
+  shift
+  if [ -t 2 ]; then
+    while sleep 1 && kill -0 "$$" 2>/dev/null; do
+      printf '\r\033[Ksmv: %s: %d s' "$what" $((SECONDS - begun)) >&2
+    done &
+    ticker=$!
+    trap 'kill "$ticker" 2>/dev/null' EXIT
+  fi
+  "$@"
+  status=$?
+  if [ -n "$ticker" ]; then
+    kill "$ticker" 2>/dev/null
+    wait "$ticker" 2>/dev/null
+    printf '\r\033[K' >&2
+  fi
+  return "$status"
 }
 
 tell() {

@@ -26,11 +26,14 @@ stop() {
 }
 
 # The interpreter for the tools: Debian's, since its libraries are there, or else the one of the path.
+interpreter() {
+  command -v "${SMV_PYTHON:-/usr/bin/python3}" || command -v python3
+}
+
 # tool WORD..: runs a module of the tools; NO_COMMAND where there is no Python.
 tool() {
-  local python=${SMV_PYTHON:-/usr/bin/python3}
-  command -v "$python" >/dev/null || python=python3
-  command -v "$python" >/dev/null || return "$NO_COMMAND"
+  local python
+  python=$(interpreter) || return "$NO_COMMAND"
   SMV_PROGRAM=${built-} SMV_BUILD=${name-} PYTHONPATH=$tools${PYTHONPATH:+:$PYTHONPATH} PYTHONDONTWRITEBYTECODE=${installed:+1} \
     "$python" -P -m "$@"
 }
@@ -60,8 +63,8 @@ tell_build() {
   told=$out/.told-$name
   if [ -z "$name" ]; then
     tell "this program is not proved, and is slow: rt try builds and runs it"
-  elif [ ! -e "$told" ]; then
-    rm -f "$out"/.told-* && : >"$told"
+  elif [ ! -e "$told" ] && { (set -C && : >"$told") 2>/dev/null || [ ! -e "$told" ]; }; then
+    find "$out" -name '.told-*' ! -path "$told" -delete 2>/dev/null
     case $name in
       proved-*) tell "this build is proved" ;;
       *) tell "this build is not proved (./smv --proved .. proves it first)" ;;
@@ -106,12 +109,14 @@ show_help() {
   exit 0
 }
 
-# run_tool WORD..: runs a command of the tools, and ends; comes back where they have no such command.
+# run_tool WORD..: runs a command of the tools, and ends; comes back where they have no such command, or there is no Python.
 run_tool() {
   local status
   tool smv_tools "$@"
   status=$?
   [ "$status" -eq "$NO_COMMAND" ] || exit "$status"
+  [ -n "$(interpreter)" ] ||
+    tell "without python3 there are the program's commands alone: apt-get install python3 python3-click python3-rich"
 }
 
 # run_script WORD..: runs the script of this name in place of this one.

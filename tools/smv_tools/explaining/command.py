@@ -1,13 +1,11 @@
 """The command `explain`."""
 from __future__ import annotations
 
-from pathlib import Path
-
 from ..calls import Call
 from ..program import Ended
 from ..screen import put, tell
 from ..source import Source
-from ..statuses import FAILED, OUTSIDE, PROOF_REFUSED, REFUSED, UNDECIDED, USAGE, Stop
+from ..statuses import FAILED, OUTSIDE, UNDECIDED, USAGE, Stop
 from ..words import commands
 from ..wrong_words import wrong_of_program
 from . import others
@@ -22,7 +20,7 @@ OTHERS = ("check", "recheck", "replay", "delay", "strong")
 def words_of(call: Call) -> tuple[str, list[str]]:
     """The program's command, and its operands: a model alone is checked."""
     first, *rest = call.operands
-    if first in OTHERS and rest and not (len(rest) == 0 and Path(first).exists()):
+    if first in OTHERS and rest:
         return first, rest
     if rest:
         raise Stop(f"explain takes one MODEL, or {', '.join(OTHERS[1:])} and its words; {rest[0]} is one word more", USAGE)
@@ -65,5 +63,3 @@ def status_of(ended: Ended) -> int:
         return OUTSIDE
     return ended.status if ended.status >= 0 else 128 - ended.status
 
-
-__all__ = ["PROOF_REFUSED", "REFUSED", "run"]

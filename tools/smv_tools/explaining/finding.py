@@ -6,9 +6,9 @@ from collections.abc import Callable
 from ..model import Model, Unreadable
 from ..refusals import Refusal
 from ..source import MOST_BYTES, Source
-from ..tokens import LexFault, tokens_of
+from ..tokens import LexFault, Token, tokens_of
 from . import characters, comments, evaluated, named, operators, sections, shapes, static
-from .marks import Finding, Mark
+from .marks import Edit, Finding, Mark, blank
 from .places import HEADS, Ask, Place, cut_place
 
 # Sections are tried first, then what can be misread, then operators.
@@ -28,6 +28,35 @@ def byte_fault(source: Source, _: Refusal, __: Ask) -> Finding:
 
 def syntax_fault(source: Source, refusal: Refusal, ask: Ask) -> Finding:
     token = cut_place(ask, source, refusal)
+    found = syntax_form(source, token)
+    if token is not None and not found.edits:
+        found.passed = around(Place.of(source, token.at))
+    return found
+
+
+def around(place: Place) -> list[Edit]:
+    """Takes away the statement, the assignment or the definition at the token; of a declaration the type is another."""
+    tokens = place.tokens
+    begin = place.at - 1
+    while begin > place.section and tokens[begin].text != ";":
+        begin -= 1
+    end = place.at
+    while end < len(tokens) and tokens[end].text != ";" and tokens[end].text not in HEADS:
+        end += 1
+    stated = tokens[place.section].text not in ("VAR", "ASSIGN", "DEFINE", "MODULE")
+    first = tokens[begin].at if stated and begin == place.section else tokens[begin].behind
+    behind = tokens[min(end, len(tokens) - 1)].at if end < len(tokens) and tokens[end].text in HEADS else tokens[end - 1].behind
+    if end < len(tokens) and tokens[end].text == ";":
+        behind = tokens[end].behind
+    text = place.source.text[first:behind]
+    if tokens[place.section].text == "VAR" and begin + 2 < len(tokens) and tokens[begin + 2].text == ":":
+        first = tokens[begin + 2].behind
+        return [Edit(first, behind, " boolean;" + blank(place.source.text[first:behind]))]
+    return [Edit(first, behind, blank(text))] if text.strip() else []
+
+
+def syntax_form(source: Source, token: Token | None) -> Finding:
+    """The form that the token belongs to; the token alone where there is none."""
     place = Place.of(source, token.at if token else len(source.text))
     if place.text(-1) in HEADS and place.is_name(-1):
         # Behind declarations the word is read as a name.

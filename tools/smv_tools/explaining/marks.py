@@ -27,11 +27,13 @@ class Edit:
 
 @dataclass
 class Finding:
-    """What is wrong: places, the most telling first; sentences on this one; edits that mend it, or none."""
+    """What is wrong: places, the most telling first; sentences on this one; edits that mend it, or none. Where there are none,
+    `passed` are edits that take away what it stands in, so that the rest can be read."""
 
     marks: list[Mark] = field(default_factory=list)
     sentences: list[str] = field(default_factory=list)
     edits: list[Edit] = field(default_factory=list)
+    passed: list[Edit] = field(default_factory=list)
 
 
 def edited(text: str, edits: Iterable[Edit]) -> str:

@@ -6,8 +6,8 @@ from collections.abc import Iterable, Iterator
 
 from ..denoting import Unknown, names_of
 from ..evaluation import constant as constant_of
-from ..model import Array, Flat, Instance, Item, Model, Scope, Stands, Unreadable
-from ..modules import ArrayType, Declaration, InstanceType, ListType, Module, RangeType
+from ..model import Array, Flat, Instance, Model, Scope, Stands, Unreadable
+from ..modules import ArrayType, Declaration, Definition, InstanceType, ListType, Module, RangeType
 from ..reading import program_of
 from ..refusals import Refusal
 from ..source import Source
@@ -84,7 +84,8 @@ def again_in(source: Source, module: Module, refusal: Refusal) -> Finding | None
     """The name that the module declares again on that line."""
     formals = {it.text: it for it in tokens_between(source, module.first, module.head_behind)[2:]}
     places: dict[str, int] = {name: formals[name].at for name in module.formals if name in formals}
-    members = sorted([*module.declarations, *module.definitions], key=lambda it: it.first)
+    members: list[Declaration | Definition] = [*module.declarations, *module.definitions]
+    members.sort(key=lambda it: it.first)
     for it in members:
         if it.name in places and it.line == refusal.line:
             first = places[it.name]
@@ -303,7 +304,8 @@ def chain_of(model: Model, scope: Scope, name: str, above: list[str]) -> list[st
 
 def constant(model: Model, refusal: Refusal) -> Finding | None:
     main = model.main.module
-    for it in (*main.declarations, *main.definitions):
+    members: list[Declaration | Definition] = [*main.declarations, *main.definitions]
+    for it in members:
         if it.line == refusal.line and it.name in model.symbols:
             marks = [Mark(it.first, it.first + len(it.name))]
             for scope in model.scopes:
@@ -388,6 +390,3 @@ def element_edits(model: Model, first: int, behind: int, found: object, left: Pa
     before, after = model.source.text[first:left.behind], model.source.text[left.behind:behind]
     return [Edit(first, behind, " ".join(f"{before}[{k}]{after}" for k in range(found.type.low, found.type.high + 1)))]
 
-
-__all__ = ["Item", "arguments", "circular", "constant", "index", "left_side", "no_main", "recursive", "reversed_range", "twice",
-           "unknown", "unknown_module"]

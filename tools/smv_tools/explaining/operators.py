@@ -49,6 +49,26 @@ def word_not(place: Place) -> Finding | None:
     return place.found("`not` is no word here: `!` is.", gap, Edit(end, end, ")"), first=-1, last=-1)
 
 
+def if_then(place: Place) -> Finding | None:
+    """`if c then a else b` as a `case`."""
+    if place.text(-1) != "if":
+        return None
+    sentence = "There is no `if`: a `case` has the value of the first arm whose condition is 1."
+    words = [place.token(-1)]
+    for word in ("then", "else"):
+        found = next((it for it in place.tokens[place.at:] if it.text in (word, ";")), None)
+        if found is None or found.text != word:
+            return place.found(sentence, first=-1, last=-1)
+        words.append(found)
+    end = end_of_operand(place.tokens, place.tokens.index(words[2]) + 1, 1)
+    if end is None:
+        return place.found(sentence, first=-1, last=-1)
+    behind, last = place.tokens[end - 1].behind, words[2]
+    gap = len(place.source.text[:last.at].rstrip(" \t"))
+    return place.found(sentence, place.replace(-1, "case"), Edit(words[1].at, words[1].behind, ":"),
+                       Edit(gap, last.behind, "; 1 :"), Edit(behind, behind, "; esac"), first=-1, last=-1)
+
+
 def linear(place: Place) -> Finding | None:
     """`G x` is read as two names."""
     new = LINEAR.get(place.text(-1))
@@ -120,5 +140,5 @@ def equals_in_formula(place: Place) -> Finding | None:
     return place.found("`:=` assigns: equality is `=`.", place.replace(0, "="))
 
 
-FORMS = (other_operator, negated, word_not, linear, until_in_parentheses, sign_of_number, range_as_set,
+FORMS = (other_operator, negated, word_not, if_then, linear, until_in_parentheses, sign_of_number, range_as_set,
          next_without_parentheses, equals_in_formula)

@@ -13,7 +13,7 @@ from ..statuses import Stop
 from .marks import Finding, Mark
 from .rounds import Asked
 from .rules import FAULTS, FILE_RULES, MEMORY, REJECTED, RULES, UNKNOWN, UNKNOWN_MODEL
-from .shown import AROUND, marked, place_rows, row
+from .shown import AROUND, place_rows, row
 
 FAULT = re.compile(r"fault (load missing|load failed|save failed)\n")
 REPLAYED = re.compile(r"trace (\d+) rejected (\w+)(?: (\d+))?\n")
@@ -21,7 +21,6 @@ TESTED = re.compile(r"^spec (\d+) (?:true|false) rejected line (\d+)$", re.M)
 LIMIT = re.compile(r"node limit (\d+)")
 MOST_LIMIT = (1 << 31) - 1
 MOST_SPECS = 8
-NAMES = 2
 
 
 def file_place(data: bytes, path: str, line: int | None) -> list[str]:
@@ -95,8 +94,8 @@ def of_specification(refusal: Refusal, path: str) -> list[str]:
         return ["", f"E24, {rule.title}.", rule.broken, "", rule.instead]
     if 1 <= number <= len(specs):
         item = specs[number - 1]
-        rows = ["", f"{path}, line {item.line}:", *place_rows(source, item.line, Finding([operator_place(source, item.first, item.behind)]),
-                                                                0), ""]
+        place = Finding([operator_place(source, item.first, item.behind)])
+        rows = ["", f"{path}, line {item.line}:", *place_rows(source, item.line, place, 0), ""]
         told = f"Specification {number} holds a path operator."
     else:
         told = f"There is no specification {number}: the model has {len(specs)}."
@@ -160,5 +159,3 @@ def of_outside(put: str) -> list[str]:
 def of_memory(status: int | None) -> list[str]:
     return ["", MEMORY] if status == NO_MEMORY else []
 
-
-__all__ = ["marked", "of_file", "of_memory", "of_outside", "of_rejected", "of_specification", "of_unknown"]

@@ -2,13 +2,12 @@
 from __future__ import annotations
 
 import time
-from collections.abc import Callable
-from dataclasses import dataclass, field
+from dataclasses import dataclass, field, replace
 
 from ..program import Program
 from ..refusals import Refusal
 from ..source import Source
-from .finding import finding_of
+from .finding import OF_TEXT, finding_of
 from .marks import Edit, Finding, Mark, before_edits, edited, lines_of
 
 MOST = 20
@@ -28,11 +27,12 @@ class Mistake:
 @dataclass
 class Mistakes:
     """The mistakes in the order in which the program tells them. `clear`: the copy with all mends breaks no rule; None where
-    that wasn't asked to the end."""
+    that wasn't asked to the end. `passed`: something was taken away, so that of the rest only the syntax was looked at."""
 
     found: list[Mistake]
     clear: bool | None
     copy: Source
+    passed: bool = False
 
 
 class Asked:
@@ -57,7 +57,7 @@ class Asked:
         return None, refusal is not None
 
 
-def goes_on(old: Refusal, place: Finding, new: Refusal | None, new_place: Callable[[], Finding]) -> bool:
+def goes_on(old: Refusal, place: Finding, new: Refusal | None, new_place: Finding) -> bool:
     """Whether the mend took the mistake away: the next one is another."""
     if new is None or new.code != old.code and int(new.code[1:]) > int(old.code[1:]):
         return True
@@ -65,7 +65,7 @@ def goes_on(old: Refusal, place: Finding, new: Refusal | None, new_place: Callab
         return old.code in ("E1", "E2") and new.code in ("E1", "E2", "E4", "E5")
     if (new.line or 0) != (old.line or 0) or new.words != old.words:
         return new.code not in ("E1", "E2", "E4", "E5") or (new.line or 0) > (old.line or 0)
-    marks = new_place().marks
+    marks = new_place.marks
     return bool(marks and place.marks) and before_edits(marks[0].first, place.edits) > place.marks[0].first
 
 
@@ -77,30 +77,33 @@ def in_file(finding: Finding, history: list[list[Edit]]) -> Finding:
         return place
 
     marks = [Mark(back(it.first), max(back(it.behind), back(it.first)), it.note) for it in finding.marks]
-    return Finding(marks, finding.sentences, finding.edits)
+    return replace(finding, marks=marks)
 
 
 def mistakes_of(source: Source, refusal: Refusal, asked: Asked) -> Mistakes:
     """The mistakes of a text that the program refuses so, as far as each can be mended."""
     found: list[Mistake] = []
     history: list[list[Edit]] = []
-    text, begun = source, time.monotonic()
+    text, begun, passed = source, time.monotonic(), False
     finding = finding_of(text, refusal, asked.rules)
     while True:
         mistake = Mistake(refusal, in_file(finding, history))
         found.append(mistake)
-        if not finding.edits:
-            return Mistakes(found, False, text)
-        changed = Source(edited(text.text, finding.edits).encode("latin-1"), source.path)
-        after, whole = asked.all(changed.data)
+        edits = finding.edits or finding.passed
+        if not edits:
+            return Mistakes(found, False, text, passed)
+        changed = Source(edited(text.text, edits).encode("latin-1"), source.path)
+        passed = passed or not finding.edits
+        after, whole = (asked.rules(changed.data), True) if passed else asked.all(changed.data)
         following = finding_of(changed, after, asked.rules) if after is not None else Finding()
-        if not goes_on(refusal, finding, after, lambda new=following: new):  # type: ignore[misc]
-            return Mistakes(found, False, text)
-        mistake.written = [(line, changed.line(line)) for line in lines_of(text, finding.edits)]
-        history.append(finding.edits)
+        if not goes_on(refusal, replace(finding, edits=edits), after, following):
+            return Mistakes(found, False, text, passed)
+        if finding.edits:
+            mistake.written = [(line, changed.line(line)) for line in lines_of(text, edits)]
+        history.append(edits)
         text = changed
-        if after is None:
-            return Mistakes(found, True if whole else None, text)
+        if after is None or passed and after.code not in OF_TEXT:
+            return Mistakes(found, not passed if whole else None, text, passed)
         if len(found) == MOST or time.monotonic() - begun > PATIENCE:
             return Mistakes(found, None, text)
         refusal, finding = after, following

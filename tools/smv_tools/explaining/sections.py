@@ -47,7 +47,8 @@ def lower_case(place: Place) -> Finding | None:
     """A section's word in small letters is a name."""
     for distance in (0, -1):
         new = place.text(distance).upper()
-        if place.is_name(distance) and new in (*SECTIONS, "MODULE") and (distance == 0) == place.wanted.startswith("a section"):
+        wanted = place.wanted.startswith(("a section", "`MODULE`"))
+        if place.is_name(distance) and new in (*SECTIONS, "MODULE") and (distance == 0) == wanted:
             return place.found(f"`{new}` is written in capitals: `{place.text(distance)}` is a name.",
                                place.replace(distance, new), first=distance, last=distance)
     return None
@@ -200,7 +201,7 @@ def sign_in_type(place: Place) -> Finding | None:
 def instances(place: Place) -> Finding | None:
     """`p : array 0..1 of cell;` as an instance for each."""
     at = place.at - (1 if place.text(-1) == "process" else 0)
-    if at < 6 or [it.text for it in place.tokens[at - 2:at]][1:] != ["of"] or not place.is_name():
+    if at < 7 or place.tokens[at - 1].text != "of" or not (place.is_name() or place.text() == "process"):
         return None
     name, colon, _, low, _, high = (it.text for it in place.tokens[at - 7:at - 1])
     sentence = "There are no arrays of instances: each has a name of its own."

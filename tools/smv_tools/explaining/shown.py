@@ -42,10 +42,10 @@ def marked(source: Source, mark: Mark) -> tuple[str, str]:
 def place_rows(source: Source, line: int | None, finding: Finding, around: int) -> Iterator[str]:
     """The lines around the first mark, or around the line that is told, with the marks below theirs."""
     lines = {source.line_at(mark.first): mark for mark in reversed(finding.marks)}
-    told = line or (source.line_at(finding.marks[0].first) if finding.marks else None)
+    count = len(source.lines)
+    told = source.line_at(finding.marks[0].first) if finding.marks and (line or 0) <= count else line
     if told is None:
         return
-    count = len(source.lines)
     wanted = set(range(max(1, told - around), min(told, count) + 1)) | set(sorted(lines)[:MOST_LINES])
     last = 0
     for at in sorted(wanted | {told}):
@@ -71,10 +71,11 @@ def heading(source: Source, mistake: Mistake) -> str:
     return f"{source.path}, line {line}:" if line else f"{source.path}:"
 
 
-def written_rows(source: Source, mistake: Mistake) -> Iterator[str]:
+def written_rows(source: Source, mistake: Mistake, first: bool) -> Iterator[str]:
     if not mistake.written:
         return
-    yield ""
+    if first:
+        yield ""
     yield "Write:"
     for line, text in mistake.written[:MOST_LINES]:
         empty = not text.strip() and source.line(line).strip()
@@ -85,24 +86,24 @@ def written_rows(source: Source, mistake: Mistake) -> Iterator[str]:
 
 def mistake_rows(source: Source, mistake: Mistake, first: bool) -> Iterator[str]:
     """What is told of one mistake: of the first one the rule and what to write in general, too."""
-    rule = RULES[mistake.refusal.code]
+    rule, sentences = RULES[mistake.refusal.code], [it for it in mistake.finding.sentences if it]
     yield ""
     yield heading(source, mistake)
     yield from place_rows(source, mistake.refusal.line, mistake.finding, AROUND if first else 0)
-    yield ""
-    yield f"{mistake.refusal.code}, {rule.title}."
-    yield from (sentence for sentence in mistake.finding.sentences if sentence)
-    if first or not mistake.finding.sentences:
-        yield rule.broken
-    yield from written_rows(source, mistake)
-    if not mistake.written:
-        yield ""
-        yield rule.instead
+    if first:
+        yield from ("", f"{mistake.refusal.code}, {rule.title}.", *sentences, rule.broken)
+    else:
+        yield f"{mistake.refusal.code}: {' '.join(sentences or [rule.broken])}"
+    yield from written_rows(source, mistake, first)
+    if first and not mistake.written:
+        yield from ("", rule.instead)
 
 
 def end_row(mistakes: Mistakes) -> str:
     count, last = len(mistakes.found), mistakes.found[-1]
     changes = "this change" if count == 1 else f"these {count} changes"
+    if mistakes.passed:
+        return "Of the rest only the grammar was looked at."
     if mistakes.clear:
         return f"With {changes} the model is taken."
     if mistakes.clear is None:

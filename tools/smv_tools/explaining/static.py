@@ -3,12 +3,12 @@ from __future__ import annotations
 
 from collections.abc import Iterator
 
-from ..model import Item, Model, Scope
+from ..model import Item, Model
 from ..modules import ArrayType, InstanceType, ListType, PlainType, RangeType
 from ..reading import program_of
 from ..refusals import Refusal
 from ..source import Source
-from ..syntax import LOGIC, Binary, Case, Expr, Group, Next, Path, Unary, Until, bare, children, walk, written
+from ..syntax import LOGIC, Binary, Case, Expr, Group, Next, Path, Unary, Until, children, walk, written
 from .marks import Edit, Finding, Mark
 from .named import on_line, tokens_between
 from .uses import NEXT, PATH_OPERATORS, places, uses
@@ -258,10 +258,8 @@ def equal_edits(model: Model, item: Item, over: Binary) -> list[Edit]:
     """`<->` in place of `=`, in parentheses where it isn't the whole of something."""
     sign = next(it for it in tokens_between(model.source, over.left.behind, over.right.first) if it.text == "=")
     edits = [Edit(sign.at, sign.behind, "<->")]
-    outer = (above(item.expr, over) or [None])[-1]
-    if outer is not None and not isinstance(outer, Group):
+    outer = above(item.expr, over)[-1:]
+    if outer and not isinstance(outer[0], Group):
         edits += [Edit(over.first, over.first, "("), Edit(over.behind, over.behind, ")")]
     return edits
 
-
-__all__ = ["Scope", "bare", "beside", "bits", "circle", "limit", "next_stands", "operates", "twice"]
