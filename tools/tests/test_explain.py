@@ -9,6 +9,8 @@ from conftest import EXAMPLES, TOP, Smv
 from hypothesis import given, settings
 from hypothesis import strategies as st
 
+from smv_tools.calls import Call
+from smv_tools.explaining.command import run
 from smv_tools.explaining.lexing import loose_tokens
 from smv_tools.explaining.marks import Edit, before_edits, edited
 from smv_tools.explaining.places import Place, cut_place
@@ -18,6 +20,7 @@ from smv_tools.program import Program
 from smv_tools.reading import SyntaxFault, program_of
 from smv_tools.source import Source, printable
 from smv_tools.tokens import LexFault, tokens_of
+from smv_tools.words import commands
 
 MISTAKES = sorted((TOP / "tools/tests/mistakes").glob("*.smv"))
 TEXTS = [path.read_bytes() for path in EXAMPLES if path.stat().st_size < 4000]
@@ -25,6 +28,8 @@ PLACE = re.compile(r"^-- place: line (\d+), column (\d+)$", re.M)
 TOKEN = re.compile(r"^-- token: (.*)$", re.M)
 WRITE = re.compile(r"^-- write: (.*)$", re.M)
 HAVE_TOKENS, HAVE_LINES = 40, 30
+ODD = [b"?", b"!=", b" xor ", b"(", b")", b" case ", b" esac ", b"\xff\x1b[1m", b"_", b"99999999999", b"/*", b"*/", b"//", b";", b"..",
+       b" MODULE ", b" VAR ", b" LTLSPEC G ", b" not ", b"{", b"]", b" next(", b" A ", b" array 0..1 of ", b"'", b"\xe2\x89\xa0"]
 
 
 def told(program: Program, path: Path) -> str:
@@ -105,7 +110,7 @@ def test_files_beside_the_model(command: str, data: bytes, code: str, smv: Smv, 
     assert put.returncode == 7 and f"\n{code}, " in put.stdout
 
 
-def test_other_variables_and_bad_nodes(smv: Smv, tmp_path: Path) -> None:
+def test_other_variables(smv: Smv, tmp_path: Path) -> None:
     proof = tmp_path / "proof"
     smv("check", "examples/swap.smv", "--proof", str(proof))
     put = smv("explain", "recheck", "examples/counter.smv", str(proof))
@@ -117,6 +122,39 @@ def test_rejected_traces(smv: Smv, tmp_path: Path) -> None:
     trace.write_text("trace 1\nstate 0\n  a = 1\n  b = 0\nloop 0\n")
     put = smv("explain", "replay", "examples/swap.smv", str(trace))
     assert put.returncode == 1 and "State 0 isn't initial" in put.stdout
+
+
+@pytest.mark.parametrize("old,new,shown,told", [
+    ("n 1 0 1", "n 0 1 1", "n 0 1 1", "P4, a bad node."), ("n 1 0 1", "n 1 0", "n 1 0", "P1, a line"),
+    ("set 3", "set 0", "end", "This line is the first of the block of specification 1"),
+])
+def test_lines_of_proof_files(old: str, new: str, shown: str, told: str, smv: Smv, tmp_path: Path) -> None:
+    """The line that is refused, or that doesn't show what it has to, is shown."""
+    proof = tmp_path / "proof"
+    smv("check", "examples/swap.smv", "--proof", str(proof))
+    proof.write_text(proof.read_text().replace(f"\n{old}\n", f"\n{new}\n", 1))
+    put = smv("explain", "recheck", "examples/swap.smv", str(proof)).stdout
+    assert f"\n{told}" in put and re.search(rf"^> +\d+ \| {shown}$", put, re.M)
+
+
+@pytest.mark.parametrize("command,code", [("recheck", "P5"), ("replay", "Q3")])
+def test_files_that_are_too_long(command: str, code: str, smv: Smv, tmp_path: Path) -> None:
+    file = tmp_path / "file"
+    with file.open("wb") as sink:
+        sink.truncate((64 << 20) + 1)
+    put = smv("explain", command, "examples/swap.smv", str(file))
+    assert put.returncode == 7 and put.stdout.startswith(f"refused {code}\n") and f"\n{code}, " in put.stdout
+
+
+def test_want_of_memory(program: Program, capfd: pytest.CaptureFixture[str], tmp_path: Path) -> None:
+    model, count = tmp_path / "wide.smv", 60
+    lines = ["MODULE main", "VAR", *(f"v{k} : 0..1;" for k in range(count)), "ASSIGN"]
+    lines += [f"next(v{k}) := v{(k * 7 + 3) % count};" for k in range(count)]
+    model.write_text("\n".join([*lines, "SPEC AG (" + " | ".join(f"v{k} & !v{(k * 13 + 5) % count}" for k in range(count)) + ")\n"]))
+    call = Call(commands()["explain"], [str(model)], {"--nodes": "20000000"})
+    call.__dict__["program"] = Program(program.path, memory=20_000_000)
+    assert run(call) == 6
+    assert "Memory ran out" in capfd.readouterr().out
 
 
 # ---- places and edits
@@ -141,6 +179,20 @@ def test_the_reader_fails_where_the_program_does(program: Program, data_of: byte
         assert (found.at if found else None) == (fault.token.at if fault.token else None)
     else:
         assert refusal is None or refusal.code not in ("E1", "E2", "E4")
+
+
+@settings(max_examples=25)
+@given(st.sampled_from(TEXTS), st.data())
+def test_odd_texts_are_explained(program: Program, text: bytes, data: st.DataObject) -> None:
+    """Whatever is put at some places of a text, something is told, on lines that can be shown."""
+    for _ in range(data.draw(st.integers(1, 3))):
+        at = data.draw(st.integers(0, len(text)))
+        text = text[:at] + data.draw(st.sampled_from(ODD)) + text[at:]
+    asked, source = Asked(program, []), Source(text)
+    refusal, _ = asked.all(text)
+    if refusal is not None:
+        put = text_of(source, mistakes_of(source, refusal, asked))
+        assert f"\n{refusal.code}, " in put and all(line.isprintable() for line in put.splitlines())
 
 
 @given(st.sampled_from(TEXTS))
