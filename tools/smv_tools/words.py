@@ -8,7 +8,7 @@ import importlib.util
 from dataclasses import dataclass, field
 from functools import cache
 
-PACKAGES = ("explaining", "failures", "imports", "probes", "order")
+PACKAGES = ("explaining", "failures", "imports", "probes", "order", "reports", "machines", "layout", "language_server")
 
 
 @dataclass(frozen=True)
