@@ -1,7 +1,7 @@
 # The words of `check` and `recheck`: several models, --verbose, and blocks that a proof file lacks. To be sourced.
 
 # Splits the words behind `check` into the array options, with their values, and the array models. The first --verbose is none
-# of the options, and sets verbose; --no-probe sets probe, and is none either.
+# of the options, and sets verbose; --no-probe sets probe, --jobs with a number sets jobs, and they are none either.
 split_words() {
   options=()
   models=()
@@ -20,6 +20,10 @@ split_words() {
         verbose=yes
         ;;
       --no-probe) probe=no ;;
+      --jobs | --jobs=*)
+        [ "$1" = --jobs ] && [ $# -gt 1 ] && set -- "--jobs=$2" "${@:3}"
+        if [ -z "$jobs" ] && [[ $1 =~ ^--jobs=[1-9][0-9]{0,3}$ ]]; then jobs=${1#*=}; else options+=("$1"); fi
+        ;;
       -?*) options+=("$1") ;;
       *) models+=("$1") ;;
     esac
@@ -88,6 +92,17 @@ has_proofs() {
   return 1
 }
 
+# check_side_by_side: checks the models in so many runs at a time, and ends; comes back where there is no Python.
+check_side_by_side() {
+  local status
+  tool smv_tools.machines.checking "$built" "$jobs" "${options[@]}" -- "${models[@]}"
+  status=$?
+  [ "$status" -ne "$NO_COMMAND" ] || { tell "--jobs needs python3: the check is run as one" && return; }
+  [ "$status" -ne "$USAGE" ] || tool smv_tools.plain wrong "${words[@]}"
+  tell_end "$status" "${words[@]}"
+  exit "$status"
+}
+
 # Sets the array models to the models of `check`; empty for other commands. Sets the array words to the program's words.
 read_words() {
   words=("$@")
@@ -96,27 +111,34 @@ read_words() {
   fi
   verbose=
   probe=
+  jobs=
   split_words "${@:2}"
   if [ "${1-}" != check ]; then
     models=()
     verbose=
-  elif [ -n "$verbose$probe" ]; then
+    jobs=
+  elif [ -n "$verbose$probe$jobs" ]; then
     words=(check "${options[@]}" -- "${models[@]}")
   fi
 }
 
-# Clears verbose where the check has to be run as one, and says why. $1 is the build.
+# Clears verbose and jobs where the check has to be run as one, and says why. $1 is the build.
 refuse_verbose() {
-  if [ -z "$verbose" ]; then
+  if [ -z "$verbose$jobs" ]; then
     return
   elif [ -z "$1" ]; then
-    tell "--verbose needs a build of the program, and none could be made: the check is run as one"
+    tell "${verbose:+--verbose}${jobs:+--jobs} needs a build of the program, and none could be made: the check is run as one"
   elif has_proofs "${words[@]}"; then
     tell "with --proof the check is run as one, since one run makes the proof file"
+  elif [ -n "$verbose" ] && [ -n "$jobs" ]; then
+    tell "with --verbose one specification is tried after the other, and --jobs isn't used"
+    jobs=
+    return
   else
     return
   fi
   verbose=
+  jobs=
 }
 
 # ranges NUMBER..: rising numbers as `1 to 5, 7`.
@@ -187,7 +209,10 @@ run_words() {
     stop "proof files need a build of the program, and none could be made"
   elif [ -z "$name" ]; then
     run_tried "${words[@]}"
-  elif [ "${#models[@]}" -gt 1 ] && ! has_proofs "${words[@]}"; then
+  elif [ -n "$jobs" ] && [ "${#models[@]}" -gt 0 ]; then
+    check_side_by_side
+  fi
+  if [ "${#models[@]}" -gt 1 ] && ! has_proofs "${words[@]}"; then
     check_each
   elif [ "${#models[@]}" -eq 1 ]; then
     check_model "${models[0]}" "${words[@]}"

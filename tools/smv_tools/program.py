@@ -1,8 +1,10 @@
 """The proved program: where its build stands, and how it is run."""
 from __future__ import annotations
 
+import ctypes
 import os
 import resource
+import signal
 import subprocess
 import tempfile
 from collections.abc import Callable, Sequence
@@ -53,12 +55,18 @@ def find_build() -> Path:
     return Path(found)
 
 
-def limited(memory: int | None) -> Callable[[], None] | None:
-    """What a child does before it starts: takes at most so many bytes of memory."""
-    if memory is None:
-        return None
-    most = memory
-    return lambda: resource.setrlimit(resource.RLIMIT_AS, (most, most))
+# Linux's call for what becomes of a child whose parent ends.
+LIBRARY = ctypes.CDLL(None)
+PARENT_ENDS = 1
+
+
+def limited(memory: int | None) -> Callable[[], None]:
+    """What a child does before it starts: it takes at most so many bytes of memory, and ends where who asked has ended."""
+    def start() -> None:
+        LIBRARY.prctl(PARENT_ENDS, signal.SIGKILL)
+        if memory is not None:
+            resource.setrlimit(resource.RLIMIT_AS, (memory, memory))
+    return start
 
 
 class Program:

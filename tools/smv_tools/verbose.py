@@ -2,14 +2,13 @@
 """Checks the specifications of a model one after the other, and tells on standard error which one is at work:
 ./smv check FILE --verbose calls this with the program, the options of `check`, `--` and the file.
 
-For each line with specifications the program runs over a copy of the file in which the sections SPEC of all other lines are
-blank, so that lines stay. The report is put together from the reports of these runs, and is byte for byte that of `check`:
-the program tries each specification from the diagrams of the relation alone. But it makes these once, together with a search
-for faults in all specifications, and one that meets the node limit leaves all of them unknown. So it runs once before, over a
-copy with `INVAR 0` in main: without a step all specifications are decided at once, where the search has room.
+For each line with specifications the program runs over a copy of the text, as `splitting` has it, which puts the report
+together from theirs too.
 
 Ends with the status of `check`, or with 4 where the output fails. Where the check has to be run as one nothing is put, and
 the status is 75."""
+from __future__ import annotations
+
 import os
 import re
 import signal
@@ -17,134 +16,47 @@ import subprocess
 import sys
 import tempfile
 import time
+from collections.abc import Sequence
+from types import FrameType
 
-OUTPUT_FAILED = 4
-AS_ONE = 75
-DECIDED = (0, 1, 2)
+from .report import Report, Unread, Verdict
+from .source import Source
+from .splitting import AsOne, Split, lines_of, parts_on, places_of
+from .statuses import AS_ONE, DECIDED, OUTSIDE
+
 PATIENCE = 2
-MOST_BYTES = 1 << 20
-SECTIONS = (b"VAR", b"ASSIGN", b"DEFINE", b"INIT", b"INVAR", b"TRANS", b"SPEC", b"FAIRNESS", b"MODULE")
-TOKEN = re.compile(
-    rb"(?P<none>[ \t\r\n]+|--[^\n]*)|[A-Za-z](?:[A-Za-z0-9_]|-(?=[A-Za-z0-9_]))*|[0-9]+"
-    rb"|<->|<=|>=|->|:=|\.\.|[:;,.()\[\]{}=<>+\-*/!&|]"
-)
-REPORT = re.compile(rb"((?:.*\n)*)total (\d+) true (\d+) false (\d+) unknown (\d+)\n")
-HEAD = re.compile(rb"spec \d+( line (\d+) (true|false|unknown)\b)")
-
-
-class AsOne(Exception):
-    """The check has to be run as one. The text says why, where the program's answer doesn't."""
 
 
 class Interrupted(BaseException):
     """A signal asks for the end."""
 
 
-# ---- the text
-
-def tokens_of(text):
-    """The tokens, each as its bytes with its first place and the place behind it."""
-    tokens, at = [], 0
-    while at < len(text):
-        token = TOKEN.match(text, at)
-        if not token:
-            raise AsOne
-        at = token.end()
-        if token["none"] is None:
-            tokens.append((token[0], token.start(), at))
-    return tokens
-
-
-def specs_of(text, tokens):
-    """The sections SPEC: the line of each, its first place and the place behind its last token."""
-    begins = [k for k, token in enumerate(tokens) if token[0] in SECTIONS]
-    specs, line, at = [], 1, 0
-    for k, behind in zip(begins, [*begins[1:], len(tokens)]):
-        word, first, _ = tokens[k]
-        line, at = line + text.count(b"\n", at, first), first
-        if word == b"SPEC":
-            specs.append((line, first, tokens[behind - 1][2]))
-    return specs
-
-
-def only(text, specs, line):
-    """The text with the sections SPEC of this line alone."""
-    parts, at = [], 0
-    for other, first, behind in specs:
-        if other != line:
-            parts += [text[at:first], re.sub(rb"[^\n]", b" ", text[first:behind])]
-            at = behind
-    return b"".join(parts) + text[at:]
-
-
-def without_steps(text, tokens):
-    """The text with `INVAR 0` as the first section of main."""
-    words = [word for word, _, _ in tokens]
-    for k in range(len(words) - 1):
-        if words[k:k + 2] == [b"MODULE", b"main"]:
-            at = tokens[k + 3 if words[k + 2:k + 4] == [b"(", b")"] else k + 1][2]
-            return text[:at] + b" INVAR 0 " + text[at:]
-    raise AsOne
-
-
-# ---- reports
-
-def parts_of(report):
-    """The parts of a report, one for each specification: its line, its verdict, and its text without `spec J`."""
-    whole = REPORT.fullmatch(report)
-    parts = []
-    for text in re.split(rb"^(?=spec )", whole[1], flags=re.M)[1:] if whole else []:
-        head = HEAD.match(text)
-        if not head:
-            raise AsOne("a report isn't read")
-        parts.append((int(head[2]), head[3].decode(), text[head.start(1):]))
-    if not whole or total_of(parts) != report[whole.end(1):]:
-        raise AsOne("a report isn't read")
-    return parts
-
-
-def counts_of(parts):
-    found = [verdict for _, verdict, _ in parts]
-    return [found.count(it) for it in ("true", "false", "unknown")]
-
-
-def total_of(parts):
-    return b"total %d true %d false %d unknown %d\n" % (len(parts), *counts_of(parts))
-
-
-def status_of(parts):
-    _, false, unknown = counts_of(parts)
-    return 2 if unknown else 1 if false else 0
-
-
-# ---- runs
-
 class Screen:
     """Standard error: lines with the seconds since the start, and on a terminal a last line that tells of a long run."""
 
-    def __init__(self):
+    def __init__(self) -> None:
         self.begun, self.shown = time.monotonic(), False
 
-    def seconds(self):
+    def seconds(self) -> int:
         return int(time.monotonic() - self.begun)
 
-    def write(self, text):
+    def write(self, text: str) -> None:
         # That nobody reads it changes no report.
         try:
             os.write(2, text.encode())
         except OSError:
             pass
 
-    def clear(self):
+    def clear(self) -> None:
         if self.shown:
             self.write("\r\033[K")
         self.shown = False
 
-    def tell(self, text):
+    def tell(self, text: str) -> None:
         self.clear()
         self.write(f"smv: {self.seconds()} s: {text}\n")
 
-    def show(self, process):
+    def show(self, process: subprocess.Popen[bytes]) -> None:
         """Shows what memory the process takes."""
         try:
             with open(f"/proc/{process.pid}/status") as file:
@@ -159,11 +71,11 @@ class Screen:
 class Runs:
     """Runs of the program with the same options, over copies of a file in a folder."""
 
-    def __init__(self, program, options, room, screen):
+    def __init__(self, program: str, options: Sequence[str], room: str, screen: Screen) -> None:
         self.copy, self.screen, self.parent = os.path.join(room, "model.smv"), screen, os.getppid()
         self.words = [program, "check", *options, "--", self.copy]
 
-    def report(self, text):
+    def put(self, text: bytes) -> tuple[bytes, int]:
         """What the program puts for the text, and its status."""
         with open(self.copy, "wb") as file:
             file.write(text)
@@ -174,7 +86,7 @@ class Runs:
                 process.kill()
                 raise
 
-    def wait(self, process):
+    def wait(self, process: subprocess.Popen[bytes]) -> bytes:
         while True:
             try:
                 return process.communicate(timeout=1)[0]
@@ -184,95 +96,87 @@ class Runs:
             if os.getppid() != self.parent:
                 raise Interrupted(signal.SIGTERM)
 
-    def parts(self, text):
-        """The parts of the report for the text; none where its status is another one."""
-        report, status = self.report(text)
+    def report(self, text: bytes) -> Report | None:
+        """The report for the text; none where its status is another one."""
+        put, status = self.put(text)
         if status not in DECIDED:
             return None
-        parts = parts_of(report)
-        if status != status_of(parts):
+        try:
+            found = Report.read(put)
+        except Unread:
+            raise AsOne("a report isn't read") from None
+        if status != found.status:
             raise AsOne("a report has another status")
-        return parts
+        return found
 
 
-def named(numbers, count, line):
+def named(numbers: Sequence[int], count: int, line: int) -> str:
     word = "specification" if len(numbers) == 1 else "specifications"
     return f"{word} {', '.join(map(str, numbers))} of {count}, line {line}"
 
 
-def verdicts(parts, places):
-    """The numbers of the specifications at these places by their verdicts."""
-    found = {}
-    for place in places:
-        found.setdefault(parts[place][1], []).append(str(place + 1))
+def verdicts(parts: Sequence[Verdict]) -> str:
+    """The numbers of the specifications by their verdicts."""
+    found: dict[str, list[str]] = {}
+    for part in parts:
+        found.setdefault(part.verdict, []).append(str(part.number))
     return "; ".join(f"{', '.join(numbers)} {verdict}" for verdict, numbers in found.items())
 
 
-def lines_of(runs, text, tokens):
-    """The line of each specification, in order, where all of them can be tried."""
+def check(runs: Runs, source: Source) -> Report:
+    """The report, from one run for each line."""
+    split = Split(source)
     runs.screen.tell("the relation, and faults")
-    found = runs.parts(without_steps(text, tokens))
-    if not found:
+    first = runs.report(split.without_steps())
+    if first is None or not first.parts:
         raise AsOne
-    if all(verdict == "unknown" for _, verdict, _ in found):
-        raise AsOne("the node limit is met before a specification is tried")
-    return [line for line, _, _ in found]
-
-
-def check(runs, text):
-    """The parts of the report, in order."""
-    tokens = tokens_of(text)
-    specs, lines = specs_of(text, tokens), lines_of(runs, text, tokens)
-    parts = [None] * len(lines)
-    for line in dict.fromkeys(lines):
-        places = [place for place, it in enumerate(lines) if it == line]
-        runs.screen.tell(named([place + 1 for place in places], len(lines), line))
-        found = runs.parts(only(text, specs, line))
-        if found is None or [it for it, _, _ in found] != [line] * len(places):
+    lines, found = lines_of(first), list[Verdict]()
+    for line, numbers in places_of(lines).items():
+        runs.screen.tell(named(numbers, len(lines), line))
+        report = runs.report(split.only(line))
+        if report is None:
             raise AsOne("that is another report by itself")
-        for place, part in zip(places, found):
-            parts[place] = part
-        runs.screen.tell(verdicts(parts, places))
-    return parts
+        parts = parts_on(report, line, numbers)
+        found += parts
+        runs.screen.tell(verdicts(parts))
+    return Report(sorted(found, key=lambda part: part.number))
 
 
-def put(report):
+def put(data: bytes) -> int:
     """Puts the report, and gives the status of that."""
     try:
-        while report:
-            report = report[os.write(1, report):]
+        while data:
+            data = data[os.write(1, data):]
     except OSError:
-        return OUTPUT_FAILED
+        return OUTSIDE
     return 0
 
 
-def read(path):
+def read(path: str) -> Source:
     # A pipe can be read once, so the program reads it. What is longer than a model is refused, however long it is.
     if not os.path.isfile(path):
         raise AsOne
-    with open(path, "rb") as file:
-        return file.read(MOST_BYTES + 1)
+    return Source.load(path)
 
 
-def main(program, *words):
+def main(program: str, *words: str) -> int:
     *options, _, path = words
     if sys.stderr is None:
         return AS_ONE
     screen = Screen()
     try:
         with tempfile.TemporaryDirectory() as room:
-            parts = check(Runs(program, options, room, screen), read(path))
+            report = check(Runs(program, options, room, screen), read(path))
     except Exception as why:
         if str(why):
             screen.tell(f"{why}: the check is run as one")
         return AS_ONE
     finally:
         screen.clear()
-    report = b"".join(b"spec %d%s" % (place + 1, text) for place, (_, _, text) in enumerate(parts))
-    return put(report + total_of(parts)) or status_of(parts)
+    return put(report.put()) or report.status
 
 
-def interrupt(number, _):
+def interrupt(number: int, _: FrameType | None) -> None:
     raise Interrupted(number)
 
 

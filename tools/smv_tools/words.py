@@ -69,14 +69,15 @@ class Command:
 MODEL = Operand("MODEL", "model")
 NODES = Option("--nodes", "N", "the node limit: 1 to 2147483647, 1000000 where none is asked", "number")
 VERBOSE = Option("--verbose", "", "tell on standard error which specification is at work")
+JOBS = Option("--jobs", "N", "so many runs at a time, over models and specifications", "number")
 PROOF = Option("--proof", "FILE", "save a proof of each verdict in FILE", "file")
 PARTIAL = Option("--partial", "", "take a proof file that has no block for some specification")
 
 PROGRAM_COMMANDS = (
     Command(
-        "check", "decide each specification of a model", (Operand("MODEL", "model", many=True),), (NODES, PROOF, VERBOSE),
+        "check", "decide each specification of a model", (Operand("MODEL", "model", many=True),), (NODES, PROOF, VERBOSE, JOBS),
         "Puts one line for each SPEC, in order, and the path of a false one below it. Of several models each report stands "
-        "behind a line `model NAME`, and the status is the greatest. With --proof one model is taken.",
+        "behind a line `model NAME`, and the status is the greatest. With --proof one model is taken, and one run decides all.",
         "smv check examples/swap.smv",
     ),
     Command(
