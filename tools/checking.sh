@@ -200,9 +200,35 @@ recheck_whole() {
   return "$status"
 }
 
+# has_names WORD..: whether a word behind the model of `delay` or `strong` has a letter, as names of specifications do.
+has_names() {
+  local word model= value=
+  for word in "${@:2}"; do
+    case $value$word in
+      --nodes) value=yes ;;
+      yes*) value= ;;
+      -?*) ;;
+      *)
+        [ -z "$model" ] || [[ ! $word =~ [A-Za-z] ]] || return 0
+        model=yes
+        ;;
+    esac
+  done
+  return 1
+}
+
 # run_words WORD..: runs the program on the words, and ends.
 run_words() {
-  local status
+  local status named
+  case ${1-} in
+    delay | strong)
+      if has_names "$@"; then
+        named=$(tool smv_tools.naming "$@")
+        status=$?
+        [ "$status" -eq 0 ] && eval "set -- $named" || [ "$status" -eq "$NO_COMMAND" ] || exit "$status"
+      fi
+      ;;
+  esac
   read_words "$@"
   refuse_verbose "$name"
   if [ -z "$name" ] && has_proofs "${words[@]}"; then

@@ -94,14 +94,16 @@ PROGRAM_COMMANDS = (
     Command(
         "delay", "least and longest time from one specification to another",
         (MODEL, Operand("FROM", "number"), Operand("TO", "number")), (NODES,),
-        "FROM and TO are numbers of specifications without path operators. The time is counted in steps.",
-        "smv delay examples/waiting_counter.smv 2 3",
+        "FROM and TO are specifications without path operators, by their numbers or by the names that comments NAME give them. "
+        "The time is counted in steps.",
+        "smv delay examples/waiting_counter.smv two five",
     ),
     Command(
         "strong", "a path that keeps promises of strong fairness, or why there is none",
         (MODEL, Operand("PAIR", "word", optional=True, many=True)), (NODES,),
-        "Each PAIR is I:J, two specifications without path operators: where I is true again and again, so is J.",
-        "smv strong examples/kept_out.smv 4:5 3:4",
+        "Each PAIR is I:J, two specifications without path operators, by their numbers or their names: where I is true again and "
+        "again, so is J.",
+        "smv strong examples/kept_out.smv left_has:nothing free:left_has",
     ),
     Command(
         "gen", "put the text of a ring of N processes", (Operand("N", "number"),),

@@ -1,17 +1,16 @@
 """`smv test`: all specifications of models against what their comments expect."""
 from __future__ import annotations
 
+import sys
 import tempfile
 import time
-from collections.abc import Iterator, Sequence
-from contextlib import contextmanager
+from collections.abc import Sequence
 from pathlib import Path
 
 from rich.progress import BarColumn, MofNCompleteColumn, Progress, TextColumn, TimeElapsedColumn
 
 from ..builds import build_of
 from ..calls import Call
-from ..report import Verdict
 from ..screen import console, put, tell
 from ..statuses import USAGE, Stop
 from .course import Course, Engine, Rules
@@ -25,7 +24,6 @@ from .tasks import Limits, Result, Task
 
 USUAL_NODES = 1_000_000
 USUAL_RETRIES = 2
-NO_RETRIES = ("0",)
 
 
 def room_of(call: Call, folder: str) -> Room | None:
@@ -67,21 +65,35 @@ def rules_of(call: Call, plans: Sequence[Plan]) -> Rules:
 
 
 class Progressing:
-    """Lines on standard output, and on a terminal a bar on standard error."""
+    """Lines on standard output, and a bar on standard error where that is a terminal."""
 
     def __init__(self, table: Table, quiet: bool) -> None:
         self.table, self.quiet = table, quiet
-        self.bar = Progress(TextColumn("smv"), BarColumn(), MofNCompleteColumn(), TimeElapsedColumn(),
-                            console=console(error=True), transient=True, disable=not console(error=True).is_terminal)
-        self.work = self.bar.add_task("", total=len(table.order))
+        self.bar: Progress | None = None
+        if sys.stderr.isatty():
+            self.bar = Progress(TextColumn("smv"), BarColumn(), MofNCompleteColumn(), TimeElapsedColumn(),
+                                console=console(error=True), transient=True)
+            self.work = self.bar.add_task("", total=len(table.order))
+
+    def __enter__(self) -> Progressing:
+        if self.bar:
+            self.bar.start()
+        return self
+
+    def __exit__(self, *_: object) -> None:
+        if self.bar:
+            self.bar.stop()
 
     def ended(self, task: Task, result: Result) -> None:
         self.table.add(task, result)
-        self.bar.advance(self.work)
         lines = [it.line for it in self.table.lines() if not (self.quiet and it.right)]
-        if lines:
-            self.bar.stop() if not self.bar.live.is_started else None
-            put("".join(f"{line}\n" for line in lines).encode(errors="surrogateescape"))
+        if self.bar:
+            # The bar is taken away while lines are put.
+            self.bar.stop()
+        put("".join(f"{line}\n" for line in lines).encode(errors="surrogateescape"))
+        if self.bar:
+            self.bar.advance(self.work)
+            self.bar.start()
 
 
 def tell_course(course: Course, engine: str) -> None:
@@ -99,17 +111,11 @@ def tell_course(course: Course, engine: str) -> None:
         tell(f"{figures.again} tasks were tried again with more")
 
 
-@contextmanager
-def folder() -> Iterator[str]:
-    with tempfile.TemporaryDirectory(prefix="smv-") as name:
-        yield name
-
-
 def run(call: Call) -> int:
     begun = time.monotonic()
     jobs = call.number("--jobs")
-    with folder() as room_folder:
-        room = room_of(call, room_folder)
+    with tempfile.TemporaryDirectory(prefix="smv-") as folder:
+        room = room_of(call, folder)
         engine = engine_of(call, room, jobs)
         plans = plans_of(call)
         for plan in plans:
@@ -118,11 +124,9 @@ def run(call: Call) -> int:
         table = Table(plans)
         progress = Progressing(table, call.has("--quiet"))
         course = Course(call.program, engine, jobs or processors(), room, rules_of(call, plans), progress.ended)
-        with progress.bar:
+        with progress:
             course.run([task for _, task in table.order])
     tell_course(course, call.option("--engine") or "local")
     put((table.total(time.monotonic() - begun) + "\n").encode())
     return table.status
 
-
-__all__ = ["run", "Verdict"]

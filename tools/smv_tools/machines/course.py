@@ -3,7 +3,7 @@ was killed, lost or unknown is tried again with more."""
 from __future__ import annotations
 
 import threading
-from collections import Counter
+from collections import Counter, defaultdict
 from collections.abc import Callable, Sequence
 from concurrent.futures import Future, ThreadPoolExecutor
 from dataclasses import dataclass, field
@@ -12,7 +12,7 @@ from typing import Protocol
 from ..program import Program
 from .local import Local
 from .room import Room
-from .tasks import HOME, Done, Result, Task, with_more
+from .tasks import Done, Result, Task, with_more
 from .trust import Judged, judge
 
 FACTOR = 4
@@ -26,13 +26,15 @@ class Engine(Protocol):
 
     def run(self, tasks: Sequence[Task], done: Done) -> None: ...
 
+    def exclude(self, worker: str) -> bool: ...
+
 
 @dataclass
 class Figures:
     """What a course took: tasks and seconds of each worker, seconds of the tests here, what was kept already, who was caught."""
 
     tasks: Counter[str] = field(default_factory=Counter)
-    seconds: Counter[str] = field(default_factory=Counter)
+    seconds: defaultdict[str, float] = field(default_factory=lambda: defaultdict(float))
     test_seconds: float = 0.0
     kept: int = 0
     again: int = 0
@@ -64,7 +66,7 @@ class Course:
 
     def round(self, pairs: Sequence[tuple[Task, Task]], more: bool) -> None:
         """Tries each task once; `pairs` have the task as it was asked, and as it is tried now."""
-        asked = {now.key: [] for _, now in pairs}  # type: dict[str, list[Task]]
+        asked: dict[str, list[Task]] = {now.key: [] for _, now in pairs}
         for first, now in pairs:
             asked[now.key].append(first)
         left: list[Task] = []
@@ -103,8 +105,7 @@ class Course:
 
     def try_elsewhere(self, tasks: Sequence[Task], take: Done) -> None:
         """Runs tasks whose workers were caught without these, or here where none is left."""
-        exclude = getattr(self.engine, "exclude")
-        left = [exclude(worker) for worker in self.figures.caught]
+        left = [self.engine.exclude(worker) for worker in self.figures.caught]
         if all(left):
             self.try_all(tasks, take)
         else:
@@ -137,5 +138,3 @@ class Course:
                     self.figures.again += 1
                     self.again.append((first, following))
 
-
-__all__ = ["Course", "Engine", "Figures", "HOME", "Rules"]

@@ -50,3 +50,7 @@ class Local:
             except BaseException:
                 pool.shutdown(wait=False, cancel_futures=True)
                 raise
+
+    def exclude(self, worker: str) -> bool:
+        """Whether there are other workers: there are none."""
+        return False

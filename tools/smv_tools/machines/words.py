@@ -9,7 +9,7 @@ COMMANDS = (
          Option("--seconds", "N", "end a task after so many seconds", "number"),
          Option("--memory", "MB", "end a task that takes more memory", "number"),
          Option("--retries", "N", "try a task that is killed or unknown so often again, with more; 2 where nothing is said",
-                "number"),
+                choices=tuple("0123456789")),
          Option("--room", "FOLDER", "keep tasks and results there; a call that was stopped goes on where it was", "file"),
          Option("--engine", "ENGINE", "who runs the tasks: local, parallel or slurm", choices=("local", "parallel", "slurm")),
          Option("--sshlogin", "LOGIN", "a machine for GNU parallel, as it takes them", many=True),
