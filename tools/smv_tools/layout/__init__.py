@@ -1,0 +1,1 @@
+"""The command `fmt`: the layout of a text, in which white space alone is changed."""
