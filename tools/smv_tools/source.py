@@ -46,6 +46,10 @@ class Source:
         """The number of the line on which the byte stands."""
         return bisect.bisect_right(self._begins, offset)
 
+    def begin_of(self, number: int) -> int:
+        """The place of the first byte of the line, which has to be there."""
+        return self._begins[number - 1]
+
     def column_at(self, offset: int) -> int:
         """The column of the byte, from 1."""
         return offset - self._begins[self.line_at(offset) - 1] + 1
