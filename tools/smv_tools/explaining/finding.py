@@ -11,8 +11,8 @@ from . import characters, comments, evaluated, named, operators, sections, shape
 from .marks import Edit, Finding, Mark, blank
 from .places import HEADS, Ask, Place, cut_place
 
-# Sections are tried first, then what can be misread, then operators.
-SYNTAX_FORMS = (*sections.FORMS, *operators.FORMS, *shapes.FORMS, sections.by_import)
+# Other tools' forms are tried first: one can look as if a sign were missing.
+SYNTAX_FORMS = (*sections.FORMS, *operators.FORMS, sections.by_import, *shapes.FORMS)
 
 
 def byte_fault(source: Source, _: Refusal, __: Ask) -> Finding:

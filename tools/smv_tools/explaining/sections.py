@@ -20,6 +20,7 @@ ASKED = {
     "PSLSPEC": "Specifications are formulas of CTL, in `SPEC`.",
     "INPUT": "Inputs are parameters of the module: `MODULE cell(x)`.",
     "OUTPUT": "An output is a variable or a definition: others name it as `p.x`.",
+    "self": "There is no `self`: hand over the variables that the module needs.",
     "ISA": "There is no `ISA`: write what the other module has, or an instance of it.",
 }
 WORD_TYPE = re.compile(r"(?:unsigned\s+)?word\s*\[\s*(\d+)\s*\]")
@@ -92,6 +93,8 @@ def frozen(place: Place) -> Finding | None:
 
 def asked(place: Place) -> Finding | None:
     text = ASKED.get(place.text())
+    if place.text() == "[" and place.wanted == "an expression":
+        text = "There are no values of arrays: each element is assigned, as `init(a[0]) := 0;`."
     return None if text is None else place.found(text)
 
 

@@ -89,6 +89,8 @@ def missing_bracket(place: Place) -> Finding | None:
     brackets = open_brackets(place)
     if not brackets or place.tokens[brackets[-1]].text == "case" or place.wanted == "an expression":
         return None
+    if place.is_name() and place.token().line == place.token(-1).line:
+        return None
     if not (begins_statement(place) or place.text() in (";", ")", "]", "}", ":", ":=")):
         return None
     closing = []
