@@ -120,6 +120,8 @@ ticking() {
   return "$status"
 }
 
+# tell TEXT: a line on standard error, in place of the one that ticks.
 tell() {
+  [ -z "${ticker-}" ] || printf '\r\033[K' >&2
   echo "smv: $1" >&2
 }
