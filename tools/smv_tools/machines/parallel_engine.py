@@ -10,15 +10,17 @@ from pathlib import Path
 
 from ..program import Program
 from ..statuses import NOTHING, Stop
+from .archives import result_in
 from .room import PROGRAM, RUN_TASK, Room
-from .tasks import Done, Result, Task
+from .tasks import Done, Task
 
-LOGGED = re.compile(r"\d+\t([^\t]*)\t[^\t]*\t[^\t]*\t\d+\t\d+\t-?\d+\t\d+\t(.*)")
-COMMAND = re.compile(rf"{re.escape(RUN_TASK.name)} \S+ ([0-9a-f]+) ")
+# The place of the task in the list, and the machine.
+LOGGED = re.compile(r"(\d+)\t([^\t]*)\t.*")
 # How long a job may take beyond its own limit until it is given up.
 GRACE_SECONDS = 60
 PAUSE_SECONDS = 0.2
-RETRIES = "3"
+# A line of the list is shorter: a model has a megabyte at most.
+BLOCK = "4M"
 
 
 def host_of(login: str) -> str:
@@ -32,21 +34,20 @@ class Log:
     def __init__(self, path: Path) -> None:
         self.path, self.at = path, 0
 
-    def new(self) -> Iterator[tuple[str, str]]:
-        """The key and the worker of each task that ended since the last call."""
+    def new(self) -> Iterator[tuple[int, str]]:
+        """The place and the worker of each task that ended since the last call."""
         try:
-            with self.path.open(errors="replace") as file:
+            with self.path.open("rb") as file:
                 file.seek(self.at)
-                text = file.read()
+                data = file.read()
         except FileNotFoundError:
             return
-        whole = text.rfind("\n") + 1
-        self.at += len(text[:whole].encode())
-        for line in text[:whole].splitlines():
+        data = data[:data.rfind(b"\n") + 1]
+        self.at += len(data)
+        for line in data.decode(errors="replace").splitlines():
             found = LOGGED.fullmatch(line)
-            command = COMMAND.search(found[2]) if found else None
-            if found and command:
-                yield command[1], found[1]
+            if found:
+                yield int(found[1]), found[2]
 
 
 class Parallel:
@@ -55,58 +56,59 @@ class Parallel:
     trusted = False
 
     def __init__(self, program: Program, room: Room, logins: Sequence[str], jobs: int | None) -> None:
-        if shutil.which("parallel") is None:
-            raise Stop("this needs GNU parallel (parallel of Debian, and rsync for other machines)", NOTHING)
+        for name, package in (("parallel", "parallel"), ("rsync", "rsync")):
+            if shutil.which(name) is None and (name == "parallel" or logins):
+                raise Stop(f"this needs {name}: apt-get install {package}", NOTHING)
         self.program, self.room, self.logins, self.jobs = program, room, list(logins), jobs
-        self.rounds = 0
 
     def exclude(self, worker: str) -> bool:
         """Gives the worker no more tasks; whether one is left that may have them."""
         self.logins = [login for login in self.logins if host_of(login) != worker]
         return bool(self.logins)
 
-    def words(self, log: Path, listed: Path, seconds: int | None, memory: int | None) -> list[str]:
-        words = ["parallel", "--will-cite", "--joblog", str(log), "--colsep", " ", "--retries", RETRIES]
+    def words(self, log: Path, results: Path, tasks: Sequence[Task]) -> list[str]:
+        words = ["parallel", "--will-cite", "--pipe", "-N1", "--block", BLOCK, "--joblog", str(log)]
+        words += ["--results", f"{results}/{{#}}"]
         words += ["--jobs", str(self.jobs)] if self.jobs else []
-        words += ["--timeout", str(seconds + GRACE_SECONDS)] if seconds else []
-        words += ["--memfree", f"{memory}M"] if memory else []
+        seconds = [it.limits.seconds for it in tasks if it.limits.seconds]
+        words += ["--timeout", str(max(seconds) + GRACE_SECONDS)] if seconds else []
+        memory = [it.limits.memory for it in tasks if it.limits.memory]
+        words += ["--memfree", f"{max(memory)}M"] if memory else []
         for login in self.logins:
             words += ["--sshlogin", login]
         if self.logins:
-            words += ["--workdir", f".smv-tasks/{self.room.folder.resolve().name}", "--cleanup"]
+            words += ["--workdir", f".smv-tasks/{self.room.folder.name}", "--cleanup"]
             words += [it for name in (PROGRAM, RUN_TASK.name) for it in ("--basefile", name)]
-            words += ["--transferfile", "{1}.smv"]
-            words += [it for ending in ("put", "proof", "end") for it in ("--return", f"{{1}}.{ending}")]
-        return [*words, f"sh {RUN_TASK.name} ./{PROGRAM} {{1}} {{2}} {{3}} {{4}}", "::::", listed.name]
+        return [*words, f"sh {RUN_TASK.name} ./{PROGRAM}"]
 
     def run(self, tasks: Sequence[Task], done: Done) -> None:
         """Runs the tasks, and hands over each result when the joblog has it."""
-        self.rounds += 1
-        stamp = f"{time.time_ns():x}-{self.rounds}"
+        stamp = f"{time.time_ns():x}"
         listed = self.room.prepare(self.program, tasks, f"tasks-{stamp}")
-        log = self.room.folder / f"joblog-{stamp}"
-        seconds = max((it.limits.seconds for it in tasks if it.limits.seconds), default=None)
-        memory = max((it.limits.memory for it in tasks if it.limits.memory), default=None)
-        left, logged = {task.key: task for task in tasks}, Log(log)
-        words = self.words(log, listed, seconds, memory)
-        with subprocess.Popen(words, cwd=self.room.folder, stdin=subprocess.DEVNULL, stdout=subprocess.DEVNULL,
-                              stderr=subprocess.PIPE) as process:
+        log, results = self.room.folder / f"joblog-{stamp}", self.room.folder / f"results-{stamp}"
+        results.mkdir()
+        left, logged = dict(enumerate(tasks, 1)), Log(log)
+        with listed.open("rb") as lines, subprocess.Popen(
+            self.words(log, results, tasks), cwd=self.room.folder, stdin=lines, stdout=subprocess.DEVNULL,
+            stderr=(results / "told").open("wb"),
+        ) as process:
             try:
                 while process.poll() is None:
-                    self.hand_over(logged, left, done)
+                    self.hand_over(logged, results, left, done)
                     time.sleep(PAUSE_SECONDS)
-                told = process.stderr.read() if process.stderr else b""
             except BaseException:
                 process.terminate()
                 raise
-        self.hand_over(logged, left, done)
-        if len(left) == len(tasks) and process.returncode:
-            raise Stop(f"parallel ran nothing: {told.decode(errors='replace').strip()[:400]}", NOTHING)
-        for task in left.values():
-            done(task, Result(-1, b"", worker="unknown"))
+        self.hand_over(logged, results, left, done)
+        if len(left) == len(tasks):
+            raise Stop(f"parallel ran nothing: {(results / 'told').read_text(errors='replace').strip()[:400]}", NOTHING)
+        for place, task in left.items():
+            done(task, result_in(results / str(place), "unknown"))
+        shutil.rmtree(results)
+        listed.unlink()
 
-    def hand_over(self, log: Log, left: dict[str, Task], done: Done) -> None:
-        for key, worker in log.new():
-            task = left.pop(key, None)
+    def hand_over(self, log: Log, results: Path, left: dict[int, Task], done: Done) -> None:
+        for place, worker in log.new():
+            task = left.pop(place, None)
             if task is not None:
-                done(task, self.room.came(task, worker))
+                done(task, result_in(results / str(place), worker))

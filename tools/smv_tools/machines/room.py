@@ -1,10 +1,11 @@
-"""A folder with tasks and what came of them: KEY.smv, KEY.put, KEY.proof and KEY.end as run_task.sh leaves them, and KEY.kept,
-which says that the result was tested here. What is kept isn't done again."""
+"""A folder with tasks and what came of them. KEY.kept says of a task how it ended, KEY.put and KEY.proof what was put: a result
+that was made or tested here, which isn't made again. Other files there are an engine's."""
 from __future__ import annotations
 
+import base64
+import gzip
 import json
 import os
-import re
 import shutil
 from collections.abc import Iterable
 from pathlib import Path
@@ -15,11 +16,6 @@ from .tasks import Result, Task
 
 RUN_TASK = Path(__file__).with_name("run_task.sh")
 PROGRAM = "smv_run"
-END = re.compile(r"status (over|\d+)\nmilliseconds (\d+)\nworker ([^\n]*)\n")
-# What is read of a file that came from elsewhere: a proof file has 64 MB at most.
-MOST_BYTES = (64 << 20) + 1
-# A task that came back with nothing: as if a signal had ended it.
-LOST = -1
 
 
 def written(path: Path, data: bytes) -> None:
@@ -29,19 +25,18 @@ def written(path: Path, data: bytes) -> None:
     os.replace(part, path)
 
 
-def taken(path: Path) -> bytes:
-    try:
-        with path.open("rb") as file:
-            return file.read(MOST_BYTES)
-    except OSError:
-        return b""
+def line_of(task: Task) -> bytes:
+    """The task as a line for run_task.sh."""
+    limits = task.limits
+    text = base64.b64encode(gzip.compress(task.text, mtime=0)).decode()
+    return f"{task.key} {limits.nodes} {limits.seconds or 0} {(limits.memory or 0) << 10} {text}\n".encode()
 
 
 class Room:
     """The folder. It is made where it isn't there."""
 
     def __init__(self, folder: Path) -> None:
-        self.folder = folder
+        self.folder = folder.resolve()
         try:
             folder.mkdir(parents=True, exist_ok=True)
         except OSError as error:
@@ -49,8 +44,6 @@ class Room:
 
     def file(self, task: Task, ending: str) -> Path:
         return self.folder / f"{task.key}.{ending}"
-
-    # ---- what is kept
 
     def kept(self, task: Task) -> Result | None:
         """The result that was kept of this very task."""
@@ -61,7 +54,7 @@ class Room:
             return None
 
     def keep(self, task: Task, result: Result) -> None:
-        """Keeps a result that was tested; the proof stays where one was sent."""
+        """Keeps a result, with the proof where one was sent."""
         if not result.lasting:
             return
         written(self.file(task, "put"), result.put)
@@ -71,29 +64,12 @@ class Room:
                  "seconds": round(result.seconds, 3), "worker": result.worker}
         written(self.file(task, "kept"), (json.dumps(value) + "\n").encode())
 
-    # ---- tasks for others
-
     def prepare(self, program: Program, tasks: Iterable[Task], name: str) -> Path:
-        """Writes the texts, the program, the script that runs a task, and the list of tasks with their limits."""
-        shutil.copy(program.path, self.folder / PROGRAM)
-        shutil.copy(RUN_TASK, self.folder / RUN_TASK.name)
-        lines = []
-        for task in tasks:
-            written(self.file(task, "smv"), task.text)
-            self.file(task, "end").unlink(missing_ok=True)
-            kilobytes = (task.limits.memory or 0) << 10
-            lines.append(f"{task.key} {task.limits.nodes} {task.limits.seconds or 0} {kilobytes}\n")
+        """Writes the program, the script that runs a task, and the list of tasks."""
+        for source, target in ((Path(program.path), PROGRAM), (RUN_TASK, RUN_TASK.name)):
+            if not (self.folder / target).exists() or (self.folder / target).read_bytes() != source.read_bytes():
+                shutil.copy(source, self.folder / f"{target}.part")
+                os.replace(self.folder / f"{target}.part", self.folder / target)
         listed = self.folder / name
-        written(listed, "".join(lines).encode())
+        written(listed, b"".join(map(line_of, tasks)))
         return listed
-
-    def came(self, task: Task, worker: str = "") -> Result:
-        """What came back of a task. `worker` is who ran it by the engine's log; without that the worker's own word is taken."""
-        end = END.fullmatch(taken(self.file(task, "end")).decode(errors="replace"))
-        if not end:
-            return Result(LOST, b"", worker=worker or "unknown")
-        status = None if end[1] == "over" else int(end[1])
-        if status is not None and status > 128:
-            status = 128 - status
-        put, proof = taken(self.file(task, "put")), taken(self.file(task, "proof"))
-        return Result(status, put, proof, int(end[2]) / 1000, worker or end[3])

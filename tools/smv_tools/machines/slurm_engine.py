@@ -9,6 +9,7 @@ from collections.abc import Sequence
 
 from ..program import Program
 from ..statuses import NOTHING, Stop
+from .archives import result_in
 from .room import PROGRAM, RUN_TASK, Room
 from .tasks import Done, Task
 
@@ -16,11 +17,13 @@ from .tasks import Done, Task
 MOST_TASKS = 1000
 GRACE_SECONDS = 60
 PAUSE_SECONDS = 0.5
+# How often the end of a job is waited for, where its files come late over a network.
+MOST_LATE = 10
 SCRIPT = f"""#!/bin/sh
-set -- $(sed -n "${{SLURM_ARRAY_TASK_ID}}p" "$1")
-exec sh {RUN_TASK.name} ./{PROGRAM} "$@"
+came=$1.$SLURM_ARRAY_TASK_ID
+sed -n "${{SLURM_ARRAY_TASK_ID}}p" "$1" | sh {RUN_TASK.name} ./{PROGRAM} >"$came.part" && mv "$came.part" "$came"
 """
-NODE = re.compile(r"ArrayTaskId=(\d+) .*?\bNodeList=(\S+)")
+NODE = re.compile(r"ArrayTaskId=(\d+) .*?\sNodeList=(\S+)")
 
 
 def asked(words: Sequence[str]) -> str:
@@ -35,7 +38,7 @@ class Slurm:
 
     def __init__(self, program: Program, room: Room, jobs: int | None, partition: str | None) -> None:
         if shutil.which("sbatch") is None:
-            raise Stop("this needs Slurm's sbatch (slurm-client of Debian)", NOTHING)
+            raise Stop("this needs sbatch of Slurm: apt-get install slurm-client", NOTHING)
         self.program, self.room, self.jobs, self.partition = program, room, jobs, partition
         self.excluded: list[str] = []
 
@@ -52,14 +55,14 @@ class Slurm:
     def words(self, tasks: Sequence[Task], name: str) -> list[str]:
         most = f"%{self.jobs}" if self.jobs else ""
         words = ["sbatch", "--parsable", f"--array=1-{len(tasks)}{most}", "--job-name=smv", "--output=/dev/null",
-                 "--ntasks=1", "--cpus-per-task=1", f"--chdir={self.room.folder.resolve()}"]
+                 "--ntasks=1", "--cpus-per-task=1", f"--chdir={self.room.folder}"]
         words += [f"--partition={self.partition}"] if self.partition else []
-        words += [f"--exclude={','.join(self.excluded)}"] if self.excluded else []
-        seconds = max((it.limits.seconds for it in tasks if it.limits.seconds), default=None)
+        words += [f"--exclude={','.join(sorted(set(self.excluded)))}"] if self.excluded else []
+        seconds = [it.limits.seconds for it in tasks if it.limits.seconds]
         # In minutes.
-        words += [f"--time={(seconds + GRACE_SECONDS) // 60 + 1}"] if seconds else []
-        memory = max((it.limits.memory for it in tasks if it.limits.memory), default=None)
-        words += [f"--mem={memory}M"] if memory else []
+        words += [f"--time={(max(seconds) + GRACE_SECONDS) // 60 + 1}"] if seconds else []
+        memory = [it.limits.memory for it in tasks if it.limits.memory]
+        words += [f"--mem={max(memory)}M"] if memory else []
         return [*words, "array.sh", name]
 
     def run(self, tasks: Sequence[Task], done: Done) -> None:
@@ -75,25 +78,26 @@ class Slurm:
         if ended.returncode or not job.isdigit():
             raise Stop(f"sbatch took no job: {ended.stderr.strip()[:400]}", NOTHING)
         try:
-            self.wait(job, tasks, done)
+            self.wait(job, listed.name, tasks, done)
         except BaseException:
             subprocess.run(["scancel", job], capture_output=True)
             raise
+        listed.unlink()
 
-    def wait(self, job: str, tasks: Sequence[Task], done: Done) -> None:
-        left, ran = dict(enumerate(tasks, 1)), dict[int, str]()
-        while left:
-            queued = asked(["squeue", "--noheader", "--jobs", job])
+    def wait(self, job: str, name: str, tasks: Sequence[Task], done: Done) -> None:
+        left, ran, late = dict(enumerate(tasks, 1)), dict[int, str](), 0
+        while left and late < MOST_LATE:
+            late += not asked(["squeue", "--noheader", "--jobs", job]).strip()
             ran.update(self.ran(job))
             for place, task in list(left.items()):
-                if self.room.file(task, "end").exists():
+                came = self.room.folder / f"{name}.{place}"
+                if came.exists() and place in ran or came.exists() and late:
                     del left[place]
-                    done(task, self.room.came(task, ran.get(place, "")))
-            if not queued.strip():
-                break
-            time.sleep(PAUSE_SECONDS)
+                    done(task, result_in(came, ran.get(place, "unknown")))
+                    came.unlink()
+            time.sleep(PAUSE_SECONDS if left else 0)
         for place, task in left.items():
-            done(task, self.room.came(task, ran.get(place, "")))
+            done(task, result_in(self.room.folder / f"{name}.{place}", ran.get(place, "unknown")))
 
     def ran(self, job: str) -> dict[int, str]:
         """Who ran which task, by Slurm's word."""
