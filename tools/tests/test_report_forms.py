@@ -133,7 +133,7 @@ def test_junit(smv: Smv, mixed: str, tmp_path: Path) -> None:
 def test_text_and_words(smv: Smv, mixed: str, tmp_path: Path) -> None:
     ended = smv("report", mixed, "--only", "never", "--only", "4", "--no-proof")
     assert ended.stdout.splitlines()[:2] == [
-        f"{mixed}:5: spec 1 never false, a path of 3 states, loop 1", f"{mixed}:9: spec 4 true, expected false"]
+        f"{mixed}:5: spec 1 never false, a path of 2 states, loop 0", f"{mixed}:9: spec 4 true, expected false"]
     for words, told in ((["--json", "--sarif"], "one form is put at a time"), (["--only", "nothing"], "no specification of"),
                         (["--only", "9"], "has no specification 9")):
         ended = smv("report", mixed, *words)
