@@ -70,8 +70,8 @@ def syntax_form(source: Source, token: Token | None) -> Finding:
         if found is not None:
             return found
     if token is None:
-        wanted = f", where {place.wanted} is wanted" if place.wanted else ""
-        return Finding([], [f"The file ends inside a section{wanted}."])
+        lacks = f", where {place.wanted} is wanted" if place.wanted else ""
+        return Finding([], [f"The file ends inside a section{lacks}."])
     wanted = [f"Here {place.wanted} could stand, and not `{token.text}`."] if place.wanted else []
     return Finding([Mark(token.at, token.behind)], wanted)
 
