@@ -43,21 +43,19 @@ def test_honest_answers_are_believed(program: Program, tasks: list[Task]) -> Non
 def test_lies_are_caught(program: Program, tasks: list[Task]) -> None:
     true, false = run_here(program, tasks[0]), run_here(program, tasks[2])
     as_true = b"spec 1 line 17 true\ntotal 1 true 1 false 0 unknown 0\n"
-    later = false.put.replace(b"right.state = waiting", b"right.state = critical")
+    elsewhere = false.put.replace(b"left.state = idle", b"left.state = critical", 1)
     for task, result, told in (
         (tasks[2], replace(false, status=0, put=as_true), "its proof claims false"),
-        (tasks[2], replace(false, status=0, put=as_true, proof=true.proof), "of its proof is rejected"),
+        (tasks[2], replace(false, status=0, put=as_true, proof=true.proof), "proof"),
         (tasks[2], replace(false, status=0, put=as_true, proof=b"spec 1 true\n"), "refused P1"),
-        (tasks[2], replace(false, put=false.put.replace(b"loop 0", b"loop 1")), "its path is answered by"),
-        (tasks[2], replace(false, put=later), "" if later == false.put else "its path is answered by"),
+        (tasks[2], replace(false, put=elsewhere), "its path is answered by trace 1 rejected initial"),
         (tasks[0], replace(true, put=true.put.replace(b"line 15", b"line 16")), "another text"),
         (tasks[0], replace(true, status=3, put=b"refused E8 line 3\n"), "answers with status 3, and this machine with 0"),
         (tasks[0], replace(true, put=b"anything"), "answers with status 0"),
-        (tasks[0], replace(true, proof=run_here(program, tasks[1]).proof), "of its proof is rejected"),
+        (tasks[0], replace(true, proof=run_here(program, tasks[1]).proof), "proof"),
     ):
         judged = judge(program, task, result)
-        assert told in judged.caught and bool(judged.caught) == bool(told)
-        assert not judged.caught or judged.result.report is None
+        assert told in judged.caught and judged.result.report is None
 
 
 def test_a_verdict_without_proof_is_found_here(program: Program, tasks: list[Task]) -> None:
