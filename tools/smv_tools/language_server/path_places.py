@@ -29,16 +29,15 @@ class Steps:
         for item in model.assignments:
             self.assignments.setdefault(item.target, []).append(item)
 
-    def place(self, name: str, now: State, after: State) -> Place | None:
-        """Where the variable has its value of `after` from; None of what the text doesn't name."""
+    def assigned(self, name: str, now: State, after: State) -> Place | None:
+        """The assignment that gives the variable its value of `after`; None where it is free."""
         process = now.get(SELECTOR, "main")
         for item in self.assignments.get(name, []):
             if item.part == "next" and item.scope.process == process:
                 return self._chosen(item, now, after)
             if not item.part:
                 return self._chosen(item, after, None)
-        variable = self.model.variable.get(name)
-        return self._declared(variable.declaration) if variable else None
+        return None
 
     def process_place(self, name: object) -> Place | None:
         """Where a process is declared."""
@@ -67,12 +66,13 @@ class Steps:
         return (arm[0].first, arm[1].behind) if arm else (item.first, item.behind)
 
     def of_step(self, now: State, after: State, other: Place) -> Place:
-        """The place of the first variable that changes, or of the process that moves."""
-        for name in after:
-            place = self.place(name, now, after) if name != SELECTOR and now[name] != after[name] else None
-            if place:
-                return place
-        return self.process_place(now.get(SELECTOR)) or other
+        """The place of the first assigned variable that changes, else of the first free one, else of the process that moves."""
+        changed = [name for name in changes(now, after) if name != SELECTOR]
+        places: list[Place | None] = [self.assigned(name, now, after) for name in changed]
+        variables = [self.model.variable.get(name) for name in changed]
+        places += [self._declared(variable.declaration) for variable in variables if variable]
+        found = [place for place in places if place]
+        return found[0] if found else self.process_place(now.get(SELECTOR)) or other
 
 
 def changes(now: State, after: State) -> dict[str, object]:

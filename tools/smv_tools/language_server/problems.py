@@ -106,7 +106,8 @@ def of_verdict(source: Source, model: Model | None, part: Verdict) -> Problem | 
     if part.trace.loop is None:
         text = f"{called} is false: it fails from an initial state"
     else:
-        text = f"{called} is false: a path of {len(part.trace.states)} states shows it"
+        count = len(part.trace.states)
+        text = f"{called} is false: a path of {count} state{'s' * (count != 1)} shows it"
     return Problem(first, behind, Severity.ERROR, "false", text, related)
 
 
