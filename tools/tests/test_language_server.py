@@ -125,7 +125,7 @@ def test_the_arm_that_a_step_takes(client: Client) -> None:
 def test_checked_at_each_save(client: Client) -> None:
     client.open(URI, "MODULE main\nVAR x : boolean;\nSPEC AG x\n")
     assert len(client.diagnostics(URI, version=1)) == 1
-    edit = {"range": {"start": {"line": 2, "character": 5}, "end": {"line": 2, "character": 7}}, "text": "EF"}
+    edit = {"range": {"start": {"line": 2, "character": 5}, "end": {"line": 2, "character": 7}}, "text": "AF"}
     client.notify("textDocument/didChange", {"textDocument": {"uri": URI, "version": 2}, "contentChanges": [edit]})
     client.notify("textDocument/didSave", {"textDocument": {"uri": URI}})
     assert client.diagnostics(URI, version=2)[0]["message"].startswith("specification 1 is false")
