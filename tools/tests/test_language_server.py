@@ -171,6 +171,91 @@ def test_node_limit_and_time(program: Program) -> None:
         assert found[0]["message"] == "specification 1 is unknown: the node limit 1 is met"
 
 
+# ---- names
+
+NAMES = """-- \U0001d51e
+MODULE main
+VAR
+  turn : 0..1;
+  left : process user(right, turn);
+  right : process user(left, turn);
+DEFINE -- \u00e9
+  both := left.state = busy & right.state = busy;
+SPEC AG !both
+MODULE user(other, turn)
+VAR
+  state : {idle, busy};
+ASSIGN
+  next(state) := case other.state = idle : busy; 1 : idle; esac;
+"""
+
+
+def test_what_names_are(client: Client) -> None:
+    client.open(URI, NAMES)
+    client.diagnostics(URI)
+
+    def told(words: str, behind: int = 0, nth: int = 0) -> str:
+        found = client.request("textDocument/hover", at(NAMES, words, behind, nth))
+        return "" if found is None else str(found["contents"]["value"])
+
+    assert told("left.state", 6) == "```smv\nstate : {idle, busy}\n```\n\nVariable of module `user`: `left.state`, `right.state`."
+    assert told("both := ").startswith("```smv\nboth := left.state = busy & right.state = busy\n```")
+    assert told("left : ") == ("```smv\nleft : process user(right, turn)\n```\n\nProcess of module `main`.\n\n"
+                               "- `other` is `right`\n- `turn` is `turn`")
+    assert told("other.state").startswith("Parameter `other` of module `user`.\n\n- in `left` of module `main` it is `right`")
+    assert told("busy;").startswith("A value of `state` of module `user`.") and told("process user", 9).startswith("```smv\nMODULE user")
+    assert told("AG") == "`AG p`: on each fair path p is true in every state."
+    assert told("SPEC").startswith("Specification 1: **false**\n\n```\n0: running = ") and told("\nVAR", 0) == ""
+
+
+def test_where_names_stand(client: Client) -> None:
+    client.open(URI, NAMES)
+
+    def places(words: str, behind: int = 0, nth: int = 0) -> list[dict[str, int]]:
+        return [it["range"]["start"] for it in client.request("textDocument/definition", at(NAMES, words, behind, nth))]
+
+    assert places("other.state", 8) == [place(NAMES, "state : {")] == places("left.state", 5)
+    assert places("both\nMODULE") == [place(NAMES, "both :=")] and places("process user", 8) == [place(NAMES, "user(other")]
+    assert places("busy & right") == [place(NAMES, "busy};")] and places("turn);") == [place(NAMES, "turn : 0")]
+    assert places("AG") == [] and places("other.state") == [place(NAMES, "other, turn")]
+
+
+def test_completion_while_it_is_written(client: Client) -> None:
+    text = NAMES.replace("SPEC AG !both\n", "SPEC AG left.\n").replace("case other.state = idle", "case other.s")
+    client.open(URI, text)
+
+    def choices(words: str, behind: int) -> set[str]:
+        return {it["label"] for it in client.request("textDocument/completion", at(text, words, behind))["items"]}
+
+    assert choices("AG left.", 8) == {"other", "turn", "state"} == choices("case other.s", 12)
+    assert {"left", "both", "busy", "AG", "TRUE"} <= choices("AG left", 3)
+    assert "user" in choices(": process user", 10) and "main" not in choices(": process user", 10)
+    assert {"init", "next", "state"} <= choices("next(state)", 0)
+
+
+def test_outline_and_layout(client: Client) -> None:
+    client.open(URI, NAMES)
+    main, user = client.request("textDocument/documentSymbol", {"textDocument": {"uri": URI}})
+    assert [it["name"] for it in main["children"]] == ["turn", "left", "right", "both", "SPEC AG !both"]
+    assert (user["name"], [it["name"] for it in user["children"]]) == ("user", ["state"])
+    edit, = client.request("textDocument/formatting", {"textDocument": {"uri": URI}, "options": {}})
+    assert edit["newText"] == "DEFINE  -- \u00e9" and edit["range"]["start"] == place(NAMES, "DEFINE")
+
+
+def test_a_quick_fix(client: Client) -> None:
+    text = "-- \U0001d51e\nMODULE main\nVAR x : boolean;\nSPEC AG (x != 0)\n"
+    client.open(URI, text)
+    found, = client.diagnostics(URI)
+    asked = {"textDocument": {"uri": URI}, "range": found["range"], "context": {"diagnostics": [found]}}
+    actions = client.request("textDocument/codeAction", asked)
+    assert actions and all(it["kind"] == "quickfix" and it["diagnostics"] == [found] for it in actions)
+    edits = actions[-1]["edit"]["changes"][URI]
+    client.notify("textDocument/didChange", {"textDocument": {"uri": URI, "version": 2}, "contentChanges": [
+        {"range": it["range"], "text": it["newText"]} for it in edits]})
+    client.notify("textDocument/didSave", {"textDocument": {"uri": URI}})
+    assert [it["code"] for it in client.diagnostics(URI, version=2)] == ["false"]
+
+
 # ---- where it stays responsive
 
 @pytest.fixture
