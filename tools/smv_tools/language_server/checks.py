@@ -11,6 +11,7 @@ from ..report import Report, Unread
 from ..statuses import DECIDED, Stop
 from .checking import Check, Stopped
 from .documents import Document
+from .probe_warnings import probe_warnings
 from .problems import Problem, problems_of
 
 # So many checks at once; others wait.
@@ -47,6 +48,7 @@ class Checks:
         except Stop as stop:
             self.failed(str(stop))
             return
+        # What was decided is told at once, and what probes find behind it.
         with self.lock:
             earlier = self.running.get(document.uri)
             self.running[document.uri] = check
@@ -73,11 +75,18 @@ class Checks:
         except Stop as stop:
             self.failed(str(stop))
             return
+        # What was decided is told at once, and what probes find behind it.
+        with self.lock:
+            if self.running.get(document.uri) is not check:
+                return
+            self.done(result)
+        warnings = probe_warnings(check.program, document.source, self.options) if result.report else []
         with self.lock:
             if self.running.get(document.uri) is not check:
                 return
             del self.running[document.uri]
-            self.done(result)
+            if warnings:
+                self.done(Result(document, [*result.problems, *warnings], result.report))
 
     def _result(self, document: Document, check: Check) -> Result:
         ended = check.run()
