@@ -131,7 +131,7 @@ main() {
   case ${1-} in
     help) show_help "${@:2:1}" ;;
     --help | -h) show_help ;;
-    check | recheck | replay | delay | strong | gen | explain | trace) ! asks_help "${@:2}" || show_help "$1" ;;
+    check | recheck | replay | delay | strong | gen | explain) ! asks_help "${@:2}" || show_help "$1" ;;
   esac
   [ "${1-} ${2-}" != "--verbose --proved" ] || set -- --proved --verbose "${@:3}"
   if [ "${1-}" = --proved ]; then
@@ -144,7 +144,6 @@ main() {
   case ${1-} in
     --version) version && exit 0 ;;
     check | recheck | replay | delay | strong | gen | --verbose | "") ;;
-    trace) run_script "$@" ;;
     *) [ -z "$name" ] || run_tool "$@" ;;
   esac
   tell_build

@@ -77,11 +77,11 @@ class Asking:
         """What `replay` says first against the path as one that falsifies these specifications of a copy; nothing where it
         accepts it for each."""
         text = Copy(self.model, list(specs)).text()
-        for number in range(1, len(specs) + 1):
-            self.runs += 1
-            data = TraceFile(number, trace).put()
-            ended = self.program.on_text(text, "replay", ["path"], self.options, {"path": data})
-            answer = ended.put.decode(errors="replace").strip()
-            if answer != f"trace {number} accepted":
-                return answer
-        return ""
+        answers = (self.judged(text, TraceFile(number, trace)) for number in range(1, len(specs) + 1))
+        return next((it for it in answers if not it.endswith(" accepted")), "")
+
+    def judged(self, text: bytes, path: TraceFile) -> str:
+        """The line that `replay` puts for a path over a text."""
+        self.runs += 1
+        ended = self.program.on_text(text, "replay", ["path"], self.options, {"path": path.put()})
+        return ended.put.decode(errors="replace").strip()

@@ -1,0 +1,23 @@
+"""The commands that show failures, for the table of commands."""
+from ..words import MODEL, NODES, Command, Operand, Option
+
+REPORT = Option("--report", "REPORT", "take this saved report of check, path of strong or trace file; nothing is checked", "file")
+COMMANDS = (
+    Command(
+        "trace", "show a path on which a specification fails, or a true one is seen to hold",
+        (MODEL, Operand("J", "number", optional=True)),
+        (NODES, REPORT,
+         Option("--whole", "", "show what follows behind the state that decides"),
+         Option("--changed", "", "show the rows alone that change"),
+         Option("--only", "NAMES", "show these rows alone: names with commas, an instance for all in it"),
+         Option("--csv", "OUT", "write the states as comma-separated values", "file"),
+         Option("--vcd", "OUT", "write a waveform for GTKWave and the like", "file"),
+         Option("--svg", "OUT", "write a timing diagram", "file"),
+         Option("--path", "OUT", "write a trace file for replay", "file")),
+        "J is the number of the specification; without it the first false one is shown. Where the report has no path, one is "
+        "sought over copies of the model: for any formula that a path has something to show of. One line says what the path "
+        "shows; `!` marks the states and the rows that decide, and `*` a value that the step changed. `replay` judges each path "
+        "before it is shown.",
+        "smv trace examples/peterson.smv 3", "failures.tracing",
+    ),
+)
