@@ -119,13 +119,6 @@ run_tool() {
     tell "without python3 there are the program's commands alone: apt-get install python3 python3-click python3-rich"
 }
 
-# run_script WORD..: runs the script of this name in place of this one.
-run_script() {
-  [ -n "$name" ] || stop "$1 needs a build of the program, and none could be made"
-  tell_build
-  exec "$tools/$1" "$built" "${@:2}"
-}
-
 main() {
   local status
   case ${1-} in

@@ -114,15 +114,6 @@ PROGRAM_COMMANDS = (
 
 TOOL_COMMANDS = (
     Command(
-        "trace", "show the path of a false specification as a table, a waveform or a picture",
-        (MODEL, Operand("J", "number", optional=True)),
-        (NODES, Option("--csv", "OUT", "write the states as comma-separated values", "file"),
-         Option("--vcd", "OUT", "write a waveform for GTKWave and the like", "file"),
-         Option("--svg", "OUT", "write a timing diagram", "file")),
-        "J is the number of the specification; without it the first false one is shown.",
-        "smv trace examples/peterson.smv 3", needs=(),
-    ),
-    Command(
         "help", "all commands, or one of them", (Operand("WORD", "command", optional=True),), (),
         "`--help` behind a command puts the same.", "smv help check", "help", needs_build=False, needs=(),
     ),

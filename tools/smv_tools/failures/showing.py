@@ -67,8 +67,8 @@ class Shown:
         if not self.has_path:
             return self.why
         parts = "; ".join(map(str, merged(self.facts)))
-        what = "why it is false" if self.verdict == "false" else "a way on which it is so"
-        return f"The path shows {what}, {shown(self.formula)}{f'. {sentence(parts)}' if parts else ''}."
+        what = "why it is false" if self.verdict == "false" else "how it can be so"
+        return f"The path shows {what}: {shown(self.formula)}{f'. {sentence(parts)}' if parts else ''}."
 
     @property
     def judged(self) -> str:

@@ -4,7 +4,6 @@ Types are the model's: a Boolean is a wire, a range a vector (an integer where i
 string. Each instance is a scope."""
 from __future__ import annotations
 
-import re
 from collections.abc import Iterator, Sequence
 from dataclasses import dataclass, field
 from typing import TextIO
@@ -97,8 +96,7 @@ def levels_of(model: Model, trace: Trace, marks: Sequence[int]) -> Level:
         scopes, own = split(variable.name)
         kind, width = kind_of(variable)
         values = [state[variable.name] for state in trace.states]
-        top.at(scopes).signals.append(Signal(re.sub(r"[\[\]]+", "_", own).rstrip("_") if "[" in own else own, kind, width,
-                                             sign_of(k + len(extra)), values))
+        top.at(scopes).signals.append(Signal(own, kind, width, sign_of(k + len(extra)), values))
     return top
 
 

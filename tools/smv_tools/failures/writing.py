@@ -57,7 +57,7 @@ def _renamed(model: Model, expr: Expr, scope: Scope) -> Expr:
             )
         elif field.name in ("inner", "left", "right"):
             changes[field.name] = _renamed(model, value, scope)
-    return replace(expr, **changes)  # type: ignore[arg-type]
+    return replace(expr, **changes)
 
 
 def pinned(model: Model, state: State) -> str:
