@@ -119,6 +119,21 @@ run_tool() {
     tell "without python3 there are the program's commands alone: apt-get install python3 python3-click python3-rich"
 }
 
+# replays_report WORD..: judges the paths of a saved report, where the words ask for that; comes back where they don't.
+replays_report() {
+  local word before= operands=()
+  for word in "${@:2}"; do
+    [ "$before" = --nodes ] || [[ $word == -?* ]] || operands+=("$word")
+    before=$word
+  done
+  case ${#operands[@]} in
+    2) [ -f "${operands[1]}" ] && head -c 6 -- "${operands[1]}" | grep -qE '^(spec 1|model |total )' || return 0 ;;
+    3) ;;
+    *) return 0 ;;
+  esac
+  [ -z "$name" ] || run_tool "$@"
+}
+
 main() {
   local status
   case ${1-} in
@@ -136,7 +151,8 @@ main() {
   find_program
   case ${1-} in
     --version) version && exit 0 ;;
-    check | recheck | replay | delay | strong | gen | --verbose | "") ;;
+    replay) replays_report "$@" ;;
+    check | recheck | delay | strong | gen | --verbose | "") ;;
     *) [ -z "$name" ] || run_tool "$@" ;;
   esac
   tell_build

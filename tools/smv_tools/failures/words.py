@@ -20,4 +20,21 @@ COMMANDS = (
         "before it is shown.",
         "smv trace examples/peterson.smv 3", "failures.tracing",
     ),
+    Command(
+        "replay", "judge a path that is to show a specification false, or the paths of a saved report",
+        (MODEL, Operand("TRACE", "file"), Operand("J", "number", optional=True)), (NODES,),
+        "TRACE is a path as reports have it, behind a line `trace J` with the number of the specification; or a saved report, of "
+        "which the path of specification J is judged, or each one where J isn't given.",
+        "smv replay examples/peterson.smv path", "failures.replaying",
+    ),
+    Command(
+        "simulate", "walk through a model: initial states, next states, at a terminal or at random", (MODEL,),
+        (NODES, Option("--random", "", "walk at random and put the states"),
+         Option("--steps", "N", "so many steps at random; 10 where none is given", "number"),
+         Option("--seed", "N", "begin the random choices with this number", "number"),
+         Option("--path", "OUT", "write the walk as a trace file of specification 1, with a fair loop behind it", "file")),
+        "Shows the initial states, then the next ones of the state that is shown, to be chosen by number, at random, or by the "
+        "process to move. A dead end is told. States are listed one by one, by the tools' own evaluation.",
+        "smv simulate examples/peterson.smv --random --steps 5 --seed 1", "failures.simulating",
+    ),
 )
