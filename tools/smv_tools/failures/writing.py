@@ -122,7 +122,12 @@ def shown(formula: Formula) -> str:
 
 def _side(formula: Formula) -> str:
     text = _shown(formula)
-    return f"({text})" if isinstance(formula, Leaf) and formula.holds and needs_group(formula.expr) else text
+    if not isinstance(formula, Leaf):
+        return text
+    inner = bare(formula.expr)
+    if not formula.holds and isinstance(inner, Unary):
+        return f"({text})" if needs_group(inner.inner) else text
+    return f"({text})" if formula.holds and needs_group(inner) else text
 
 
 def _shown(formula: Formula) -> str:
