@@ -192,7 +192,7 @@ def test_marks_and_what_is_left_out(smv: Smv, tmp_path: Path) -> None:
     model.write_bytes(model_of(["AG !(n = 3)"]).source.data)
     put = smv("trace", str(model)).stdout
     whole = smv("trace", str(model), "--whole").stdout
-    assert "State 3: n = 3." in put and "! n = 3" in put and "--whole shows" in put and "! fails" in put
+    assert "State 3: n = 3." in put and "! !(n = 3)" in put and "--whole shows" in put and "! fails" in put
     assert "--whole" not in whole and len(whole) > len(put)
     only = smv("trace", str(model), "--only", "n,cell").stdout
     rows = {line.split()[0] for line in only.splitlines() if line.startswith("  ")}
@@ -209,9 +209,9 @@ def test_a_saved_report_is_taken(smv: Smv, tmp_path: Path) -> None:
     assert smv("trace", model, "3", "--report", str(saved)).stdout == smv("trace", model, "3").stdout
     saved.write_text(smv("check", model, "examples/semaphore.smv").stdout)
     assert smv("trace", "--report", str(saved), "examples/semaphore.smv").returncode == 1
-    saved.write_text(smv("check", model).stdout.replace("loop 0", "loop 1"))
+    saved.write_text(smv("check", model).stdout.replace("loop 0", "loop 2"))
     refused = smv("trace", model, "3", "--report", str(saved))
-    assert refused.returncode == 70 and "rejected step 2" in refused.stderr
+    assert refused.returncode == 70 and "rejected fair 1" in refused.stderr
     strong = smv("strong", "examples/kept_out.smv", "4:5").stdout
     saved.write_text(strong)
     assert smv("trace", "examples/kept_out.smv", "--report", str(saved)).returncode == (0 if "yes" in strong else 70)
